@@ -1,12 +1,12 @@
 -- Each line leaves client ports with a connection port, and with a connect of the thread that made them.
-use Rattle.std.proofs.Common.{◌≡◌, ℕ, List, [], ◌∷◌, Bool, true, false, cond, Option, Some, None, refl}
+use Rattle.std.proofs.Common.{◌≡◌, ℕ, List, Bool, true, false, cond, refl}
 use Rattle.std.proofs.lemmas.Bool.{and_from}
 use Rattle.lpc_base.specs.Rows.{every}
 use Rattle.lpc_base.proofs.RowWords.{every-append, every-change, every-more, every-push, every-without}
 use Rattle.lpc_base.proofs.RowMaps.{every-map}
 use Rattle.lpc_base.proofs.Bools.{same-number}
 use Rattle.lpc_model.specs.declared.entry.ObjectKind.TheVariants as kind
-use Rattle.lpc_model.specs.World.{Birth, ObjectKind, PortRow, ThreadRow, World, no_rows}
+use Rattle.lpc_model.specs.World.{Birth, ObjectKind, PortRow, ThreadRow, World}
 use Rattle.lpc_model.specs.Found.{is_port}
 use Rattle.lpc_model.specs.Basics.{Awaits, Basic, Completes, Cuts, Frees, Joins, Makes, basic, completed, cut, freed, is_end_of, joined, paired, world_after}
 use Rattle.lpc_model.specs.Entering.{enter, received_steps, row_of}
@@ -15,7 +15,7 @@ use Rattle.lpc_model.specs.Close.{close_handle}
 use Rattle.lpc_model.specs.Creators.{KeepsConnects, keeps_connect}
 use Rattle.lpc_model.specs.Death.{die}
 use Rattle.lpc_model.specs.Lines.{ScriptLine}
-use Rattle.lpc_model.specs.Machine.{Stepped, bare_steps, step}
+use Rattle.lpc_model.specs.Machine.{bare_steps, step}
 use Rattle.lpc_model.specs.Sweep.{sweep}
 use Rattle.lpc_model.proofs.Calls.Acts.{Law, outcomes}
 use Rattle.lpc_model.proofs.Steps.Sweep.{stepped, sweep_every}

@@ -9,17 +9,16 @@ use Rattle.lpc_base.specs.declared.status.TheConstants.{INVALID_CID}
 use Rattle.lpc_base.proofs.RowWords.{every-append, every-more, first-passes}
 use Rattle.lpc_base.proofs.Births.{birth-same}
 use Rattle.lpc_model.specs.declared.entry.CallName.{CallName}
-use Rattle.lpc_model.specs.declared.entry.CallName.TheVariants.{NtTerminateProcess, NtTerminateThread}
+use Rattle.lpc_model.specs.declared.entry.CallName.TheVariants.{NtTerminateThread}
 use Rattle.lpc_model.specs.World.{Birth, Creator, HandleRow, HandleTable, MessageRow, PortRow, ThreadRow, WaitRow, World}
-use Rattle.lpc_model.specs.Found.{handle_at, handles_of, has_value, is_accepted, is_live, is_open, is_port, is_table, live_threads, port_row, route, rows_in, wait_of, way}
+use Rattle.lpc_model.specs.Found.{handle_at, handles_of, has_value, is_accepted, is_live, is_open, is_port, is_table, port_row, route, rows_in, wait_of, way}
 use Rattle.lpc_model.specs.Basics.{Accepts, AddsHandle, AddsProcess, AddsThread, Awaits, Basic, Binds, Completes, Cuts, Dies, DrawsIdentifier, DrawsOrdinal, DropsHandle, Empties, Frees, Joins, Makes, Receives, Registers, Steps, Takes, TakesConnect, Unbinds, Unregisters, Wakes, Withdraws, basic, doing, in_turn, provided, without_handle, world_after, ◌▹◌}
 use Rattle.lpc_model.specs.Entering.{enter, received_steps, row_of}
 use Rattle.lpc_model.specs.Refusal.{refuse_if}
 use Rattle.lpc_model.specs.Lines.{ProcArg}
-use Rattle.lpc_model.specs.Tests.{live_test}
 use Rattle.lpc_model.specs.Close.{close_handle, close_port, closed_row, cut_pair, is_last, post_closed, server_of, closing_post}
-use Rattle.lpc_model.specs.Targets.{process_target, thread_target}
-use Rattle.lpc_model.specs.Death.{answer_unless, code_status, cut_accepted, die, died_message, end_process, end_threads, nt_terminate_process, nt_terminate_thread, post_death, post_deaths, death_post}
+use Rattle.lpc_model.specs.Targets.{thread_target}
+use Rattle.lpc_model.specs.Death.{answer_unless, code_status, cut_accepted, die, died_message, end_process, end_threads, nt_terminate_thread, post_death, post_deaths, death_post}
 use Rattle.lpc_model.specs.SoundWaits.{IsSoundWorld}
 use Rattle.lpc_model.proofs.Calls.Holding.{Holds, bind_holds, not_refused}
 use Rattle.lpc_model.proofs.Steps.Closing.{behind, close-pass, pair-pass, stage_five, takes_away, then-holds}
