@@ -18,6 +18,8 @@ from ntlpc_tool import program, transcript
 # A number of a thread that no script is likely to make.
 NOBODY = 2_147_483_647
 SECONDS = 10
+# How long an ended program's output may still be held open, by what that program started.
+GRACE = 1
 
 
 class Broken(Exception):
@@ -47,7 +49,8 @@ class Conversation:
         self._child = subprocess.Popen(
             [program.find(given), "replay"], stdin=subprocess.PIPE, stdout=subprocess.PIPE, bufsize=0
         )
-        threading.Thread(target=self._listen, daemon=True).start()
+        self._listener = threading.Thread(target=self._listen, daemon=True)
+        self._listener.start()
 
     def __enter__(self):
         return self
@@ -82,8 +85,11 @@ class Conversation:
         """Ends the program at once, where it still runs."""
         self._child.kill()
         self._child.wait()
-        for end in self._child.stdin, self._child.stdout:
-            end.close()
+        self._child.stdin.close()
+        # Whoever opens something next may get the number of this output, so nobody may listen on it any more then.
+        self._listener.join(GRACE)
+        if not self._listener.is_alive():
+            self._child.stdout.close()
 
     def _listen(self):
         """Hands on what the program prints, line by line, and None behind it."""

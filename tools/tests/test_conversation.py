@@ -43,6 +43,11 @@ class Talks(support.WithFolder):
             with self.assertRaisesRegex(Broken, "silent for 0.5 seconds"):
                 oracle.step("boot 20 24")
 
+    def test_nobody_listens_behind_its_end(self):
+        with Conversation(self.standin(POLITE)) as oracle:
+            oracle.step("# a comment")
+        self.assertFalse(oracle._listener.is_alive())
+
     def test_a_line_is_one_line(self):
         with Conversation(self.standin(POLITE)) as oracle:
             with self.assertRaises(ValueError):
