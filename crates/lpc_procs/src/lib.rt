@@ -3,7 +3,6 @@
 
 mod births;
 mod lists;
-mod numbered;
 mod procs;
 mod registrations;
 mod rows;
