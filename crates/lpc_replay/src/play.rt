@@ -180,6 +180,59 @@ fn finish<K: Sink>(
     })
 }
 
+/// Reads a script of which nothing is read yet, runs each line as it comes, and sends its transcript, as [`play`] says it.
+fn play_through<S: Source, K: Sink>(
+    playback: &mut Playback,
+    scratch: &mut Scratch,
+    reader: &mut Reader,
+    source: &mut S,
+    sink: &mut K,
+) -> Result<Ending, PlayError>
+    requires begin { playback.old.at ≡ begin }
+    requires unread { reader.old.piece ≡ [] }
+    ensures transcript { IfOk result (λ ending. ending ≡ Replayed →
+        Replays (S.left source.old) (S.left source.new) (K.sent sink.old) (K.sent sink.new)) }
+    ensures whole { IfOk result (λ ending. ending ≡ Replayed →
+        IsFormed true (S.left source.old)) }
+    ensures sound { IfOk result (λ ending. ending ≡ Replayed →
+        StopsAtFault (S.left source.old) (S.left source.new) 0) }
+    ensures stopped { IfOk result (λ ending. ending ≡ Stopped →
+        Stops (S.left source.old) (S.left source.new) (K.sent sink.old) (K.sent sink.new)) }
+    ensures faulty { IfOk result (λ ending. ending ≡ Stopped →
+        IsFormed false (S.left source.old)) }
+    ensures failed_text { IfOk result (λ ending. ending ≡ SourceFailed →
+        BreaksOff (S.left source.old) (S.left source.new) (K.sent sink.old) (K.sent sink.new)) }
+    ensures failed_sound { IfOk result (λ ending. ending ≡ SourceFailed →
+        StopsAtFault (S.left source.old) (S.left source.new) 3) }
+    ensures begun { Begins (S.left source.old) (S.left source.new)
+        (K.sent sink.old) (K.sent sink.new) }
+    ensures in_time { ReadsInTime (S.left source.old) (S.left source.new)
+        (K.sent sink.old) (K.sent sink.new) }
+    ensures cut { IsErrOf result PlayError.OutOfMemory →
+        CutsShort (S.left source.old) (S.left source.new) (K.sent sink.old) (K.sent sink.new) }
+    ensures failed { IsErrOf result PlayError.SinkFailed →
+        Rose (K.faults sink.old) (K.faults sink.new) }
+    ensures still { OnOk result (K.faults sink.new ≡ K.faults sink.old) }
+    ensures out_of_memory { IsErrOf result PlayError.OutOfMemory →
+        K.faults sink.new ≡ K.faults sink.old }
+    ensures later { K.faults sink.old ≤ K.faults sink.new }
+    ensures asked { IsAskedForPieces (S.asked source.old) (S.asked source.new) }
+    ensures source_failed { IfOk result (λ ending. ending ≡ SourceFailed →
+        Rose (S.faults source.old) (S.faults source.new)) }
+    ensures source_still { IfOk result (λ ending. ends_unfailing ending ≡ true →
+        S.faults source.new ≡ S.faults source.old) }
+    ensures source_later { S.faults source.old ≤ S.faults source.new }
+{
+    match play_lines(playback, scratch, reader, source, sink)? {
+        Stop::SourceFailed => Ok(Ending::SourceFailed),
+        Stop::Fault(fault) => finish(playback, Some(fault), sink),
+        Stop::End => {
+            let fault = play_rest(playback, scratch, reader.line.line(), sink)?;
+            finish(playback, fault, sink)
+        }
+    }
+}
+
 /// Reads a script from the source, runs each line as it comes, and sends its transcript. Where the source fails, what is
 /// sent is what the lines tell that are ended by byte 10.
 ///
@@ -224,14 +277,8 @@ pub fn play<S: Source, K: Sink>(
     ensures source_later { S.faults source.old ≤ S.faults source.new }
 {
     let mut scratch = Scratch::new(alloc)?;
-    let mut playback = Playback::new(alloc)?;
     let mut reader = Reader::new(alloc)?;
-    match play_lines(&mut playback, &mut scratch, &mut reader, source, sink)? {
-        Stop::SourceFailed => Ok(Ending::SourceFailed),
-        Stop::Fault(fault) => finish(&mut playback, Some(fault), sink),
-        Stop::End => {
-            let fault = play_rest(&mut playback, &mut scratch, reader.line.line(), sink)?;
-            finish(&mut playback, fault, sink)
-        }
-    }
+    // The playback comes last, since its tables go last then: no other way out has to let them go.
+    let mut playback = Playback::new(alloc)?;
+    play_through(&mut playback, &mut scratch, &mut reader, source, sink)
 }

@@ -1,8 +1,6 @@
-use Rattle.std.proofs.Common.{[], ap, refl, sym}
-use Rattle.std.specs.Prelude.{Err, Some}
+use Rattle.std.proofs.Common.{[]}
 use Rattle.lpc_replay.specs.Playing.{begin}
-use Rattle.lpc_replay.proofs.Played.{begins_here, begins_more, cuts_here, grows_front, grows_none, played_none, reads_in_time}
-use Rattle.lpc_replay.proofs.Stopping.{begins_last, breaks_off, broken_sound, ends_faulty, ends_formed, ends_sound_read, ends_stopped, ends_transcript, last_cut, last_fault, last_in_time, last_of_rest, text_front}
+use Rattle.lpc_replay.proofs.Played.{begins_here, cuts_here, grows_none, played_none, reads_in_time}
 use Rattle.lpc_replay.proofs.play.play.Goals as goal
 
 pub returns-in_err-scratch-clause-begun : goal.returns-in_err-scratch-clause-begun
@@ -53,192 +51,56 @@ returns-in_err-reader-clause-cut g c =
     let sent = g.K.Sink.sent in
     λ _. cuts_here (left c.args.source.now) (left c.args.source.now) (sent c.args.sink.now) (sent c.args.sink.now) begin [] (played_none (left c.args.source.now) (sent c.args.sink.now))
 
-pub returns-in-SourceFailed-clause-failed_text : goal.returns-in-SourceFailed-clause-failed_text
-returns-in-SourceFailed-clause-failed_text g c =
-    let left = g.S.Source.left in
-    let sent = g.K.Sink.sent in
-    let rest = c.play_lines.new.reader.line.line in
-    let at = c.play_lines.new.playback.at in
-    let r = rw c.in-SourceFailed.is at c.in_ok-play_lines.ensures.stops in
-    λ _. breaks_off (left c.args.source.now) (left c.play_lines.new.source) (sent c.args.sink.now) (sent c.play_lines.new.sink) at rest r c.in_ok-play_lines.ensures.lacks
-
-pub returns-in-SourceFailed-clause-failed_sound : goal.returns-in-SourceFailed-clause-failed_sound
-returns-in-SourceFailed-clause-failed_sound g c =
-    let left = g.S.Source.left in
-    let sent = g.K.Sink.sent in
-    let rest = c.play_lines.new.reader.line.line in
-    let at = c.play_lines.new.playback.at in
-    let r = rw c.in-SourceFailed.is at c.in_ok-play_lines.ensures.stops in
-    λ _. broken_sound (left c.args.source.now) (left c.play_lines.new.source) (sent c.args.sink.now) (sent c.play_lines.new.sink) at rest 3 r c.in_ok-play_lines.ensures.lacks
-
-pub returns-in-SourceFailed-clause-begun : goal.returns-in-SourceFailed-clause-begun
-returns-in-SourceFailed-clause-begun g c =
-    let left = g.S.Source.left in
-    let sent = g.K.Sink.sent in
-    let rest = c.play_lines.new.reader.line.line in
-    let at = c.play_lines.new.playback.at in
-    let r = rw c.in-SourceFailed.is at c.in_ok-play_lines.ensures.stops in
-    begins_here (left c.args.source.now) (left c.play_lines.new.source) (sent c.args.sink.now) (sent c.play_lines.new.sink) at rest r.played
-
-pub returns-in-SourceFailed-clause-in_time : goal.returns-in-SourceFailed-clause-in_time
-returns-in-SourceFailed-clause-in_time g c =
-    let left = g.S.Source.left in
-    let sent = g.K.Sink.sent in
-    let rest = c.play_lines.new.reader.line.line in
-    let at = c.play_lines.new.playback.at in
-    let r = rw c.in-SourceFailed.is at c.in_ok-play_lines.ensures.stops in
-    reads_in_time (left c.args.source.now) (left c.play_lines.new.source) (sent c.args.sink.now) (sent c.play_lines.new.sink) (sent c.play_lines.new.sink) at rest r.played (grows_none (sent c.play_lines.new.sink))
-
-pub returns-in-Fault-clause-stopped : goal.returns-in-Fault-clause-stopped
-returns-in-Fault-clause-stopped g c =
-    let left = g.S.Source.left in
-    let sent = g.K.Sink.sent in
-    let stops = rw c.in-Fault.is at c.in_ok-play_lines.ensures.stops in
-    ends_stopped (left c.args.source.now) (left c.play_lines.new.source) (sent c.args.sink.now) (sent c.play_lines.new.sink) (sent c.finish.new.sink) c.play_lines.new.playback.at (Some c.in-Fault.fault) c.finish.result (last_fault (left c.args.source.now) (left c.play_lines.new.source) (sent c.args.sink.now) (sent c.play_lines.new.sink) c.play_lines.new.playback.at c.in-Fault.fault stops) c.finish.ensures.sent c.finish.ensures.ending
-
-pub returns-in-Fault-clause-faulty : goal.returns-in-Fault-clause-faulty
-returns-in-Fault-clause-faulty g c =
-    let left = g.S.Source.left in
-    let sent = g.K.Sink.sent in
-    let stops = rw c.in-Fault.is at c.in_ok-play_lines.ensures.stops in
-    ends_faulty (left c.args.source.now) (left c.play_lines.new.source) (sent c.args.sink.now) (sent c.play_lines.new.sink) (sent c.finish.new.sink) c.play_lines.new.playback.at (Some c.in-Fault.fault) c.finish.result (last_fault (left c.args.source.now) (left c.play_lines.new.source) (sent c.args.sink.now) (sent c.play_lines.new.sink) c.play_lines.new.playback.at c.in-Fault.fault stops) c.finish.ensures.sent c.finish.ensures.ending
-
-pub returns-in-Fault-clause-begun : goal.returns-in-Fault-clause-begun
-returns-in-Fault-clause-begun g c =
-    let left = g.S.Source.left in
-    let sent = g.K.Sink.sent in
-    let stops = rw c.in-Fault.is at c.in_ok-play_lines.ensures.stops in
-    begins_last (left c.args.source.now) (left c.play_lines.new.source) (sent c.args.sink.now) (sent c.play_lines.new.sink) (sent c.finish.new.sink) c.play_lines.new.playback.at (Some c.in-Fault.fault) (last_fault (left c.args.source.now) (left c.play_lines.new.source) (sent c.args.sink.now) (sent c.play_lines.new.sink) c.play_lines.new.playback.at c.in-Fault.fault stops) c.finish.ensures.front
-
-pub returns-in-Fault-clause-in_time : goal.returns-in-Fault-clause-in_time
-returns-in-Fault-clause-in_time g c =
-    let left = g.S.Source.left in
-    let sent = g.K.Sink.sent in
-    let stops = rw c.in-Fault.is at c.in_ok-play_lines.ensures.stops in
-    last_in_time (left c.args.source.now) (left c.play_lines.new.source) (sent c.args.sink.now) (sent c.play_lines.new.sink) (sent c.finish.new.sink) c.play_lines.new.playback.at (Some c.in-Fault.fault) (last_fault (left c.args.source.now) (left c.play_lines.new.source) (sent c.args.sink.now) (sent c.play_lines.new.sink) c.play_lines.new.playback.at c.in-Fault.fault stops) c.finish.ensures.front
-
-pub returns-in-Fault-clause-cut : goal.returns-in-Fault-clause-cut
-returns-in-Fault-clause-cut g c =
-    let left = g.S.Source.left in
-    let sent = g.K.Sink.sent in
-    let stops = rw c.in-Fault.is at c.in_ok-play_lines.ensures.stops in
-    λ is. last_cut (left c.args.source.now) (left c.play_lines.new.source) (sent c.args.sink.now) (sent c.play_lines.new.sink) (sent c.finish.new.sink) c.play_lines.new.playback.at (Some c.in-Fault.fault) (last_fault (left c.args.source.now) (left c.play_lines.new.source) (sent c.args.sink.now) (sent c.play_lines.new.sink) c.play_lines.new.playback.at c.in-Fault.fault stops) (c.finish.ensures.unsent is)
-
-pub returns-in_err-fault-in-End-clause-begun : goal.returns-in_err-fault-in-End-clause-begun
-returns-in_err-fault-in-End-clause-begun g c =
-    let left = g.S.Source.left in
-    let sent = g.K.Sink.sent in
-    let rest = c.play_lines.new.reader.line.line in
-    let at = c.play_lines.new.playback.at in
-    let r = rw c.in-End.is at c.in_ok-play_lines.ensures.stops in
-    let end = rw c.in-End.is at c.in_ok-play_lines.ensures.end refl in
-    let t = text_front at rest in
-    begins_more (left c.args.source.now) (left c.play_lines.new.source) (sent c.args.sink.now) (sent c.play_lines.new.sink) (sent c.play_rest.new.sink) at rest _ t.0 r.played (rw c.line.ensures.line at c.play_rest.ensures.front) t.1
-
-pub returns-in_err-fault-in-End-clause-in_time : goal.returns-in_err-fault-in-End-clause-in_time
-returns-in_err-fault-in-End-clause-in_time g c =
-    let left = g.S.Source.left in
-    let sent = g.K.Sink.sent in
-    let rest = c.play_lines.new.reader.line.line in
-    let at = c.play_lines.new.playback.at in
-    let r = rw c.in-End.is at c.in_ok-play_lines.ensures.stops in
-    let end = rw c.in-End.is at c.in_ok-play_lines.ensures.end refl in
-    reads_in_time (left c.args.source.now) (left c.play_lines.new.source) (sent c.args.sink.now) (sent c.play_lines.new.sink) (sent c.play_rest.new.sink) at rest r.played (grows_front (sent c.play_lines.new.sink) (sent c.play_rest.new.sink) _ c.play_rest.ensures.front)
-
-pub returns-in_err-fault-in-End-clause-cut : goal.returns-in_err-fault-in-End-clause-cut
-returns-in_err-fault-in-End-clause-cut g c =
-    let left = g.S.Source.left in
-    let sent = g.K.Sink.sent in
-    let rest = c.play_lines.new.reader.line.line in
-    let at = c.play_lines.new.playback.at in
-    let r = rw c.in-End.is at c.in_ok-play_lines.ensures.stops in
-    let end = rw c.in-End.is at c.in_ok-play_lines.ensures.end refl in
-    λ is. rw (c.in_err-fault-in-End.ensures.unsent (ap (λ e. Err e) (sym (rw is at c.from_residual-in_err-fault-in-End.ensures).1))) (cuts_here (left c.args.source.now) (left c.play_lines.new.source) (sent c.args.sink.now) (sent c.play_lines.new.sink) at rest r.played)
-
 pub returns-clause-transcript : goal.returns-clause-transcript
-returns-clause-transcript g c =
-    let left = g.S.Source.left in
-    let sent = g.K.Sink.sent in
-    let rest = c.play_lines.new.reader.line.line in
-    let at = c.play_lines.new.playback.at in
-    let r = rw c.in-End.is at c.in_ok-play_lines.ensures.stops in
-    let end = rw c.in-End.is at c.in_ok-play_lines.ensures.end refl in
-    let ends = rw c.line.ensures.line at c.in_ok-fault-in-End.ensures.ends in
-    ends_transcript (left c.args.source.now) (left c.play_lines.new.source) (sent c.args.sink.now) (sent c.play_rest.new.sink) (sent c.finish-in-End.new.sink) c.play_rest.new.playback.at c.in_ok-fault-in-End.fault c.finish-in-End.result (last_of_rest (left c.args.source.now) (left c.play_lines.new.source) (sent c.args.sink.now) (sent c.play_lines.new.sink) (sent c.play_rest.new.sink) at c.play_rest.new.playback.at rest c.in_ok-fault-in-End.fault r end ends) c.finish-in-End.ensures.sent c.finish-in-End.ensures.ending
+returns-clause-transcript g c = c.play_through.ensures.transcript
 
 pub returns-clause-whole : goal.returns-clause-whole
-returns-clause-whole g c =
-    let left = g.S.Source.left in
-    let sent = g.K.Sink.sent in
-    let rest = c.play_lines.new.reader.line.line in
-    let at = c.play_lines.new.playback.at in
-    let r = rw c.in-End.is at c.in_ok-play_lines.ensures.stops in
-    let end = rw c.in-End.is at c.in_ok-play_lines.ensures.end refl in
-    let ends = rw c.line.ensures.line at c.in_ok-fault-in-End.ensures.ends in
-    ends_formed (left c.args.source.now) (left c.play_lines.new.source) (sent c.args.sink.now) (sent c.play_rest.new.sink) (sent c.finish-in-End.new.sink) c.play_rest.new.playback.at c.in_ok-fault-in-End.fault c.finish-in-End.result (last_of_rest (left c.args.source.now) (left c.play_lines.new.source) (sent c.args.sink.now) (sent c.play_lines.new.sink) (sent c.play_rest.new.sink) at c.play_rest.new.playback.at rest c.in_ok-fault-in-End.fault r end ends) c.finish-in-End.ensures.sent c.finish-in-End.ensures.ending
+returns-clause-whole g c = c.play_through.ensures.whole
 
 pub returns-clause-sound : goal.returns-clause-sound
-returns-clause-sound g c =
-    let left = g.S.Source.left in
-    let sent = g.K.Sink.sent in
-    let rest = c.play_lines.new.reader.line.line in
-    let at = c.play_lines.new.playback.at in
-    let r = rw c.in-End.is at c.in_ok-play_lines.ensures.stops in
-    let end = rw c.in-End.is at c.in_ok-play_lines.ensures.end refl in
-    let ends = rw c.line.ensures.line at c.in_ok-fault-in-End.ensures.ends in
-    ends_sound_read (left c.args.source.now) (left c.play_lines.new.source) (sent c.args.sink.now) (sent c.play_rest.new.sink) (sent c.finish-in-End.new.sink) c.play_rest.new.playback.at c.in_ok-fault-in-End.fault c.finish-in-End.result (last_of_rest (left c.args.source.now) (left c.play_lines.new.source) (sent c.args.sink.now) (sent c.play_lines.new.sink) (sent c.play_rest.new.sink) at c.play_rest.new.playback.at rest c.in_ok-fault-in-End.fault r end ends) c.finish-in-End.ensures.sent c.finish-in-End.ensures.ending
+returns-clause-sound g c = c.play_through.ensures.sound
 
 pub returns-clause-stopped : goal.returns-clause-stopped
-returns-clause-stopped g c =
-    let left = g.S.Source.left in
-    let sent = g.K.Sink.sent in
-    let rest = c.play_lines.new.reader.line.line in
-    let at = c.play_lines.new.playback.at in
-    let r = rw c.in-End.is at c.in_ok-play_lines.ensures.stops in
-    let end = rw c.in-End.is at c.in_ok-play_lines.ensures.end refl in
-    let ends = rw c.line.ensures.line at c.in_ok-fault-in-End.ensures.ends in
-    ends_stopped (left c.args.source.now) (left c.play_lines.new.source) (sent c.args.sink.now) (sent c.play_rest.new.sink) (sent c.finish-in-End.new.sink) c.play_rest.new.playback.at c.in_ok-fault-in-End.fault c.finish-in-End.result (last_of_rest (left c.args.source.now) (left c.play_lines.new.source) (sent c.args.sink.now) (sent c.play_lines.new.sink) (sent c.play_rest.new.sink) at c.play_rest.new.playback.at rest c.in_ok-fault-in-End.fault r end ends) c.finish-in-End.ensures.sent c.finish-in-End.ensures.ending
+returns-clause-stopped g c = c.play_through.ensures.stopped
 
 pub returns-clause-faulty : goal.returns-clause-faulty
-returns-clause-faulty g c =
-    let left = g.S.Source.left in
-    let sent = g.K.Sink.sent in
-    let rest = c.play_lines.new.reader.line.line in
-    let at = c.play_lines.new.playback.at in
-    let r = rw c.in-End.is at c.in_ok-play_lines.ensures.stops in
-    let end = rw c.in-End.is at c.in_ok-play_lines.ensures.end refl in
-    let ends = rw c.line.ensures.line at c.in_ok-fault-in-End.ensures.ends in
-    ends_faulty (left c.args.source.now) (left c.play_lines.new.source) (sent c.args.sink.now) (sent c.play_rest.new.sink) (sent c.finish-in-End.new.sink) c.play_rest.new.playback.at c.in_ok-fault-in-End.fault c.finish-in-End.result (last_of_rest (left c.args.source.now) (left c.play_lines.new.source) (sent c.args.sink.now) (sent c.play_lines.new.sink) (sent c.play_rest.new.sink) at c.play_rest.new.playback.at rest c.in_ok-fault-in-End.fault r end ends) c.finish-in-End.ensures.sent c.finish-in-End.ensures.ending
+returns-clause-faulty g c = c.play_through.ensures.faulty
+
+pub returns-clause-failed_text : goal.returns-clause-failed_text
+returns-clause-failed_text g c = c.play_through.ensures.failed_text
+
+pub returns-clause-failed_sound : goal.returns-clause-failed_sound
+returns-clause-failed_sound g c = c.play_through.ensures.failed_sound
 
 pub returns-clause-begun : goal.returns-clause-begun
-returns-clause-begun g c =
-    let left = g.S.Source.left in
-    let sent = g.K.Sink.sent in
-    let rest = c.play_lines.new.reader.line.line in
-    let at = c.play_lines.new.playback.at in
-    let r = rw c.in-End.is at c.in_ok-play_lines.ensures.stops in
-    let end = rw c.in-End.is at c.in_ok-play_lines.ensures.end refl in
-    let ends = rw c.line.ensures.line at c.in_ok-fault-in-End.ensures.ends in
-    begins_last (left c.args.source.now) (left c.play_lines.new.source) (sent c.args.sink.now) (sent c.play_rest.new.sink) (sent c.finish-in-End.new.sink) c.play_rest.new.playback.at c.in_ok-fault-in-End.fault (last_of_rest (left c.args.source.now) (left c.play_lines.new.source) (sent c.args.sink.now) (sent c.play_lines.new.sink) (sent c.play_rest.new.sink) at c.play_rest.new.playback.at rest c.in_ok-fault-in-End.fault r end ends) c.finish-in-End.ensures.front
+returns-clause-begun g c = c.play_through.ensures.begun
 
 pub returns-clause-in_time : goal.returns-clause-in_time
-returns-clause-in_time g c =
-    let left = g.S.Source.left in
-    let sent = g.K.Sink.sent in
-    let rest = c.play_lines.new.reader.line.line in
-    let at = c.play_lines.new.playback.at in
-    let r = rw c.in-End.is at c.in_ok-play_lines.ensures.stops in
-    let end = rw c.in-End.is at c.in_ok-play_lines.ensures.end refl in
-    let ends = rw c.line.ensures.line at c.in_ok-fault-in-End.ensures.ends in
-    last_in_time (left c.args.source.now) (left c.play_lines.new.source) (sent c.args.sink.now) (sent c.play_rest.new.sink) (sent c.finish-in-End.new.sink) c.play_rest.new.playback.at c.in_ok-fault-in-End.fault (last_of_rest (left c.args.source.now) (left c.play_lines.new.source) (sent c.args.sink.now) (sent c.play_lines.new.sink) (sent c.play_rest.new.sink) at c.play_rest.new.playback.at rest c.in_ok-fault-in-End.fault r end ends) c.finish-in-End.ensures.front
+returns-clause-in_time g c = c.play_through.ensures.in_time
 
 pub returns-clause-cut : goal.returns-clause-cut
-returns-clause-cut g c =
-    let left = g.S.Source.left in
-    let sent = g.K.Sink.sent in
-    let rest = c.play_lines.new.reader.line.line in
-    let at = c.play_lines.new.playback.at in
-    let r = rw c.in-End.is at c.in_ok-play_lines.ensures.stops in
-    let end = rw c.in-End.is at c.in_ok-play_lines.ensures.end refl in
-    let ends = rw c.line.ensures.line at c.in_ok-fault-in-End.ensures.ends in
-    λ is. last_cut (left c.args.source.now) (left c.play_lines.new.source) (sent c.args.sink.now) (sent c.play_rest.new.sink) (sent c.finish-in-End.new.sink) c.play_rest.new.playback.at c.in_ok-fault-in-End.fault (last_of_rest (left c.args.source.now) (left c.play_lines.new.source) (sent c.args.sink.now) (sent c.play_lines.new.sink) (sent c.play_rest.new.sink) at c.play_rest.new.playback.at rest c.in_ok-fault-in-End.fault r end ends) (c.finish-in-End.ensures.unsent is)
+returns-clause-cut g c = c.play_through.ensures.cut
+
+pub returns-clause-failed : goal.returns-clause-failed
+returns-clause-failed g c = c.play_through.ensures.failed
+
+pub returns-clause-still : goal.returns-clause-still
+returns-clause-still g c = c.play_through.ensures.still
+
+pub returns-clause-out_of_memory : goal.returns-clause-out_of_memory
+returns-clause-out_of_memory g c = c.play_through.ensures.out_of_memory
+
+pub returns-clause-later : goal.returns-clause-later
+returns-clause-later g c = c.play_through.ensures.later
+
+pub returns-clause-asked : goal.returns-clause-asked
+returns-clause-asked g c = c.play_through.ensures.asked
+
+pub returns-clause-source_failed : goal.returns-clause-source_failed
+returns-clause-source_failed g c = c.play_through.ensures.source_failed
+
+pub returns-clause-source_still : goal.returns-clause-source_still
+returns-clause-source_still g c = c.play_through.ensures.source_still
+
+pub returns-clause-source_later : goal.returns-clause-source_later
+returns-clause-source_later g c = c.play_through.ensures.source_later
