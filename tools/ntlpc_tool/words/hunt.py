@@ -133,8 +133,8 @@ class Hunt:
                     world.tell(line, oracle.step(line))
                     lines.append(line.encode())
         except (Broken, Stopped) as why:
-            at = f"line {len(lines) + 1}"
-            raise inputs.Misuse(f"the conversation with {self.oracle} broke off at {at}: {why}") from None
+            place = f"line {len(lines) + 1}"
+            raise inputs.Misuse(f"the conversation with {self.oracle} broke off at {place}: {why}") from None
         self.scripts += 1
         self.lines += len(lines)
         return lines
