@@ -47,6 +47,14 @@ class Example:
         found = [list(it) for _, it in itertools.groupby(self.lines[:-1], lambda it: it.split(b" ")[0])]
         return [b"".join(it) for it in found] + self.lines[-1:]
 
+    def reads(self, piece):
+        """How many reads are made of an input that gives so many bytes at a time: to its end, and one more that gives
+        nothing; or to the end of a faulty line, and none behind it."""
+        if self.status == 2:
+            faulty = int(self.lines[-1].split()[1])
+            return -(-len(b"".join(self.script.splitlines(True)[:faulty])) // piece)
+        return -(-len(self.script) // piece) + 1
+
     def broken_off(self, size):
         """What is printed where the input fails behind so many bytes, and the status."""
         whole = self.script[:size].count(b"\n")
@@ -70,8 +78,7 @@ def wrong_with(run, status, text, **counts):
 
 def reads(program, example, piece):
     """Each read fails in turn, of an input that gives so many bytes at a time."""
-    size = len(example.script)
-    count = -(-size // piece) + 1
+    count = example.reads(piece)
     for number in range(1, count + 1):
         run = program.replay(example.script, READ_PIECE=piece, FAIL_READ=number)
         status, text = example.broken_off((number - 1) * piece)
@@ -125,9 +132,11 @@ def other_words(program):
 
 
 def both(program, example):
-    """The input fails, and then the output: what failed last is told, and nothing is tried again."""
+    """A read and a write are to fail: what fails first is told, and the other isn't made."""
     run = program.replay(example.script, READ_PIECE=20, FAIL_READ=3, FAIL_WRITE=1)
-    yield f"{example.name}: a read and a write fail", wrong_with(run, 4, b"", reads=3, writes=1)
+    yield f"{example.name}: a write fails before a read", wrong_with(run, 4, b"", reads=1, writes=1)
+    run = program.replay(example.script, READ_PIECE=20, FAIL_READ=2, FAIL_WRITE=2)
+    yield f"{example.name}: a read fails before a write", wrong_with(run, *example.broken_off(20), reads=2, writes=1)
 
 
 def errors(program, example):
