@@ -12,7 +12,8 @@
 - The scripts and transcripts of the exercises stand in examples/exercises/, and their diagrams are those that the
   companion tool draws.
 - With PROGRAM, each script of docs/FAULTS.md stops at its last line with the kind of its section, or prints the
-  transcript that stands behind it, and the commands of docs/CHECK_YOUR_OWN.md print what the page shows.
+  transcript that stands behind it, the commands of docs/CHECK_YOUR_OWN.md print what the page shows, and the code of
+  docs/CONVERSATION.md holds the conversation that it is for; the C code is left out where there is no C compiler.
 
 Each check that fails has a line, and the last line is `N passed, M failed`. The exit status is 0 where all passed, 1
 where not, and 64 where PROGRAM can't be run.
@@ -26,6 +27,7 @@ import sys
 import tempfile
 
 sys.dont_write_bytecode = True
+from failing import compiler
 from tally import tally
 
 ROOT = pathlib.Path(__file__).resolve().parent.parent
@@ -277,6 +279,53 @@ def faults(command):
             yield name, [] if good else [f"its transcript is another one:\n{printed}"]
 
 
+# What is put behind the C code of docs/CONVERSATION.md: a line that is answered twice, a call, and a faulty line, behind
+# which the program has ended.
+ASKING = r"""
+#include <signal.h>
+static void tell(const char *entry) { fputs(entry, stdout); }
+int main(void) {
+    signal(SIGPIPE, SIG_IGN);
+    if (start()) return 9;
+    int booted = ask("boot 20 24", tell), made = ask("24 NtCreatePort -", tell);
+    int faulty = ask("unknown", tell), ended = ask("24 NtClose 4", tell);
+    printf("%d %d %d %d\n", booted, made, faulty, ended);
+    return 0;
+}
+"""
+
+
+def conversations(command):
+    """The code of docs/CONVERSATION.md, run as it stands there, with the program as `ntlpc` on the path."""
+    code = {it.kind: it.text for it in blocks_of(DOCS / "CONVERSATION.md")}
+    told = "1 - boot 00000000\n3 24 NtCreatePort 00000000 h=4\n"
+    with tempfile.TemporaryDirectory() as folder:
+        here = pathlib.Path(folder)
+        (here / "ntlpc").write_text('#!/bin/sh\nexec "$NTLPC" "$@"\n')
+        (here / "ntlpc").chmod(0o755)
+        path = os.pathsep.join((folder, os.environ["PATH"]))
+        env = {**os.environ, "PATH": path, "NTLPC": os.path.abspath(shutil.which(command[0])),
+               "PYTHONPATH": str(ROOT / "tools"), "PYTHONDONTWRITEBYTECODE": "1"}
+
+        def printed(name, words, wanted):
+            ran = subprocess.run(words, cwd=folder, env=env, stdout=subprocess.PIPE, timeout=60, text=True)
+            wrong = [] if (ran.stdout, ran.returncode) == (wanted, 0) else [f"it prints {ran.stdout!r}"]
+            return f"CONVERSATION.md: the code for {name}", wrong
+
+        ((line, wanted),) = COMMAND.findall(code["console"])
+        yield printed("one turn", ["sh", "-c", line], wanted)
+        yield printed("a shell", ["bash", "-c", code["bash"]], told)
+        yield printed("Python", [sys.executable, "-c", code["python"]], "00000000 4\nend 4 4 3\n")
+        if not compiler():
+            print("left out: CONVERSATION.md: the code for C: there is no C compiler here")
+            return
+        (here / "asking.c").write_text(code["c"] + ASKING)
+        build = [compiler(), "-Wall", "-Werror", "-o", str(here / "asking"), str(here / "asking.c")]
+        built = subprocess.run(build, capture_output=True, timeout=60, text=True)
+        yield "CONVERSATION.md: the code for C is compiled", [built.stderr] * (built.returncode != 0)
+        yield printed("C", [str(here / "asking")], f"{told}0 0 2 1\n")
+
+
 def counted(group, *given):
     """The checks of a group, and that it made as many as there are."""
     count = 0
@@ -292,7 +341,7 @@ def checks(command):
     """All checks: each with its name and what it found wrong."""
     for group in (links, version, manual, examples_of_services, worked_examples, exercises):
         yield from counted(group)
-    for group in (faults, terminals) if command else ():
+    for group in (faults, terminals, conversations) if command else ():
         yield from counted(group, command)
 
 

@@ -343,7 +343,28 @@ def conversations():
                 child.kill()
         Ended(child.returncode, last).should(0, told[-1])
 
+    def leave(program):
+        """The reader closes early: the next entry can't be written, and nothing more is read."""
+        lines = EXAMPLE.splitlines(keepends=True)
+        with subprocess.Popen([*program.command, "replay"], stdin=subprocess.PIPE, stdout=subprocess.PIPE) as child:
+            watch = threading.Timer(SECONDS, child.kill)
+            watch.start()
+            try:
+                child.stdin.write(lines[0])
+                child.stdin.flush()
+                first = child.stdout.readline()
+                child.stdout.close()
+                child.stdin.write(lines[1])
+                child.stdin.flush()
+                child.wait()
+            finally:
+                watch.cancel()
+                child.kill()
+                child.stdin.close()
+        Ended(child.returncode, first).should(4, b"1 - boot 00000000\n")
+
     yield "a conversation over a pipe", talk
+    yield "a conversation whose reader goes", leave
 
 
 def limits():
