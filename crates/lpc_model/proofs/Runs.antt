@@ -4,7 +4,7 @@ use Rattle.std.specs.Prelude.{Option, Some, None}
 use Rattle.std.specs.List.{AllByRecursion}
 use Rattle.lpc_model.specs.World.{World, no_rows}
 use Rattle.lpc_model.specs.Lines.{ScriptLine}
-use Rattle.lpc_model.specs.Machine.{Stepped, step}
+use Rattle.lpc_model.specs.Machine.{Stepped, step, steps}
 use Rattle.lpc_model.specs.Run.{Along, line_step, said_in, trace}
 use Rattle.lpc_model.specs.Closings.{ClosingsAreTold, RunTellsClosings}
 use Rattle.lpc_model.specs.Creators.{KeepsConnects, RunKeepsConnects}
@@ -20,6 +20,9 @@ use Rattle.lpc_model.proofs.Standing.Lines.{names_none, names_step}
 use Rattle.lpc_model.proofs.Queues.Open.{queues_none, queues_step}
 use Rattle.lpc_model.proofs.Closings.Creators.{keeps_step}
 use Rattle.lpc_model.proofs.Closings.ToldLines.{closings_told}
+use Rattle.lpc_model.proofs.Queues.Emptied.{line_empties}
+use Rattle.lpc_model.proofs.Queues.Withdrawn.{line_withdraws}
+use Rattle.lpc_model.specs.Leaving.{EmptiesWithHandles, RunEmptiesWithHandles, RunWithdrawsWithWaits, WithdrawsWithWaits}
 use Rattle.lpc_model.proofs.Closings.SingleLines.{untold_none, untold_step}
 use Rattle.lpc_model.specs.Deaths.{DeathsAreTold, HasLivingRegistrations, HasSingleRegistrations, RunHasLivingRegistrations, RunHasSingleRegistrations, RunTellsDeaths}
 use Rattle.lpc_model.proofs.Lives.ThreadsOnce.{once_step}
@@ -109,6 +112,12 @@ keeps_run bytes = trace-keeps KeepsConnects (λ w t. t.creators) no_rows (said_i
 
 pub closings_told_run : (bytes : List ℕ) → RunTellsClosings bytes
 closings_told_run bytes = along-keeps ClosingsAreTold (λ w line t. let shut = t.single_closings in closings_told w line t.sound shut.connects) no_rows (said_in bytes) lawful_none
+
+pub emptied_run : (bytes : List ℕ) → RunEmptiesWithHandles bytes
+emptied_run bytes = along-keeps EmptiesWithHandles (λ w line t. let shut = t.single_closings in line_empties w line t.sound shut.connects) no_rows (said_in bytes) lawful_none
+
+pub withdrawn_run : (bytes : List ℕ) → RunWithdrawsWithWaits bytes
+withdrawn_run bytes = along-keeps (λ w line. WithdrawsWithWaits (steps line w)) (λ w line t. let shut = t.single_closings in line_withdraws w line t.sound shut.connects) no_rows (said_in bytes) lawful_none
 
 pub deaths_told_run : (bytes : List ℕ) → RunTellsDeaths bytes
 deaths_told_run bytes = along-keeps DeathsAreTold (λ w line t. deaths_told w line t.sound t.threads) no_rows (said_in bytes) lawful_none

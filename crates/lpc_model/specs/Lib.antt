@@ -36,6 +36,7 @@ pub mod Limits
 pub mod Connected
 pub mod Queues
 pub mod Closings
+pub mod Leaving
 pub mod Deaths
 pub mod Left
 pub mod Accounts

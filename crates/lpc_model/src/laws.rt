@@ -9,6 +9,7 @@ ghost use Rattle.lpc_model.specs.Closings.{RunTellsClosings};
 ghost use Rattle.lpc_model.specs.Creators.{RunKeepsConnects};
 ghost use Rattle.lpc_model.specs.Deaths.{RunHasLivingRegistrations, RunHasSingleRegistrations, RunTellsDeaths};
 ghost use Rattle.lpc_model.specs.Lawful.{IsLawfulWorld, StepsKeepLaws};
+ghost use Rattle.lpc_model.specs.Leaving.{RunEmptiesWithHandles, RunWithdrawsWithWaits};
 ghost use Rattle.lpc_model.specs.Left.{RunLeavesNothing};
 ghost use Rattle.lpc_model.specs.SingleClosings.{HasSingleClosings, RunHasSingleClosings, StepsKeepSingleClosings};
 ghost use Rattle.lpc_model.specs.Limits.{LimitsChildren, LimitsDatagrams, LimitsHandles, LimitsInfo, LimitsMessages, LimitsRegistrations, LimitsThreads, LimitsTwoHandles};
@@ -114,10 +115,15 @@ pub fn law_death()
 ///
 /// Behind each line, for each queue, context and bytes of such a message: as many were posted so far
 /// as stand in the queue, were shown as received from it, and were lost when its port closed. So it
-/// is with datagrams, and with what tells of closed ports and of threads that ended. Requests and
-/// connection requests may leave their queue as well where their thread's wait ends.
+/// is with datagrams, and with what tells of closed ports and of threads that ended. Each line
+/// empties the queues of the ports that lose their last handles in it, once for each, and no other:
+/// so no message is lost while its port is open. Requests and connection requests may leave their
+/// queue as well where their thread's wait ends: a line withdraws the message of a thread only where
+/// it wakes or ends that thread.
 pub fn law_messages_are_accounted_for()
     ensures runs { (script : List ℕ) → RunAccountsForMessages script }
+    ensures emptied { (script : List ℕ) → RunEmptiesWithHandles script }
+    ensures withdrawn { (script : List ℕ) → RunWithdrawsWithWaits script }
 {}
 
 /// Each line keeps all that the calls ask of the world at once.

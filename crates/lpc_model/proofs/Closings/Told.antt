@@ -54,7 +54,7 @@ hushed-calm b is = is
 pub calm-all : (bs : List Basic) → AreHushed bs → AreCalm bs
 calm-all bs all = every-more is_hushed is_calm hushed-calm bs all
 
-dropless-basic : (w : World) (b : Basic) → is_dropless b ≡ true → closes w b ≡ []
+pub dropless-basic : (w : World) (b : Basic) → is_dropless b ≡ true → closes w b ≡ []
 dropless-basic w (DropsHandle pid value) is = absurd (cc)
 dropless-basic w b is = refl
 
@@ -211,7 +211,7 @@ posted-dropless b w = at (port_row w b)
     at None = refl
     at (Some p) = queued p (server_of w p)
 
-close-dropless : (w : World) (b : Birth) → every is_dropless (close_port b w) ≡ true
+pub close-dropless : (w : World) (b : Birth) → every is_dropless (close_port b w) ≡ true
 close-dropless w b = close-pass is_dropless away-dropless b w refl (posted-dropless b (stage_five w b))
 
 -- Lists of steps
@@ -228,7 +228,7 @@ tells-append w xs ys one two =
     ∙ (ap (λ ms. closings_posted w xs ++ ms) two ∙ sym (told-append w xs ys))))
 
 -- NtClose
-same-last : (w v : World) (r : HandleRow) → v.handles ≡ w.handles → is_last r v ≡ is_last r w
+pub same-last : (w v : World) (r : HandleRow) → v.handles ≡ w.handles → is_last r v ≡ is_last r w
 same-last w v r same = rw same refl
 
 -- what is told of a port is the same once it is cut

@@ -1,5 +1,6 @@
 use Rattle.lpc_model.proofs.Account.Runs.{messages-accounted}
+use Rattle.lpc_model.proofs.Runs.{emptied_run, withdrawn_run}
 use Rattle.lpc_model.proofs.laws.law_messages_are_accounted_for.Goals as goal
 
 pub returns : goal.returns
-returns c = record { runs = messages-accounted }
+returns c = record { runs = messages-accounted; emptied = emptied_run; withdrawn = withdrawn_run }
