@@ -271,7 +271,8 @@ impl Machine {
     /// `out`, which is empty and has room for [`Machine::room_needed`] more. The line's process and thread numbers are
     /// from 1 to 2147483647, and fewer than 1,000,000 directives and service calls were made before it.
     ///
-    /// After want of memory nothing has changed but the room. Only directives, `NtCreatePort`, `NtConnectPort`,
+    /// A line that is refused, or that no thread can run, leaves every row as it was. After want of memory nothing has
+    /// changed but the room. Only directives, `NtCreatePort`, `NtConnectPort`,
     /// `NtAcceptConnectPort` to accept, `NtRequestPort`, `NtRegisterThreadTerminatePort`, `NtDuplicateObject`,
     /// `NtCreateProcess` and `NtCreateThread` take memory, only where they aren't refused, and they want for it only
     /// where the room for what they make wasn't there; every other line is answered. Of ports, messages and waits no
@@ -288,6 +289,7 @@ impl Machine {
             self.new.rows ≡ s.world) }
         ensures told { OnOk result (let s = step self.old.rows (line_of line.now) in
             out.new.list ≡ s.entries) }
+        ensures refused { Halts self.old.rows (line_of line.now) → self.new.rows ≡ self.old.rows }
         ensures sound { HasSoundWaits self.new.rows }
         ensures held { HasHeldRows self.new.rows }
         ensures named { NamesWhatStands self.new.rows }

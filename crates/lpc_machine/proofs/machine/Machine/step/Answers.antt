@@ -2,6 +2,8 @@ use Rattle.lpc_model.specs.Lines.{line_of}
 use Rattle.lpc_model.proofs.Sound.Lines.{sound_waits}
 use Rattle.lpc_model.proofs.Deaths.Lines.{deaths_told}
 use Rattle.lpc_model.proofs.Closings.ToldLines.{closings_told}
+use Rattle.std.proofs.Common.{◌∙◌}
+use Rattle.lpc_machine.proofs.Refused.{refused_stays}
 use Rattle.lpc_machine.proofs.Sound as sound
 use Rattle.lpc_machine.proofs.machine.Machine.step.Goals as goal
 
@@ -52,3 +54,6 @@ returns-clause-left c = sound.leaves_nothing c.sweep.new.world (sound.stays_sett
 
 pub returns-in_err-take-clause-left : goal.returns-in_err-take-clause-left
 returns-in_err-take-clause-left c = sound.leaves_nothing c.take.new.world (sound.stays_same c.self.inside.world c.take.new.world c.in_err-take.ensures.err c.self.invariant)
+
+pub returns-clause-refused : goal.returns-clause-refused
+returns-clause-refused c = rw (← c.self.view_is) (λ halts. sound.swept_is c.self.inside.world c.take.new.world c.args.out.now.list c.take.new.out.list (line_of c.args.line.now) c.self.invariant c.requires.empty c.in_ok-take.ensures.takes c.sweep.new.world.rows c.sweep.ensures.rows ∙ refused_stays c.self.inside.world.rows (line_of c.args.line.now) c.self.invariant.lawful.held halts)
