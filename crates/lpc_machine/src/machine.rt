@@ -1,5 +1,5 @@
 // The machine, and one line's step.
-ghost use Rattle.std.specs.Prelude.{◌≡◌, ◌≤◌, ◌<◌, ◌+◌, [], ◌∷◌, ◌++◌, true, false, IsOk, OnOk, OnErr, IsErr};
+ghost use Rattle.std.specs.Prelude.{ℕ, ◌≡◌, ◌≤◌, ◌<◌, ◌+◌, [], ◌∷◌, ◌++◌, true, false, IsOk, OnOk, OnErr, IsErr};
 ghost use Rattle.lpc_model.specs.World.{no_rows};
 ghost use Rattle.lpc_model.specs.Found as found;
 ghost use Rattle.lpc_model.specs.Found.{live_thread};
@@ -23,8 +23,8 @@ ghost use Rattle.lpc_machine.specs.Settled.{IsSettled};
 ghost use Rattle.lpc_machine.specs.Memory.{GoesOn, Halts, call_takes_memory, lacks_call_room, lacks_room, makes_call, takes_memory};
 ghost use Rattle.lpc_rows.specs.Called.{MayServe, service};
 ghost use Rattle.lpc_rows.specs.Does.{Took};
-ghost use Rattle.lpc_rows.specs.Capacity.{but_lives, but_names};
-ghost use Rattle.lpc_rows.specs.Kept.{Same, grown_messages, grown_ports, grown_waits};
+ghost use Rattle.lpc_rows.specs.Capacity.{but_lives, but_names, handle_places};
+ghost use Rattle.lpc_rows.specs.Kept.{Same, grown_handles, grown_messages, grown_ports, grown_processes, grown_threads, grown_waits};
 ghost use Rattle.lpc_rows.specs.Ready as ready;
 ghost use Rattle.lpc_rows.specs.Ready.{HasRoom, is_ready};
 
@@ -77,7 +77,7 @@ fn tell(word: Word, status: Status, out: &mut Entries)
 }
 
 /// A call of a thread that can make it.
-#[tactic(auto, using(crate::proofs::Asked::ports_within, crate::proofs::Asked::messages_within, crate::proofs::Asked::waits_within))]
+#[tactic(auto, using(crate::proofs::Asked::ports_within, crate::proofs::Asked::messages_within, crate::proofs::Asked::waits_within, crate::proofs::Asked::processes_within, crate::proofs::Asked::threads_within, crate::proofs::Asked::places_by_one, crate::proofs::Asked::places_by_two, crate::proofs::Asked::places_kept, crate::proofs::Asked::places_same))]
 fn serve(
     world: &mut World,
     by: u32,
@@ -101,6 +101,12 @@ fn serve(
     ensures asked_messages { let new = world.new.capacity in
         new.messages ≤ grown_messages world.old 1 }
     ensures asked_waits { let new = world.new.capacity in new.waits ≤ grown_waits world.old 1 }
+    ensures asked_processes { let new = world.new.capacity in
+        new.processes ≤ grown_processes world.old 1 }
+    ensures asked_threads { let new = world.new.capacity in
+        new.threads ≤ grown_threads world.old 1 }
+    ensures asked_handles { (pid : ℕ) →
+        handle_places world.new.capacity pid ≤ grown_handles world.old pid 2 }
 {
     match call {
         Call::CreatePort { name } => nt_create_port(world, by, *name, out),
@@ -142,7 +148,7 @@ fn serve(
 }
 
 /// A call of a thread, which makes it where it lives and doesn't wait.
-#[tactic(auto, using(crate::proofs::Asked::ports_within, crate::proofs::Asked::messages_within, crate::proofs::Asked::waits_within))]
+#[tactic(auto, using(crate::proofs::Asked::ports_within, crate::proofs::Asked::messages_within, crate::proofs::Asked::waits_within, crate::proofs::Asked::processes_within, crate::proofs::Asked::threads_within, crate::proofs::Asked::places_by_one, crate::proofs::Asked::places_by_two, crate::proofs::Asked::places_kept, crate::proofs::Asked::places_same))]
 fn run(world: &mut World, tid: u32, call: &Call<'_>, out: &mut Entries) -> Result<(), OutOfMemory>
     requires room { HasRoom world.old out.old }
     requires calls { world.old.calls < LINES_LIMIT }
@@ -168,6 +174,12 @@ fn run(world: &mut World, tid: u32, call: &Call<'_>, out: &mut Entries) -> Resul
     ensures asked_messages { let new = world.new.capacity in
         new.messages ≤ grown_messages world.old 1 }
     ensures asked_waits { let new = world.new.capacity in new.waits ≤ grown_waits world.old 1 }
+    ensures asked_processes { let new = world.new.capacity in
+        new.processes ≤ grown_processes world.old 1 }
+    ensures asked_threads { let new = world.new.capacity in
+        new.threads ≤ grown_threads world.old 1 }
+    ensures asked_handles { (pid : ℕ) →
+        handle_places world.new.capacity pid ≤ grown_handles world.old pid 2 }
 {
     match condition_of(world, tid) {
         Condition::Absent => out.push(Entry::NoThread { tid }),
@@ -180,7 +192,7 @@ fn run(world: &mut World, tid: u32, call: &Call<'_>, out: &mut Entries) -> Resul
 }
 
 /// What a line does on the world alone, before rows go.
-#[tactic(auto, unfolding(lpc_model::specs::Machine::bare_steps), using(crate::proofs::Asked::ports_within, crate::proofs::Asked::messages_within, crate::proofs::Asked::waits_within))]
+#[tactic(auto, unfolding(lpc_model::specs::Machine::bare_steps), using(crate::proofs::Asked::ports_within, crate::proofs::Asked::messages_within, crate::proofs::Asked::waits_within, crate::proofs::Asked::processes_within, crate::proofs::Asked::threads_within, crate::proofs::Asked::places_by_one, crate::proofs::Asked::places_by_two, crate::proofs::Asked::places_kept, crate::proofs::Asked::places_same))]
 fn take(world: &mut World, line: &Line<'_>, out: &mut Entries) -> Result<(), OutOfMemory>
     requires empty { out.old.list ≡ [] }
     requires room { HasRoom world.old out.old }
@@ -206,6 +218,12 @@ fn take(world: &mut World, line: &Line<'_>, out: &mut Entries) -> Result<(), Out
     ensures asked_messages { let new = world.new.capacity in
         new.messages ≤ grown_messages world.old 1 }
     ensures asked_waits { let new = world.new.capacity in new.waits ≤ grown_waits world.old 1 }
+    ensures asked_processes { let new = world.new.capacity in
+        new.processes ≤ grown_processes world.old 1 }
+    ensures asked_threads { let new = world.new.capacity in
+        new.threads ≤ grown_threads world.old 1 }
+    ensures asked_handles { (pid : ℕ) →
+        handle_places world.new.capacity pid ≤ grown_handles world.old pid 2 }
 {
     match line {
         Line::Boot { pid, tid } => {
@@ -317,6 +335,8 @@ impl Machine {
         ensures asked_messages { let new = self.new.capacity in
             new.messages ≤ grown_messages self.old 1 }
         ensures asked_waits { let new = self.new.capacity in new.waits ≤ grown_waits self.old 1 }
+        ensures asked_handles { (pid : ℕ) →
+            handle_places self.new.capacity pid ≤ grown_handles self.old pid 2 }
     {
         take(&mut self.world, line, out)?;
         sweep(&mut self.world);
