@@ -41,7 +41,7 @@ pub lawful_none : IsLawfulWorld no_rows
 lawful_none = record {
   sound = sound_none;
   linked = linked_none;
-  held = record { ports = refl; lives = record { threads = refl; processes = refl } };
+  held = record { ports = refl; lives = record { threads = refl; processes = refl }; sections = refl };
   queues = queues_none;
   names = names_none;
   single_closings = untold_none;

@@ -1,5 +1,5 @@
 -- The basic steps that each line's step is a list of, and what one does.
-use Rattle.std.specs.Prelude.{ℕ, ◌+◌, ◌||◌, nat_lt, Bool, true, false, List, [], ◌∷◌, ◌++◌, map, None, Some, if◌then◌else◌}
+use Rattle.std.specs.Prelude.{ℕ, length, take, drop, replicate, ◌+◌, ◌||◌, nat_lt, Bool, true, false, List, [], ◌∷◌, ◌++◌, map, None, Some, if◌then◌else◌}
 use Rattle.lpc_base.specs.declared.status.Status.{Status}
 use Rattle.lpc_model.specs.declared.entry.Entry.{Entry}
 use Rattle.lpc_model.specs.declared.entry.Entry.TheVariants as entry
@@ -9,8 +9,8 @@ use Rattle.lpc_model.specs.declared.entry.Outcome.TheVariants as outcome
 use Rattle.lpc_base.specs.Rows.{change, each, when, which, without, without_first}
 use Rattle.lpc_names.specs.Binding.{is_name}
 use Rattle.lpc_model.specs.declared.entry.ObjectKind.TheVariants as kind
-use Rattle.lpc_model.specs.World.{World, Birth, CallName, ObjectKind, ObjectName, ProcessRow, ThreadRow, UsedThread, HandleRow, HandleTable, PortRow, MessageRow, WaitKind, WaitRow, Accepted, Connect, Node, Path}
-use Rattle.lpc_model.specs.Found.{has_value, is_own_of, is_paired_to, is_port, is_queued, is_queued_connect, is_table, is_thread, same_birth, waits_as, waits_at}
+use Rattle.lpc_model.specs.World.{World, Birth, CallName, ObjectKind, ObjectName, ProcessRow, ThreadRow, UsedThread, HandleRow, HandleTable, PortRow, MessageRow, WaitKind, WaitRow, Accepted, Connect, Node, Path, SectionRow, ContentRow, Contents, Known, Unknown, ViewRow}
+use Rattle.lpc_model.specs.Found.{has_value, is_content, is_own_of, is_section, is_view, is_view_in, is_paired_to, is_port, is_queued, is_queued_connect, is_table, is_thread, same_birth, waits_as, waits_at}
 
 -- An entry, or one change of the rows that belong together: a wait that ends, with its entry; a thread that ends, with
 -- its entry and its wait; the two ends of a pair; a process, with its number and its empty table of handles; a thread,
@@ -57,6 +57,13 @@ pub data Basic : Type 0 where
   -- a process gets a handle; a handle of a process goes
   AddsHandle : ℕ → HandleRow → Basic
   DropsHandle : ℕ → ℕ → Basic
+  -- a section is made, whose bytes are zeros; bytes of a section are written from a place on
+  AddsSection : SectionRow → Basic
+  Writes : Birth → ℕ → List ℕ → Basic
+  -- a view is mapped; the view of a process at a base goes; all views of a process go
+  Maps : ViewRow → Basic
+  Unmaps : ℕ → ℕ → Basic
+  DropsViewsOf : ℕ → Basic
 
 -- a connect, accepted with the data of an answer
 abbrev pub accepted_as : List ℕ → WaitKind → WaitKind
@@ -129,10 +136,27 @@ without_handle value t = record t { rows = without_first (has_value value) t.row
 abbrev pub no_handles : ℕ → HandleTable
 no_handles pid = record { process = pid; rows = [] }
 
--- the world without the row of an object
+-- the bytes of a new section
+abbrev pub zeros : SectionRow → ContentRow
+zeros s = record { section = s.birth; bytes = replicate s.size 0 }
+
+-- bytes with others in place of those from a place on
+abbrev pub overwritten : ℕ → List ℕ → List ℕ → List ℕ
+overwritten place new old = take place old ++ (new ++ drop (place + length new) old)
+
+abbrev pub written : ℕ → List ℕ → ContentRow → ContentRow
+written place new c = record c { bytes = overwritten place new c.bytes }
+
+-- the bytes of sections are changed, where they are known
+abbrev pub in_known : (List ContentRow → List ContentRow) → Contents → Contents
+in_known f Unknown = Unknown
+in_known f (Known rows) = Known (f rows)
+
+-- the world without the row of an object; a section's bytes go with it
 abbrev pub freed : World → ObjectKind → Birth → World
 freed w kind.Port b = record w { ports = without (is_port b) w.ports }
-freed w kind.Section b = w
+freed w kind.Section b =
+    record w { sections = without (is_section b) w.sections; contents = in_known (without (is_content b)) w.contents }
 freed w kind.Token b = w
 freed w kind.Process b = record w { processes = without (λ p. same_birth p.birth b) w.processes }
 freed w kind.Thread b = record w { threads = without (λ t. same_birth t.birth b) w.threads }
@@ -172,6 +196,13 @@ basic w (Binds path node) = record w { bindings = w.bindings ++ (path, node) ∷
 basic w (Unbinds b) = record w { bindings = without (is_name same_birth b) w.bindings }
 basic w (AddsHandle pid h) = record w { handles = change (is_table pid) (with_handle h) w.handles }
 basic w (DropsHandle pid value) = record w { handles = change (is_table pid) (without_handle value) w.handles }
+basic w (AddsSection s) =
+    record w { sections = w.sections ++ s ∷ []; contents = in_known (λ rows. rows ++ zeros s ∷ []) w.contents }
+basic w (Writes b place new) =
+    record w { contents = in_known (change (is_content b) (written place new)) w.contents }
+basic w (Maps v) = record w { views = w.views ++ v ∷ [] }
+basic w (Unmaps pid base) = record w { views = without (is_view pid base) w.views }
+basic w (DropsViewsOf pid) = record w { views = without (is_view_in pid) w.views }
 
 -- the entries that a basic step makes
 abbrev pub told : Basic → List Entry

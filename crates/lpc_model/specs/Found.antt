@@ -8,7 +8,7 @@ use Rattle.lpc_base.specs.Rows.{each, first, has, count, passes, when, which}
 use Rattle.lpc_message.specs.declared.kind.TheConstants.{DATAGRAM}
 use Rattle.lpc_message.specs.declared.message.ClientId.{ClientId}
 use Rattle.lpc_model.specs.Message.{asks, is_connection_request}
-use Rattle.lpc_model.specs.World.{World, Birth, ObjectKind, ObjectName, Message, ProcessRow, ThreadRow, HandleRow, HandleTable, PortRow, MessageRow, WaitRow, UsedThread, Accepted, Connect, Listen, Receive, Request}
+use Rattle.lpc_model.specs.World.{World, Birth, ObjectKind, ObjectName, Message, ProcessRow, ThreadRow, HandleRow, HandleTable, PortRow, MessageRow, WaitRow, UsedThread, SectionRow, ContentRow, ViewRow, Accepted, Connect, Listen, Receive, Request}
 
 -- Names
 -- an optional name is this one
@@ -185,6 +185,37 @@ context_of p = elim p.kind [
 abbrev pub pair_of : World → Birth → Option Birth
 pair_of w b = option_and_then (λ p. p.pair) (port_row w b)
 
+-- Sections and views
+-- the name of a section
+abbrev pub section_name : Birth → ObjectName
+section_name b = record { kind = kind.Section; birth = b }
+
+-- the section of a birth, and the bytes of that section
+abbrev pub is_section : Birth → SectionRow → Bool
+is_section b s = same_birth s.birth b
+
+abbrev pub is_content : Birth → ContentRow → Bool
+is_content b c = same_birth c.section b
+
+-- the section row with a birth
+abbrev pub section_row : World → Birth → Option SectionRow
+section_row w b = first (is_section b) w.sections
+
+-- a view of a process; its view at a base
+abbrev pub is_view_in : ℕ → ViewRow → Bool
+is_view_in pid v = v.process == pid
+
+abbrev pub is_view : ℕ → ℕ → ViewRow → Bool
+is_view pid base v = is_view_in pid v && (v.base == base)
+
+-- the views of a process
+abbrev pub views_of : World → ℕ → List ViewRow
+views_of w pid = which (is_view_in pid) w.views
+
+-- a view shows the section
+abbrev pub shows_section : Birth → ViewRow → Bool
+shows_section b v = same_birth v.section b
+
 -- Queues and waits
 -- a message of a queue
 abbrev pub is_queued : Birth → MessageRow → Bool
@@ -336,15 +367,15 @@ abbrev pub is_life : Birth → ThreadRow → Bool
 is_life b t = t.live && same_birth t.birth b
 
 -- How many rows but handles count for an object. A port: ports whose other end it is, those whose connection port it is, queued
--- messages that were sent on it, waits that were made on it, registrations of live threads. A process: its live threads. A thread:
--- itself, while it lives.
--- A queue and a name don't count for their port. There are no sections and tokens yet.
+-- messages that were sent on it, waits that were made on it, registrations of live threads. A section: views that show it. A
+-- process: its live threads. A thread: itself, while it lives.
+-- A queue and a name don't count for their port. There are no tokens yet.
 abbrev pub holders : World → ObjectKind → Birth → ℕ
 holders w kind.Port b =
     count (is_paired_to b) w.ports + (count (is_connected_to b) w.ports
     + (count (is_sent_on b) w.messages + (count (is_made_on b) w.waits
     + count (same_birth b) (all_registrations w))))
-holders w kind.Section b = 0
+holders w kind.Section b = count (shows_section b) w.views
 holders w kind.Token b = 0
 holders w kind.Process b = count (lives_by w b) w.threads
 holders w kind.Thread b = count (is_life b) w.threads
@@ -353,7 +384,7 @@ holders w kind.Thread b = count (is_life b) w.threads
 abbrev pub pointer_count : World → ObjectName → ℕ
 pointer_count w o = handle_count w o + holders w o.kind o.birth
 
--- the objects: a process, a thread and a port are objects
+-- the objects: a section, a process, a thread and a port are objects
 abbrev pub process_name : Birth → ObjectName
 process_name b = record { kind = kind.Process; birth = b }
 
@@ -362,9 +393,9 @@ thread_name b = record { kind = kind.Thread; birth = b }
 
 abbrev pub object_names : World → List ObjectName
 object_names w =
-    map (λ p. process_name p.birth) w.processes ++ (map (λ t. thread_name t.birth) w.threads
-    ++ map (λ p. port_name p.birth) w.ports)
+    map (λ s. section_name s.birth) w.sections ++ (map (λ p. process_name p.birth) w.processes
+    ++ (map (λ t. thread_name t.birth) w.threads ++ map (λ p. port_name p.birth) w.ports))
 
 -- how many object rows there are
 abbrev pub objects : World → ℕ
-objects w = length w.processes + length w.threads + length w.ports
+objects w = length w.sections + (length w.processes + length w.threads + length w.ports)

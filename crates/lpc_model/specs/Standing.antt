@@ -3,8 +3,8 @@ use Rattle.std.specs.Prelude.{◌≡◌, ℕ, ◌&&◌, ◌||◌, Bool, true, fa
 use Rattle.std.specs.List.{AllByRecursion}
 use Rattle.lpc_base.specs.Rows.{every, has, passes}
 use Rattle.lpc_model.specs.declared.entry.ObjectKind.TheVariants as kind
-use Rattle.lpc_model.specs.World.{Birth, HandleRow, ObjectKind, PortRow, WaitRow, World}
-use Rattle.lpc_model.specs.Found.{all_registrations, is_born_process, is_born_thread, is_connected_to, is_paired_to, is_port, is_request, port_row}
+use Rattle.lpc_model.specs.World.{Birth, HandleRow, ObjectKind, PortRow, ViewRow, WaitRow, World}
+use Rattle.lpc_model.specs.Found.{all_registrations, is_born_process, is_born_thread, is_connected_to, is_paired_to, is_port, is_request, is_section, port_row}
 use Rattle.lpc_model.specs.Lines.{ScriptLine}
 use Rattle.lpc_model.specs.Machine.{step}
 use Rattle.lpc_model.specs.Run.{run_of}
@@ -15,10 +15,14 @@ use Rattle.lpc_model.specs.SoundWaits.{HasShutConnects, IsSoundWorld}
 abbrev pub port_stands : World → Birth → Bool
 port_stands w b = has (is_port b) w.ports
 
--- the object of a name stands: a port, a process or a thread; there are no sections and tokens yet
+-- the section of a birth stands
+abbrev pub section_stands : World → Birth → Bool
+section_stands w b = has (is_section b) w.sections
+
+-- the object of a name stands: a port, a section, a process or a thread; there are no tokens yet
 abbrev pub stands_as : World → ObjectKind → Birth → Bool
 stands_as w kind.Port b = port_stands w b
-stands_as w kind.Section b = false
+stands_as w kind.Section b = section_stands w b
 stands_as w kind.Token b = false
 stands_as w kind.Process b = has (is_born_process b) w.processes
 stands_as w kind.Thread b = has (is_born_thread b) w.threads
@@ -34,13 +38,18 @@ is_near x p = is_port x.queue p || (is_connected_to x.queue p || (is_request x &
 abbrev pub has_near_queue : World → WaitRow → Bool
 has_near_queue w x = passes (port_row w x.port) (is_near x)
 
+-- the section that a view shows stands
+abbrev pub shows_standing : World → ViewRow → Bool
+shows_standing w v = section_stands w v.section
+
 -- each handle names an object that stands; each queued message was sent on a port that stands, each wait was made on
--- one, near its queue, and live threads registered such ports
+-- one, near its queue, and live threads registered such ports; each view shows a section that stands
 pub record NamesWhatStands (w : World) : Type 0 where
   pub handles : every (λ t. every (names_object w) t.rows) w.handles ≡ true
   pub senders : every (λ m. has (is_port m.sender) w.ports) w.messages ≡ true
   pub queues : every (has_near_queue w) w.waits ≡ true
   pub registrations : every (port_stands w) (all_registrations w) ≡ true
+  pub views : every (shows_standing w) w.views ≡ true
 
 -- the step of each line keeps that in a sound world whose ports are linked, and where no connect waits on an open port
 abbrev pub StepsNameWhatStands : Type 0

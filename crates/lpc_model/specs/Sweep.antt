@@ -3,7 +3,7 @@ use Rattle.std.specs.Prelude.{Bool, true, false, List, [], ◌∷◌, map, ◌==
 use Rattle.lpc_base.specs.Rows.{which}
 use Rattle.lpc_model.specs.World.{ObjectName, World}
 use Rattle.lpc_model.specs.Found.{object_names, pointer_count}
-use Rattle.lpc_model.specs.Basics.{Basic, Cuts, Dies, DropsHandle, Empties, Frees, Joins, Steps, Takes, TakesConnect, Unregisters, Wakes, Withdraws, ◌▹◌}
+use Rattle.lpc_model.specs.Basics.{Basic, Cuts, Dies, DropsHandle, DropsViewsOf, Empties, Frees, Joins, Steps, Takes, TakesConnect, Unmaps, Unregisters, Wakes, Withdraws, ◌▹◌}
 
 -- no row counts for the object
 abbrev pub is_unheld : World → ObjectName → Bool
@@ -35,6 +35,8 @@ loosens (Joins client server context) = true
 loosens (Cuts b) = true
 loosens (Frees o) = true
 loosens (DropsHandle pid value) = true
+loosens (Unmaps pid base) = true
+loosens (DropsViewsOf pid) = true
 loosens b = false
 
 -- one of the steps does, or one before them did

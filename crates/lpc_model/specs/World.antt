@@ -93,9 +93,38 @@ pub record WaitRow : Type 0 where
   pub identifier : ℕ
   pub received : Bool
 
+-- A section, which the process in its birth made: how many bytes it has, a multiple of the page size, and whether they
+-- may be written.
+pub record SectionRow : Type 0 where
+  pub birth : Birth
+  pub size : ℕ
+  pub writable : Bool
+
+-- the bytes of a section
+pub record ContentRow : Type 0 where
+  pub section : Birth
+  pub bytes : List ℕ
+
+-- The bytes of the sections. They are unknown in no world of a run; a world with unknown bytes stands for all worlds that
+-- differ from it in bytes alone.
+pub data Contents : Type 0 where
+  Known : List ContentRow → Contents
+  Unknown : Contents
+
+-- A view of a process: a range of its addresses that shows the bytes of a section from an offset on, whether they may be
+-- written through it, and the port that owns it, none where a call mapped it by itself.
+pub record ViewRow : Type 0 where
+  pub process : ℕ
+  pub base : ℕ
+  pub size : ℕ
+  pub section : Birth
+  pub offset : ℕ
+  pub writable : Bool
+  pub owner : Option Birth
+
 -- Handles stand by process in order of making, and in each process by value; every other list is in order of making. A
 -- number that was used is never removed from the used ones. The name space binds paths to directories, to links, and to
--- ports by their births.
+-- ports by their births. The bytes of sections stand apart from their rows.
 pub record World : Type 0 where
   pub processes : List ProcessRow
   pub threads : List ThreadRow
@@ -106,6 +135,9 @@ pub record World : Type 0 where
   pub messages : List MessageRow
   pub waits : List WaitRow
   pub bindings : Bindings Birth
+  pub sections : List SectionRow
+  pub contents : Contents
+  pub views : List ViewRow
 
 -- the world before the first line
 abbrev pub no_rows : World
@@ -119,4 +151,7 @@ no_rows = record {
   messages = [];
   waits = [];
   bindings = [];
+  sections = [];
+  contents = Known [];
+  views = [];
 }

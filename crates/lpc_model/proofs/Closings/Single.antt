@@ -93,7 +93,6 @@ not-both : (a b : Bool) → not a ≡ true → not (a && b) ≡ true
 not-both a b is = grind arith
 
 freed-untold : (w : World) (k : ObjectKind) (b : Birth) → HasSingleClosings w → HasSingleClosings (freed w k b)
-freed-untold w kind.Section b u = u
 freed-untold w kind.Token b u = u
 freed-untold w e b u = record { closed = u.closed; once = u.once; connects = u.connects }
 

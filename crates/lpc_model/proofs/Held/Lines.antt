@@ -11,7 +11,7 @@ use Rattle.lpc_model.proofs.Steps.Closing.{behind}
 use Rattle.lpc_model.proofs.Calls.Creating.{process-keeps, threaded}
 use Rattle.lpc_model.proofs.Steps.Ending.{answered_end}
 use Rattle.lpc_model.proofs.Steps.Handles.{open-count, open-new}
-use Rattle.lpc_model.proofs.Held.Steps.{counts-more, handle-count, handles-push, held-some, holds-port, keeps_lives, lives-all, lives-handle, lives-more, loosened-on, not-less, ports-more, push-more, quiet-all, steady-keeps}
+use Rattle.lpc_model.proofs.Held.Steps.{counts-more, handle-count, handle-sections, handles-push, held-some, holds-port, keeps_lives, lives-all, lives-handle, lives-more, loosened-on, not-less, ports-more, push-more, quiet-all, quiet-sections, sections-all, sections-more, steady-keeps}
 use Rattle.lpc_model.proofs.Calls.Lines.{AnyWorld, IsCalled, LineLaw, line-does}
 use Rattle.lpc_model.proofs.Linked.Steps.{is_steady}
 use Rattle.lpc_model.proofs.Calls.Outcomes.{AreDoomed, Outcomes, all, one}
@@ -29,9 +29,9 @@ use Rattle.lpc_model.specs.Counts.{asked}
 use Rattle.lpc_model.specs.Creation.{gives_life, making_process, making_thread, second_birth}
 use Rattle.lpc_model.specs.Death.{cut_accepted, die, end_threads}
 use Rattle.lpc_model.specs.Entering.{enter, row_of}
-use Rattle.lpc_model.specs.Found.{all_registrations, free_handle, handle_count, is_connected_to, is_life, is_made_on, is_paired_to, is_sent_on, is_table, is_thread, live_threads, lives_by, lives_in, port_name, process_name, registered_by, same_birth, same_object, thread_name, wait_of, was_process}
+use Rattle.lpc_model.specs.Found.{all_registrations, free_handle, handle_count, is_connected_to, is_life, is_made_on, is_paired_to, is_sent_on, is_table, is_thread, live_threads, lives_by, lives_in, port_name, process_name, registered_by, same_birth, same_object, section_name, shows_section, thread_name, wait_of, was_process}
 use Rattle.lpc_model.specs.Lines.{ScriptLine}
-use Rattle.lpc_model.specs.Linked.{AreLivesHeld, HasHeldPorts, HasHeldRows}
+use Rattle.lpc_model.specs.Linked.{AreLivesHeld, HasHeldPorts, HasHeldRows, HasHeldSections}
 use Rattle.lpc_model.specs.Machine.{bare_steps, directive_birth, new_process, new_thread}
 use Rattle.lpc_model.specs.Request.{datagram_steps, receive_steps, request_steps, sent_by}
 use Rattle.lpc_model.specs.SoundWaits.{IsSoundWorld}
@@ -118,6 +118,11 @@ created-lives w by kind s held =
     let made = basic (basic w (DrawsOrdinal by.number)) (Makes (new_port (next_birth by) kind)) in
     lives-handle made by.process (port_name (next_birth by)) PORT_ACCESS (s.tables by.process) (lives-all w (DrawsOrdinal by.number ∷ Makes (new_port (next_birth by) kind) ∷ []) refl held)
 
+created-sections : (w : World) (by : ThreadRow) (kind : PortKind) → CanCall w by → IsSoundWorld w → HasHeldSections w → HasHeldSections (world_after w (create_steps by (Makes (new_port (next_birth by) kind) ∷ []) (free_handle w by.process)))
+created-sections w by kind c s held =
+    let made = basic (basic w (DrawsOrdinal by.number)) (Makes (new_port (next_birth by) kind)) in
+    handle-sections made by.process (port_name (next_birth by)) PORT_ACCESS (s.tables by.process) (sections-all w (DrawsOrdinal by.number ∷ Makes (new_port (next_birth by) kind) ∷ []) refl held)
+
 -- the client port of a connect has a wait
 last-some : (a b c d e f : ℕ) → 1 ≤ e → 1 ≤ a + (b + (c + (d + (e + f))))
 last-some a b c d e f some = omega (arith, some)
@@ -200,6 +205,9 @@ module _ (w : World) (pid tid : ℕ) (maker : Option ℕ) (birth next : Birth) w
 
   boot-ports : HasHeldPorts w → HasHeldPorts booted
   boot-ports held = ports-more w booted (λ b. counts-more _ (count (is_paired_to b) w.ports) (count (is_connected_to b) w.ports) (count (is_sent_on b) w.messages) (count (is_made_on b) w.waits) _ _ _ _ _ _ _ (booted-handles (port_name b)) (omega arith) (omega arith) (omega arith) (omega arith) (not-less _ _ (ap (count (same_birth b)) (push-each registered_by booted_thread refl w.threads)))) held
+
+  boot-sections : HasHeldSections w → HasHeldSections booted
+  boot-sections held = sections-more w booted (λ b. both-more _ _ (count (shows_section b) w.views) _ (booted-handles (section_name b)) (omega arith)) held
 
 -- a thread that is made has registered no port
 further-ports : (w : World) (tid pid : ℕ) (birth : Birth) → HasHeldPorts w → HasHeldPorts (basic w (AddsThread (new_thread tid pid birth)))
@@ -321,6 +329,18 @@ ports_kept w line s held quiet = line-quiet HasHeldPorts (record {
   threads = further-ports;
 }) w line s quiet held
 
+-- and each section row, where the line lets no name go
+pub sections_kept : (w : World) (line : ScriptLine) → IsSoundWorld w → HasHeldSections w → loosened false (bare_steps line w) ≡ false → HasHeldSections (world_after w (bare_steps line w))
+sections_kept w line s held quiet = line-quiet HasHeldSections (record {
+  steady = quiet-sections;
+  gives = handle-sections;
+  binds = λ w path node held. held;
+  creates = created-sections;
+  connects = λ w by connection m. sections-all w (connect_start by connection m) refl;
+  boots = boot-sections;
+  threads = λ w tid pid birth. sections-all w (AddsThread (new_thread tid pid birth) ∷ []) refl;
+}) w line s quiet held
+
 -- so such a line leaves no row that no row names
 pub quiet_line : (w : World) (line : ScriptLine) → IsSoundWorld w → HasHeldRows w → loosened false (bare_steps line w) ≡ false → unheld (world_after w (bare_steps line w)) ≡ []
-quiet_line w line s held quiet = unheld_ports (world_after w (bare_steps line w)) (lives_kept w line s held.lives quiet) (ports_kept w line s held.ports quiet)
+quiet_line w line s held quiet = unheld_ports (world_after w (bare_steps line w)) (lives_kept w line s held.lives quiet) (ports_kept w line s held.ports quiet) (sections_kept w line s held.sections quiet)

@@ -10,7 +10,7 @@ use Rattle.lpc_base.proofs.Births.{birth-same, birth-self, birth-turned}
 use Rattle.lpc_base.proofs.Bools.{or-last, unless-more}
 use Rattle.lpc_model.specs.declared.entry.ObjectKind.TheVariants as kind
 use Rattle.lpc_model.specs.World.{Birth, ObjectKind, ObjectName, PortRow, World}
-use Rattle.lpc_model.specs.Found.{all_registrations, handle_count, is_connected_to, is_made_on, is_paired_to, is_port, is_sent_on, is_the, pair_of, port_name, port_row, process_name, same_birth, same_kind, same_object, thread_name}
+use Rattle.lpc_model.specs.Found.{all_registrations, handle_count, is_connected_to, is_made_on, is_paired_to, is_port, is_sent_on, is_the, pair_of, port_name, port_row, process_name, same_birth, same_kind, same_object, section_name, thread_name}
 use Rattle.lpc_model.specs.Basics.{Frees, basic, freed, world_after}
 use Rattle.lpc_model.specs.Sweep.{free_unheld, is_unheld, unheld}
 use Rattle.lpc_model.specs.Linked.{HasHeldPorts, IsLinked, is_root_port, is_mutual, is_rooted, names_nothing, passes_or_none}
@@ -68,7 +68,7 @@ freed-list (o ∷ os) w = at o.kind o.birth (freed-list os)
         let f = later (basic w (Frees (port_name b))) in
         record { ports = f.ports ∙ port-freed b b w.ports os; messages = f.messages; waits = f.waits; handles = f.handles }
     at kind.Section b later =
-        let f = later w in record { ports = f.ports ∙ other kind.Section b (λ p. refl); messages = f.messages; waits = f.waits; handles = f.handles }
+        let f = later (freed w kind.Section b) in record { ports = f.ports ∙ other kind.Section b (λ p. refl); messages = f.messages; waits = f.waits; handles = f.handles }
     at kind.Token b later =
         let f = later w in record { ports = f.ports ∙ other kind.Token b (λ p. refl); messages = f.messages; waits = f.waits; handles = f.handles }
     at kind.Process b later =
@@ -119,8 +119,9 @@ members w (z ∷ zs) = at (members w zs) (is_unheld w (port_name z.birth)) refl
 listed-ports : (w : World) → every (λ p. not (is_unheld w (port_name p.birth)) || is_listed (unheld w) p) w.ports ≡ true
 listed-ports w =
     every-more (λ p. not (is_unheld w (port_name p.birth)) || is_listed (which (is_unheld w) (port_names w.ports)) p) (λ p. not (is_unheld w (port_name p.birth)) || is_listed (unheld w) p)
-    (λ p is. unless-more (is_unheld w (port_name p.birth)) _ _ (λ one. has-behind (λ o. same_object (port_name p.birth) o) (is_unheld w) (map (λ q. process_name q.birth) w.processes) (map (λ t. thread_name t.birth) w.threads ++ port_names w.ports)
-    (has-behind (λ o. same_object (port_name p.birth) o) (is_unheld w) (map (λ t. thread_name t.birth) w.threads) (port_names w.ports) one)) is) w.ports (members w w.ports)
+    (λ p is. unless-more (is_unheld w (port_name p.birth)) _ _ (λ one. has-behind (λ o. same_object (port_name p.birth) o) (is_unheld w) (map (λ s. section_name s.birth) w.sections) (map (λ q. process_name q.birth) w.processes ++ (map (λ t. thread_name t.birth) w.threads ++ port_names w.ports))
+    (has-behind (λ o. same_object (port_name p.birth) o) (is_unheld w) (map (λ q. process_name q.birth) w.processes) (map (λ t. thread_name t.birth) w.threads ++ port_names w.ports)
+    (has-behind (λ o. same_object (port_name p.birth) o) (is_unheld w) (map (λ t. thread_name t.birth) w.threads) (port_names w.ports) one))) is) w.ports (members w w.ports)
 
 -- Who holds a port
 -- a row that isn't a port holds it; a port does

@@ -6,11 +6,11 @@ use Rattle.std.proofs.Math.Bool.{or-true}
 use Rattle.lpc_base.specs.Rows.{change, count, each, every, has, which}
 use Rattle.lpc_base.proofs.RowWords.{count-append, count-push, every-change, every-more}
 use Rattle.lpc_base.proofs.Bools.{first-true, number-apart, second-true}
-use Rattle.lpc_model.specs.World.{Birth, HandleRow, HandleTable, ObjectName, PortRow, ProcessRow, ThreadRow, World}
-use Rattle.lpc_model.specs.Found.{all_registrations, free_handle, handle_count, has_value, is_connected_to, is_life, is_made_on, is_paired_to, is_port, is_sent_on, is_table, is_thread, lives_by, pointer_count, port_name, process_name, registered_by, same_birth, same_object, thread_name, waits_as, waits_at}
-use Rattle.lpc_model.specs.Basics.{Accepts, AddsHandle, AddsProcess, AddsThread, Awaits, Basic, Binds, Completes, Cuts, Dies, DrawsIdentifier, DrawsOrdinal, DropsHandle, Empties, Enters, Frees, Joins, Makes, Receives, Registers, Takes, TakesConnect, Tells, Unbinds, Unregisters, Wakes, Withdraws, accepted, basic, completed, past_identifier, past_ordinal, put_handle, received, registering, unregistering, with_handle, world_after}
+use Rattle.lpc_model.specs.World.{Birth, HandleRow, HandleTable, ObjectName, PortRow, ProcessRow, SectionRow, ThreadRow, World}
+use Rattle.lpc_model.specs.Found.{all_registrations, free_handle, handle_count, has_value, is_connected_to, is_life, is_made_on, is_paired_to, is_port, is_sent_on, is_table, is_thread, lives_by, pointer_count, port_name, process_name, registered_by, same_birth, same_object, section_name, shows_section, thread_name, waits_as, waits_at}
+use Rattle.lpc_model.specs.Basics.{Accepts, AddsHandle, AddsProcess, AddsSection, AddsThread, Awaits, Basic, Binds, Completes, Cuts, Dies, DrawsIdentifier, DrawsOrdinal, DropsHandle, DropsViewsOf, Empties, Enters, Frees, Joins, Makes, Maps, Receives, Registers, Takes, TakesConnect, Tells, Unbinds, Unmaps, Unregisters, Wakes, Withdraws, Writes, accepted, basic, completed, past_identifier, past_ordinal, put_handle, received, registering, unregistering, with_handle, world_after}
 use Rattle.lpc_model.specs.Sweep.{is_unheld, loosened, loosens}
-use Rattle.lpc_model.specs.Linked.{AreLivesHeld, HasHeldPorts}
+use Rattle.lpc_model.specs.Linked.{AreLivesHeld, HasHeldPorts, HasHeldSections}
 use Rattle.lpc_model.specs.Tests.{handle_row}
 use Rattle.lpc_model.proofs.Steps.Rows.{count-change}
 use Rattle.lpc_model.proofs.Steps.Handles.{alone, value-free}
@@ -209,6 +209,66 @@ quiet-step w (Cuts b) is quiet held = absurd (cc)
 quiet-step w (DropsHandle pid value) is quiet held = absurd (cc)
 quiet-step w (Joins client server context) is quiet held = absurd (cc)
 quiet-step w (Frees o) is quiet held = absurd (cc)
+quiet-step w (AddsSection s) is quiet held = absurd (cc)
+quiet-step w (Writes b place new) is quiet held = held
+quiet-step w (Maps v) is quiet held = held
+quiet-step w (Unmaps pid base) is quiet held = absurd (cc)
+quiet-step w (DropsViewsOf pid) is quiet held = absurd (cc)
+
+-- Sections
+-- sections that were named are, where no count falls
+abbrev pub holds-section : World → SectionRow → Bool
+holds-section w s = not (is_unheld w (section_name s.birth))
+
+pub sections-more : (w v : World) → ((b : Birth) → pointer_count w (section_name b) ≤ pointer_count v (section_name b)) → HasHeldSections w → every (holds-section v) w.sections ≡ true
+sections-more w v more held = every-more (holds-section w) (holds-section v) (λ s is. held-more _ _ (more s.birth) is) w.sections held
+
+-- a further view, or a further handle
+pub more-views : (a b c : ℕ) → b ≤ c → a + b ≤ a + c
+more-views a b c is = omega (arith, is)
+
+more-handles : (a b c : ℕ) → a ≤ b → a + c ≤ b + c
+more-handles a b c is = omega (arith, is)
+
+pub handle-sections : (w : World) (pid : ℕ) (object : ObjectName) (access : ℕ) → count (is_table pid) w.handles ≤ 1 → HasHeldSections w → HasHeldSections (basic w (AddsHandle pid (handle_row (free_handle w pid) object access)))
+handle-sections w pid object access few held =
+    sections-more w (basic w (AddsHandle pid (handle_row (free_handle w pid) object access))) (λ b. more-handles (handle_count w (section_name b)) _ (count (shows_section b) w.views) (handle-count w pid object access (section_name b) few)) held
+
+-- steps that make no section, give and take no handle, and by which no object and no view goes
+abbrev pub keeps_sections : Basic → Bool
+keeps_sections (AddsProcess p) = false
+keeps_sections (AddsHandle pid h) = false
+keeps_sections (DropsHandle pid value) = false
+keeps_sections (Frees o) = false
+keeps_sections (AddsSection s) = false
+keeps_sections (Unmaps pid base) = false
+keeps_sections (DropsViewsOf pid) = false
+keeps_sections b = true
+
+sections-step : (w : World) (b : Basic) → keeps_sections b ≡ true → HasHeldSections w → HasHeldSections (basic w b)
+sections-step w (Maps v) is held = sections-more w (basic w (Maps v)) (λ b. more-views (handle_count w (section_name b)) _ _ (push-more (shows_section b) w.views v)) held
+sections-step w (AddsProcess p) is held = absurd (cc)
+sections-step w (AddsHandle pid h) is held = absurd (cc)
+sections-step w (DropsHandle pid value) is held = absurd (cc)
+sections-step w (Frees o) is held = absurd (cc)
+sections-step w (AddsSection s) is held = absurd (cc)
+sections-step w (Unmaps pid base) is held = absurd (cc)
+sections-step w (DropsViewsOf pid) is held = absurd (cc)
+sections-step w b is held = held
+
+pub sections-all : (w : World) (bs : List Basic) → every keeps_sections bs ≡ true → HasHeldSections w → HasHeldSections (world_after w bs)
+sections-all = steps-keep keeps_sections HasHeldSections sections-step
+
+-- a steady step that lets no name go does so
+steady-sections : (b : Basic) → is_steady b ≡ true → loosens b ≡ false → keeps_sections b ≡ true
+steady-sections (AddsProcess p) is quiet = absurd (cc)
+steady-sections (AddsHandle pid h) is quiet = absurd (cc)
+steady-sections (DropsHandle pid value) is quiet = absurd (cc)
+steady-sections (Frees o) is quiet = absurd (cc)
+steady-sections (AddsSection s) is quiet = absurd (cc)
+steady-sections (Unmaps pid base) is quiet = absurd (cc)
+steady-sections (DropsViewsOf pid) is quiet = absurd (cc)
+steady-sections b is quiet = refl
 
 -- what is loosened stays so
 or-false : (a : Bool) → (a || false) ≡ a
@@ -219,13 +279,21 @@ pub loosened-on : (bs : List Basic) → loosened true bs ≡ true
 loosened-on [] = refl
 loosened-on (b ∷ bs) = rw (or-true (loosens b)) (loosened-on bs)
 
-pub quiet-all : (w : World) (bs : List Basic) → every is_steady bs ≡ true → loosened false bs ≡ false → HasHeldPorts w → HasHeldPorts (world_after w bs)
-quiet-all w [] all quiet held = held
-quiet-all w (b ∷ bs) all quiet held =
+-- what each steady step keeps that lets no name go, such steps keep
+steady-keep : (Q : World → Type 0) → ((w : World) (b : Basic) → is_steady b ≡ true → loosens b ≡ false → Q w → Q (basic w b))
+    → (w : World) (bs : List Basic) → every is_steady bs ≡ true → loosened false bs ≡ false → Q w → Q (world_after w bs)
+steady-keep Q keeps w [] all quiet held = held
+steady-keep Q keeps w (b ∷ bs) all quiet held =
     let here : is_steady b ≡ true = grind arith in
     let later : every is_steady bs ≡ true = grind arith in
-    at (loosens b) refl here later (rw (or-false (loosens b)) at quiet) (λ off next. quiet-all (basic w b) bs later off next)
+    at (loosens b) refl here later (rw (or-false (loosens b)) at quiet) (λ off next. steady-keep Q keeps (basic w b) bs later off next)
   where
-    at : (c : Bool) → loosens b ≡ c → is_steady b ≡ true → every is_steady bs ≡ true → loosened c bs ≡ false → (loosened false bs ≡ false → HasHeldPorts (basic w b) → HasHeldPorts (world_after (basic w b) bs)) → HasHeldPorts (world_after (basic w b) bs)
+    at : (c : Bool) → loosens b ≡ c → is_steady b ≡ true → every is_steady bs ≡ true → loosened c bs ≡ false → (loosened false bs ≡ false → Q (basic w b) → Q (world_after (basic w b) bs)) → Q (world_after (basic w b) bs)
     at true is here later off more = let on = loosened-on bs in absurd (cc)
-    at false is here later off more = more off (quiet-step w b here is held)
+    at false is here later off more = more off (keeps w b here is held)
+
+pub quiet-all : (w : World) (bs : List Basic) → every is_steady bs ≡ true → loosened false bs ≡ false → HasHeldPorts w → HasHeldPorts (world_after w bs)
+quiet-all = steady-keep HasHeldPorts quiet-step
+
+pub quiet-sections : (w : World) (bs : List Basic) → every is_steady bs ≡ true → loosened false bs ≡ false → HasHeldSections w → HasHeldSections (world_after w bs)
+quiet-sections = steady-keep HasHeldSections (λ w b is quiet. sections-step w b (steady-sections b is quiet))

@@ -233,7 +233,7 @@ gone-linked w o none s l = at o.kind o.birth (is-zero (pointer_count w o) none)
   where
     at : (k : ObjectKind) (b : Birth) → pointer_count w (record { kind = k; birth = b }) ≤ 0 → IsLinked (basic w (Frees (record { kind = k; birth = b })))
     at kind.Port b few = port-gone w b few s l
-    at kind.Section b few = l
+    at kind.Section b few = linked-same w (freed w kind.Section b) refl (λ all. all) (λ all. all) l
     at kind.Token b few = l
     at kind.Process b few = linked-same w (freed w kind.Process b) refl (λ all. all) (λ all. all) l
     at kind.Thread b few = linked-same w (freed w kind.Thread b) refl (λ all. all) (λ all. all) l

@@ -6,7 +6,7 @@ use Rattle.lpc_model.specs.Linked.{HasHeldRows, IsLinked}
 use Rattle.lpc_model.proofs.Sound.Lines.{line-sound}
 use Rattle.lpc_model.proofs.Linked.Joins.{swept-linked}
 use Rattle.lpc_model.proofs.Held.Ports.{two-passes}
-use Rattle.lpc_model.proofs.Held.Lives.{processes-held, threads-held}
+use Rattle.lpc_model.proofs.Held.Lives.{processes-held, sections-held, threads-held}
 use Rattle.lpc_model.proofs.Linked.Steps.{is_plain, plain-all}
 use Rattle.lpc_model.proofs.Steps.InTurn.{after-append}
 use Rattle.std.proofs.Common.{List, None, Some, [], arith, refl, true, ◌∷◌, ◌≡◌}
@@ -104,7 +104,7 @@ swept-rows : (w : World) → IsLinked w → HasHeldRows (world_after w (sweep w)
 unfolding sweep
 swept-rows w l =
     let v = world_after w (free_unheld w) in
-    rw (after-append w (free_unheld w) (free_unheld v)) (record { ports = two-passes w l; lives = record { threads = threads-held w; processes = processes-held w } })
+    rw (after-append w (free_unheld w) (free_unheld v)) (record { ports = two-passes w l; lives = record { threads = threads-held w; processes = processes-held w }; sections = sections-held w })
 
 pub held_step : (w : World) (line : ScriptLine) → IsSoundWorld w → IsLinked w → HasHeldRows (step w line).world
 held_step w line s l =

@@ -12,7 +12,7 @@ use Rattle.lpc_names.specs.Walk.{LinkTo, Stands}
 use Rattle.lpc_names.specs.declared.names.Found.TheVariants.{Directory, Item}
 use Rattle.lpc_model.specs.World.{Birth, Node, PortRow, WaitRow, World}
 use Rattle.lpc_model.specs.Found.{is_offered, is_port, is_the, pair_of, port_row, same_birth, waits_as, waits_at}
-use Rattle.lpc_model.specs.Basics.{Accepts, AddsHandle, AddsProcess, AddsThread, Awaits, Basic, Binds, Completes, Cuts, Dies, DropsHandle, Frees, Joins, Makes, Receives, Tells, Unbinds, Wakes, accepted, basic, completed, cut, is_end_of, received, world_after}
+use Rattle.lpc_model.specs.Basics.{Accepts, AddsHandle, AddsProcess, AddsSection, AddsThread, Awaits, Basic, Binds, Completes, Cuts, Dies, DropsHandle, Frees, Joins, Makes, Receives, Tells, Unbinds, Wakes, accepted, basic, completed, cut, is_end_of, received, world_after}
 use Rattle.lpc_model.specs.Linked.{IsLinked, is_root_port, is_lone_offer, is_mutual, is_rooted, is_unjoined, leads_to_root, names_nothing, passes_or_none}
 use Rattle.lpc_model.proofs.Sound.Pairs.{tied}
 use Rattle.lpc_model.proofs.Sound.Ties.{completed-birth}
@@ -81,13 +81,14 @@ is_plain (Joins client server context) = false
 is_plain (Frees o) = false
 is_plain b = true
 
--- steps that do so, make no process, thread or handle, end no thread, and let no handle go
+-- steps that do so, make no process, thread, section or handle, end no thread, and let no handle go
 abbrev pub is_steady : Basic → Bool
 is_steady (AddsProcess p) = false
 is_steady (AddsThread t) = false
 is_steady (AddsHandle pid h) = false
 is_steady (DropsHandle pid value) = false
 is_steady (Dies who status) = false
+is_steady (AddsSection s) = false
 is_steady b = is_plain b
 
 pub steady-plain : (b : Basic) → is_steady b ≡ true → is_plain b ≡ true
@@ -96,6 +97,7 @@ steady-plain (AddsThread t) is = refl
 steady-plain (AddsHandle pid h) is = refl
 steady-plain (DropsHandle pid value) is = refl
 steady-plain (Dies who status) is = refl
+steady-plain (AddsSection s) is = refl
 steady-plain b is = is
 
 -- Ports that change alike

@@ -89,7 +89,6 @@ abbrev AreOpen : World → List Basic → Type 0
 AreOpen w bs = every (is_open_step w) bs ≡ true
 
 freed-kept : (w : World) (k : ObjectKind) (b : Birth) → KeepsOpen w (freed w k b)
-freed-kept w kind.Section b = kept w w (λ b is. is) (λ all. all) (λ all. all) (λ all. all)
 freed-kept w kind.Token b = kept w w (λ b is. is) (λ all. all) (λ all. all) (λ all. all)
 freed-kept w e b = kept w (freed w e b) (λ b is. is) (λ all. all) (λ all. all) (λ all. all)
 

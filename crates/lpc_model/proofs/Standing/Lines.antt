@@ -32,7 +32,7 @@ use Rattle.lpc_model.specs.Creation.{new_process, new_thread, second_birth}
 use Rattle.lpc_model.specs.Death.{die}
 use Rattle.lpc_model.specs.Entering.{enter, given_steps, received_steps, row_of, shown, take_connect_steps, take_steps, takes, woken}
 use Rattle.lpc_model.specs.Fields.{h, info, max}
-use Rattle.lpc_model.specs.Found.{free_handle, is_born_process, is_born_thread, is_connected_to, is_made_on, is_paired_to, is_port, is_request, is_the, pair_of, port_name, port_row, same_birth}
+use Rattle.lpc_model.specs.Found.{free_handle, is_born_process, is_born_thread, is_connected_to, is_made_on, is_paired_to, is_port, is_request, is_section, is_the, pair_of, port_name, port_row, same_birth}
 use Rattle.lpc_model.specs.Lines.{ScriptLine}
 use Rattle.lpc_model.specs.Linked.{IsLinked, is_lone_offer, is_unjoined}
 use Rattle.lpc_model.specs.Machine.{bare_steps}
@@ -112,11 +112,12 @@ joined-near : (w : World) (client server : Birth) (context : ℕ) → passes (po
 joined-near w client server context one two n =
     let v = basic w (Joins client server context) in
     let k = kept w v (record {
+      sections = λ d is. is;
       ports = λ c is. rw (has-joined c) is;
       queues = near;
       processes = λ c is. is;
       threads = λ c is. is;
-    }) (λ all. all) (λ all. all) (λ all. all) (λ all. all) in
+    }) (λ all. all) (λ all. all) (λ all. all) (λ all. all) (λ all. all) in
     k.names n
   where
     has-mapped : (c : Birth) (ps : List PortRow) → has (is_port c) (map (joined client server context) ps) ≡ has (is_port c) ps
@@ -192,10 +193,12 @@ completed-names w c can n =
 fewer-names : (w v : World) → IsFewer w v → NamesWhatStands w → NamesWhatStands v
 fewer-names w v l n = record {
   handles = subst (λ hs. every (λ t. every (names_object v) t.rows) hs ≡ true) (sym l.handles) (every-more (λ t. every (names_object w) t.rows) (λ t. every (names_object v) t.rows)
-      (λ t is. every-more (names_object w) (names_object v) (object-kept w v (λ c is. subst (λ ps. has (is_port c) ps ≡ true) (sym l.ports) is) (λ c is. subst (λ ps. has (is_born_process c) ps ≡ true) (sym l.processes) is) (λ c is. subst (λ ts. has (is_born_thread c) ts ≡ true) (sym l.threads) is)) t.rows is) w.handles n.handles);
+      (λ t is. every-more (names_object w) (names_object v) (object-kept w v (λ c is. subst (λ ps. has (is_port c) ps ≡ true) (sym l.ports) is) (λ c is. subst (λ ps. has (is_born_process c) ps ≡ true) (sym l.processes) is) (λ c is. subst (λ ts. has (is_born_thread c) ts ≡ true) (sym l.threads) is)
+      (λ c is. subst (λ ss. has (is_section c) ss ≡ true) (sym l.sections) is)) t.rows is) w.handles n.handles);
   senders = rw l.ports (l.messages (λ m. has (is_port m.sender) w.ports) n.senders);
   queues = subst (λ ps. every (has_near_queue (tied ps [])) v.waits ≡ true) (sym l.ports) (l.waits (has_near_queue w) n.queues);
   registrations = rw (l.threads, l.ports) n.registrations;
+  views = rw (l.views, l.sections) n.views;
 }
 
 posted-names : (b : Birth) (w : World) → AreNaming w (post_closed b w)
@@ -304,4 +307,4 @@ pub names_step : StepsNameWhatStands
 names_step w line s shut l n = stepped NamesWhatStands w line swept-names (names_line w line s shut l n)
 
 pub names_none : NamesWhatStands no_rows
-names_none = record { handles = refl; senders = refl; queues = refl; registrations = refl }
+names_none = record { handles = refl; senders = refl; queues = refl; registrations = refl; views = refl }

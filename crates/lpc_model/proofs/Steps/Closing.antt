@@ -154,9 +154,11 @@ pub record IsFewer (w v : World) : Type 0 where
   pub handles : v.handles ≡ w.handles
   pub processes : v.processes ≡ w.processes
   pub threads : v.threads ≡ w.threads
+  pub sections : v.sections ≡ w.sections
+  pub views : v.views ≡ w.views
 
 fewer-none : (w : World) → IsFewer w w
-fewer-none w = record { waits = λ f all. all; messages = λ f all. all; counts = λ f. omega arith; bindings = λ f all. all; ports = refl; handles = refl; processes = refl; threads = refl }
+fewer-none w = record { waits = λ f all. all; messages = λ f all. all; counts = λ f. omega arith; bindings = λ f all. all; ports = refl; handles = refl; processes = refl; threads = refl; sections = refl; views = refl }
 
 fewer-then : (w v u : World) → IsFewer w v → IsFewer v u → IsFewer w u
 fewer-then w v u a b = record {
@@ -168,16 +170,18 @@ fewer-then w v u a b = record {
   handles = b.handles ∙ a.handles;
   processes = b.processes ∙ a.processes;
   threads = b.threads ∙ a.threads;
+  sections = b.sections ∙ a.sections;
+  views = b.views ∙ a.views;
 }
   where
     at-most : (k n m : ℕ) → k ≤ n → n ≤ m → k ≤ m
     at-most k n m one two = omega (arith, one, two)
 
 fewer-step : (w : World) (x : Basic) → takes_away x ≡ true → IsFewer w (basic w x)
-fewer-step w (Wakes who call status fields) is = record { waits = λ f all. every-without f (waits_as who) w.waits all; messages = λ f all. all; counts = λ f. omega arith; bindings = λ f all. all; ports = refl; handles = refl; processes = refl; threads = refl }
-fewer-step w (Withdraws who) is = record { waits = λ f all. all; messages = λ f all. every-without f (is_own_of who) w.messages all; counts = λ f. count-left f (is_own_of who) w.messages; bindings = λ f all. all; ports = refl; handles = refl; processes = refl; threads = refl }
-fewer-step w (Empties q) is = record { waits = λ f all. all; messages = λ f all. every-without f (is_queued q) w.messages all; counts = λ f. count-left f (is_queued q) w.messages; bindings = λ f all. all; ports = refl; handles = refl; processes = refl; threads = refl }
-fewer-step w (Unbinds b) is = record { waits = λ f all. all; messages = λ f all. all; counts = λ f. omega arith; bindings = λ f all. every-without f (is_name same_birth b) w.bindings all; ports = refl; handles = refl; processes = refl; threads = refl }
+fewer-step w (Wakes who call status fields) is = record { waits = λ f all. every-without f (waits_as who) w.waits all; messages = λ f all. all; counts = λ f. omega arith; bindings = λ f all. all; ports = refl; handles = refl; processes = refl; threads = refl; sections = refl; views = refl }
+fewer-step w (Withdraws who) is = record { waits = λ f all. all; messages = λ f all. every-without f (is_own_of who) w.messages all; counts = λ f. count-left f (is_own_of who) w.messages; bindings = λ f all. all; ports = refl; handles = refl; processes = refl; threads = refl; sections = refl; views = refl }
+fewer-step w (Empties q) is = record { waits = λ f all. all; messages = λ f all. every-without f (is_queued q) w.messages all; counts = λ f. count-left f (is_queued q) w.messages; bindings = λ f all. all; ports = refl; handles = refl; processes = refl; threads = refl; sections = refl; views = refl }
+fewer-step w (Unbinds b) is = record { waits = λ f all. all; messages = λ f all. all; counts = λ f. omega arith; bindings = λ f all. every-without f (is_name same_birth b) w.bindings all; ports = refl; handles = refl; processes = refl; threads = refl; sections = refl; views = refl }
 fewer-step w x is = absurd (cc)
 
 fewer-all : (w : World) (bs : List Basic) → TakeAway bs → IsFewer w (world_after w bs)

@@ -12,7 +12,7 @@ use Rattle.lpc_model.specs.declared.entry.CallName.{CallName}
 use Rattle.lpc_model.specs.declared.entry.CallName.TheVariants.{NtTerminateThread}
 use Rattle.lpc_model.specs.World.{Birth, Creator, HandleRow, HandleTable, MessageRow, PortRow, ThreadRow, WaitRow, World}
 use Rattle.lpc_model.specs.Found.{handle_at, handles_of, has_value, is_accepted, is_live, is_open, is_port, is_table, port_row, route, rows_in, wait_of, way}
-use Rattle.lpc_model.specs.Basics.{Accepts, AddsHandle, AddsProcess, AddsThread, Awaits, Basic, Binds, Completes, Cuts, Dies, DrawsIdentifier, DrawsOrdinal, DropsHandle, Empties, Frees, Joins, Makes, Receives, Registers, Steps, Takes, TakesConnect, Unbinds, Unregisters, Wakes, Withdraws, basic, doing, in_turn, provided, without_handle, world_after, ◌▹◌}
+use Rattle.lpc_model.specs.Basics.{Accepts, AddsHandle, AddsProcess, AddsSection, AddsThread, Awaits, Basic, Binds, Completes, Cuts, Dies, DrawsIdentifier, DrawsOrdinal, DropsHandle, Empties, Frees, Joins, Makes, Maps, Receives, Registers, Steps, Takes, TakesConnect, Unbinds, Unmaps, Unregisters, Wakes, Withdraws, Writes, basic, doing, in_turn, provided, without_handle, world_after, ◌▹◌}
 use Rattle.lpc_model.specs.Entering.{enter, received_steps, row_of}
 use Rattle.lpc_model.specs.Refusal.{refuse_if}
 use Rattle.lpc_model.specs.Lines.{ProcArg}
@@ -54,6 +54,10 @@ is_ending (Completes b) = false
 is_ending (Frees o) = false
 is_ending (Binds path node) = false
 is_ending (AddsHandle pid h) = false
+is_ending (AddsSection s) = false
+is_ending (Writes b place new) = false
+is_ending (Maps v) = false
+is_ending (Unmaps pid base) = false
 is_ending b = true
 
 abbrev pub AreEnding : List Basic → Type 0
