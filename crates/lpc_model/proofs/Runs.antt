@@ -50,12 +50,13 @@ lawful_none = record {
   registrations = refl;
   single = refl;
   living = refl;
+  views = refl;
   pairs = refl;
 }
 
 -- and behind each line
 pub lawful_step : (w : World) (line : ScriptLine) → IsLawfulWorld w → IsLawfulWorld (step w line).world
-lawful_step w line t = let shut = t.single_closings in let safe : IsSafe w = record { sound = t.sound; shut = shut.connects } in record {
+lawful_step w line t = let shut = t.single_closings in let safe : IsSafe w = record { sound = t.sound; shut = shut.connects } in let living = living_step w line safe t.threads (record { handles = t.living; views = t.views }) in record {
   sound = sound_step w line t.sound shut.connects;
   linked = linked_step w line t.sound shut.connects t.linked;
   held = held_step w line t.sound t.linked;
@@ -66,7 +67,8 @@ lawful_step w line t = let shut = t.single_closings in let safe : IsSafe w = rec
   threads = once_step w line t.sound shut.connects t.threads;
   registrations = living_registrations_step w line t.sound t.threads t.registrations;
   single = single_step w line t.sound t.threads t.single;
-  living = living_step w line safe t.threads t.living;
+  living = living.handles;
+  views = living.views;
   pairs = pairs_step w line safe t.pairs;
 }
 
@@ -123,7 +125,7 @@ pub deaths_told_run : (bytes : List ℕ) → RunTellsDeaths bytes
 deaths_told_run bytes = along-keeps DeathsAreTold (λ w line t. deaths_told w line t.sound t.threads) no_rows (said_in bytes) lawful_none
 
 pub leaves_nothing_run : (bytes : List ℕ) → RunLeavesNothing bytes
-leaves_nothing_run bytes = trace-keeps LeavesNothing (λ w t. bare w t.sound t.linked t.held t.queues t.living t.pairs) no_rows (said_in bytes) lawful_none
+leaves_nothing_run bytes = trace-keeps LeavesNothing (λ w t. bare w t.sound t.linked t.held t.queues t.living t.views t.pairs) no_rows (said_in bytes) lawful_none
 
 pub living_registrations_run : (bytes : List ℕ) → RunHasLivingRegistrations bytes
 living_registrations_run bytes = trace-keeps HasLivingRegistrations (λ w t. t.registrations) no_rows (said_in bytes) lawful_none

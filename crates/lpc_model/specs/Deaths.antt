@@ -6,7 +6,7 @@ use Rattle.lpc_base.specs.Rows.{each, every, first, given, when, which}
 use Rattle.lpc_message.specs.declared.kind.TheConstants.{CLIENT_DIED}
 use Rattle.lpc_model.specs.World.{Birth, MessageRow, ThreadRow, World}
 use Rattle.lpc_model.specs.Found.{is_thread, live_thread, same_birth}
-use Rattle.lpc_model.specs.Basics.{Basic, Dies, DropsHandle, Enters, Unbinds, Unregisters, basic, posts_of}
+use Rattle.lpc_model.specs.Basics.{Basic, Dies, DropsHandle, DropsViewsOf, Enters, Unbinds, Unregisters, basic, posts_of}
 use Rattle.lpc_model.specs.Death.{death_post}
 use Rattle.lpc_model.specs.Lines.{ScriptLine}
 use Rattle.lpc_model.specs.Machine.{steps}
@@ -54,13 +54,14 @@ deaths_posted w [] = []
 deaths_posted w (b ∷ bs) = death_posts w b ++ deaths_posted (basic w b) bs
 
 -- when a step comes in its line: first threads end, then registrations go and are told of, and then handles are closed,
--- which begins with a port's name where its last handle goes
+-- which begins with a port's name where its last handle goes, and views go
 abbrev pub rank_of : Basic → List ℕ
 rank_of (Dies who status) = 0 ∷ []
 rank_of (Unregisters who b) = 1 ∷ []
 rank_of (Enters m) = when (is_died_post m) (1 ∷ [])
 rank_of (Unbinds b) = 2 ∷ []
 rank_of (DropsHandle pid value) = 2 ∷ []
+rank_of (DropsViewsOf pid) = 2 ∷ []
 rank_of b = []
 
 -- no number stands behind a greater one

@@ -5,7 +5,7 @@ use Rattle.lpc_model.specs.World.{World}
 use Rattle.lpc_model.specs.Found.{is_thread}
 use Rattle.lpc_model.specs.Creators.{KeepsConnects}
 use Rattle.lpc_model.specs.Deaths.{HasLivingRegistrations, HasSingleRegistrations}
-use Rattle.lpc_model.specs.Left.{HasKeptPairs, HasLivingHandles}
+use Rattle.lpc_model.specs.Left.{HasKeptPairs, HasLivingHandles, HasLivingViews}
 use Rattle.lpc_model.specs.Lines.{ScriptLine}
 use Rattle.lpc_model.specs.Linked.{HasHeldRows, IsLinked}
 use Rattle.lpc_model.specs.Machine.{step}
@@ -21,7 +21,8 @@ HasThreadsOnce w = (n : ℕ) → count (is_thread n) w.threads ≤ 1
 -- Waits are sound, ports are linked, some row counts for each object, queues are open, and what rows name stands. Of a
 -- closed port that stays so one message at most tells that it is closed, and of an open one none does, and each client
 -- port keeps the connect in whose name that message is. A thread has one row, an ended one has no registrations, and no
--- port is registered twice. Only living processes have handles, and of the two ports of a connection one at least is open.
+-- port is registered twice. Only living processes have handles and views, and of the two
+-- ports of a connection one at least is open.
 pub record IsLawfulWorld (w : World) : Type 0 where
   pub sound : IsSoundWorld w
   pub linked : IsLinked w
@@ -34,6 +35,7 @@ pub record IsLawfulWorld (w : World) : Type 0 where
   pub registrations : HasLivingRegistrations w
   pub single : HasSingleRegistrations w
   pub living : HasLivingHandles w
+  pub views : HasLivingViews w
   pub pairs : HasKeptPairs w
 
 -- the step of each line keeps that

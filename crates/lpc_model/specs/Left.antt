@@ -2,17 +2,19 @@
 use Rattle.std.specs.Prelude.{◌≡◌, ℕ, ◌||◌, Bool, true, false, List, []}
 use Rattle.std.specs.List.{AllByRecursion}
 use Rattle.lpc_base.specs.Rows.{every, passes}
-use Rattle.lpc_model.specs.World.{HandleTable, PortRow, World}
+use Rattle.lpc_model.specs.World.{HandleTable, PortRow, ViewRow, World}
 use Rattle.lpc_model.specs.Found.{is_cut, is_live, is_open}
 use Rattle.lpc_model.specs.Run.{run_of}
 
--- no row of an object stands, no message, and no wait
+-- no row of an object stands, no message, no wait and no view
 pub record IsBare (w : World) : Type 0 where
   pub processes : w.processes ≡ []
   pub threads : w.threads ≡ []
   pub ports : w.ports ≡ []
+  pub sections : w.sections ≡ []
   pub messages : w.messages ≡ []
   pub waits : w.waits ≡ []
+  pub views : w.views ≡ []
 
 -- so it is where no process lives
 abbrev pub LeavesNothing : World → Type 0
@@ -35,6 +37,13 @@ is_living_table w t = is_live w t.process || lacks_handles t
 
 abbrev pub HasLivingHandles : World → Type 0
 HasLivingHandles w = every (is_living_table w) w.handles ≡ true
+
+-- a process that doesn't live has no views
+abbrev pub is_living_view : World → ViewRow → Bool
+is_living_view w v = is_live w v.process
+
+abbrev pub HasLivingViews : World → Type 0
+HasLivingViews w = every (is_living_view w) w.views ≡ true
 
 -- of two ports that are each other's other end one at least is open
 abbrev pub is_kept_pair : World → PortRow → Bool

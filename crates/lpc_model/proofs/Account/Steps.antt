@@ -10,7 +10,7 @@ use Rattle.lpc_base.specs.declared.status.TheConstants.{LPC_REPLY_LOST, PORT_DIS
 use Rattle.lpc_model.specs.World.{Creator, HandleRow, MessageRow, PortRow, ThreadRow, WaitRow, World}
 use Rattle.lpc_model.specs.Message.{asks, message_of}
 use Rattle.lpc_model.specs.Found.{handles_of, is_accepted, is_live, port_row, wait_of}
-use Rattle.lpc_model.specs.Basics.{Basic, Cuts, Dies, DropsHandle, Empties, Steps, Unregisters, Withdraws, doing, end_each, in_turn, provided, world_after, ◌▹◌}
+use Rattle.lpc_model.specs.Basics.{Basic, Cuts, Dies, DropsHandle, DropsViewsOf, Empties, Steps, Unregisters, Withdraws, doing, end_each, in_turn, provided, world_after, ◌▹◌}
 use Rattle.lpc_model.specs.Entering.{enter}
 use Rattle.lpc_model.specs.Close.{close_handle, close_port, closed_row, cut_pair, drop_name, empty_queue, end_accepted, end_offered, end_receives, end_request, end_requests, is_accepted_across, is_last, is_offered_to, is_queued_request, is_receive_across, is_receiver, is_request_across, is_request_on, post_closed, server_of, closing_post, wake}
 use Rattle.lpc_model.specs.Death.{cut_accepted, die, end_process, end_threads, post_death, post_deaths, death_post}
@@ -137,7 +137,7 @@ module _ (s : Receipt) (quiet : asks (message_of s.bytes) ≡ false) (w : World)
   end_balances pid code ts =
       then_balances (in_turn (die code) ts) (in_turn post_deaths ts ▹ provided (λ w. not (is_live w pid)) (end_process pid)) (turn_balances (die code) (die_balances code) ts)
       (then_balances (in_turn post_deaths ts) (provided (λ w. not (is_live w pid)) (end_process pid)) (turn_balances post_deaths (λ t. turn_balances (post_death t) (told_balances t) t.registrations) ts)
-      (provided_balances (λ w. not (is_live w pid)) (end_process pid) (λ v dry. turn_balances (close_handle pid) (handle_balances pid) (handles_of v pid) v dry)))
+      (provided_balances (λ w. not (is_live w pid)) (end_process pid) (λ v dry. then_balances (in_turn (close_handle pid) (handles_of v pid)) (doing (DropsViewsOf pid ∷ [])) (turn_balances (close_handle pid) (handle_balances pid) (handles_of v pid)) (plain_balances (doing (DropsViewsOf pid ∷ [])) (λ u. refl)) v dry)))
 
   -- Messages that are sent
   pub sent_balances : (m : MessageRow) (start : List Basic) → ArePlain start → HasDryQueues w w → AreBalanced s quiet w line w (start ++ enter m (world_after w start))

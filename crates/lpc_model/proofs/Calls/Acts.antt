@@ -21,7 +21,7 @@ use Rattle.lpc_model.proofs.Sound.Terminate.{IsSafe, die-safe, enter-safe, handl
 use Rattle.lpc_model.proofs.Steps.InTurn.{after-append}
 use Rattle.lpc_model.proofs.Calls.Tested.{CanComplete, can-complete, name-open, named-wait}
 use Rattle.lpc_model.proofs.Calls.Usable.{CanCall, IsUsable, by_port_kind, handle-open, if-same, port-usable, queue-open, routed}
-use Rattle.lpc_model.specs.Basics.{Accepts, AddsHandle, AddsProcess, AddsThread, Awaits, Basic, Completes, DrawsIdentifier, DrawsOrdinal, Joins, Makes, Registers, Steps, Tells, Unregisters, basic, in_turn, no_handles, with_handle, world_after}
+use Rattle.lpc_model.specs.Basics.{Accepts, AddsHandle, AddsProcess, AddsThread, Awaits, Basic, Completes, DrawsIdentifier, DrawsOrdinal, DropsViewsOf, Joins, Makes, Registers, Steps, Tells, Unregisters, basic, in_turn, no_handles, with_handle, world_after}
 use Rattle.lpc_model.specs.Close.{close_handle}
 use Rattle.lpc_model.specs.Closings.{is_closed_post}
 use Rattle.lpc_model.specs.Connect.{Completable, ConnectAnswer, answer_of, answer_test, client_port, complete_steps, complete_test, connect_wait, connection_request, is_accepted_on, listen_steps, listen_wait, named_steps, names_connect, server_port, unnamed_steps}
@@ -129,10 +129,11 @@ pub record Law (by : ThreadRow) (C K : World → Type 0) (P : World → List Bas
   -- a process is made with its thread, a thread is made
   pub spawns : (w : World) (pid tid : ℕ) → was_process w pid ≡ false → was_thread w tid ≡ false → IsSoundWorld w → P w (DrawsOrdinal by.number ∷ DrawsOrdinal by.number ∷ AddsProcess (new_process pid (Some by.process) (next_birth by)) ∷ AddsThread (new_thread tid pid (second_birth by)) ∷ [])
   pub starts : (w : World) (tid pid : ℕ) → is_live w pid ≡ true → was_thread w tid ≡ false → IsSoundWorld w → P w (DrawsOrdinal by.number ∷ AddsThread (new_thread tid pid (next_birth by)) ∷ [])
-  -- a handle goes, a thread ends, a registration goes
+  -- a handle goes, a thread ends, a registration goes, the views of a process go
   pub closes : (w : World) (pid : ℕ) (r : HandleRow) → handle_at w pid r.value ≡ Some r → IsSoundWorld w → K w → P w (close_handle pid r w)
   pub dies : (w : World) (code : Status) (t : ThreadRow) → IsSafe w → P w (die code t w)
   pub leaves : (w : World) (n : ℕ) (b : Birth) → P w (Unregisters n b ∷ [])
+  pub unmaps : (w : World) (pid : ℕ) → P w (DropsViewsOf pid ∷ [])
 
 -- what steps keep, steps behind others keep
 pub keeps_on : (Q : World → Type 0) (w : World) (xs ys : List Basic) → (Q w → Q (world_after w xs)) → (Q (world_after w xs) → Q (world_after (world_after w xs) ys)) → Q w → Q (world_after w (xs ++ ys))
@@ -358,7 +359,9 @@ module _ (by : ThreadRow) (C K : World → Type 0) (P : World → List Basic →
       (at (not (is_live (behind_told code ts w) pid)) (turn-keeps (IsFirm K) post_deaths (λ t v. turn-keeps (IsFirm K) (post_death t) (λ b u. death-firm t b u) t.registrations v) ts one dead)))
     where
       at : (last : Bool) → IsFirm K (behind_told code ts w) → P (behind_told code ts w) (when last (end_process pid (behind_told code ts w)))
-      at true is = let v = behind_told code ts w in handles-do pid (handles_of v pid) v refl is
+      at true is =
+          let v = behind_told code ts w in
+          k.follows v (in_turn (close_handle pid) (handles_of v pid) v) _ (handles-do pid (handles_of v pid) v refl is) (k.unmaps (behind (in_turn (close_handle pid) (handles_of v pid)) v) pid)
       at false is = k.nothing _
 
   ending : (w : World) (name : CallName) (own : Bool) (pid : ℕ) (code : Status) (ts : List ThreadRow) → IsFirm K w → P w (answered_end by name own pid code ts w)

@@ -95,6 +95,7 @@ keeping-law by = record {
   closes = λ w pid r at s _. ended-keeps (close_handle pid r w) (handle-ending pid r w);
   dies = λ w code t is. ended-keeps (die code t w) (die-ending code t w);
   leaves = λ w n b. refl;
+  unmaps = λ w pid. refl;
 }
 
 -- Lines

@@ -19,7 +19,7 @@ use Rattle.lpc_model.proofs.Steps.InTurn.{after-append}
 use Rattle.lpc_model.proofs.Closings.Told.{AreHushed, hushed-enter, hushed-receipt, is_hushed}
 use Rattle.lpc_model.proofs.Closings.ToldLines.{die-hushed}
 use Rattle.lpc_model.proofs.Calls.Usable.{CanCall}
-use Rattle.lpc_model.specs.Basics.{Accepts, AddsHandle, AddsProcess, AddsThread, Awaits, Basic, Completes, DrawsIdentifier, DrawsOrdinal, Joins, Makes, Registers, Unregisters, basic, world_after}
+use Rattle.lpc_model.specs.Basics.{Accepts, AddsHandle, AddsProcess, AddsThread, Awaits, Basic, Completes, DrawsIdentifier, DrawsOrdinal, DropsViewsOf, Joins, Makes, Registers, Unregisters, basic, world_after}
 use Rattle.lpc_model.specs.Closings.{is_closed_post}
 use Rattle.lpc_model.specs.Connect.{Completable, answer_of, client_port, connect_start, connect_wait, connection_request, is_accepted_on, named_steps, server_port, unnamed_steps}
 use Rattle.lpc_model.specs.Creation.{new_process, new_thread, second_birth}
@@ -152,6 +152,7 @@ untold-law by = record {
   closes = λ w pid r at s _. handle-untold w pid r at s;
   dies = λ w code t is. hushed-all w (die code t w) (die-hushed code t w);
   leaves = λ w n b. hushed-all w (Unregisters n b ∷ []) refl;
+  unmaps = λ w pid. hushed-all w (DropsViewsOf pid ∷ []) refl;
 }
 
 -- Lines

@@ -62,6 +62,7 @@ told-law by = record {
   closes = λ w pid r at s _. handle-tells w pid r at s;
   dies = λ w code t is. hushed-tells w (die code t w) (die-hushed code t w);
   leaves = λ w n b. refl;
+  unmaps = λ w pid. refl;
 }
 
 -- Lines

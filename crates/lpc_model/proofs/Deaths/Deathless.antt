@@ -16,7 +16,7 @@ use Rattle.lpc_model.proofs.Calls.Outcomes.{AreDoomed, Outcomes}
 use Rattle.lpc_model.proofs.Steps.Rows.{has-found}
 use Rattle.lpc_model.proofs.Calls.Taking.{is_taking, taken_at_once, taking-entered, taking-receipt}
 use Rattle.lpc_model.proofs.Calls.Usable.{CanCall}
-use Rattle.lpc_model.specs.Basics.{AddsHandle, AddsThread, Basic, Dies, DropsHandle, Empties, Enters, Frees, Receives, Registers, Takes, TakesConnect, Tells, Unbinds, Unregisters, Wakes, Withdraws, world_after}
+use Rattle.lpc_model.specs.Basics.{AddsHandle, AddsThread, Basic, Dies, DropsHandle, Empties, Enters, Frees, Maps, Receives, Registers, Takes, TakesConnect, Tells, Unbinds, Unregisters, Wakes, Withdraws, world_after}
 use Rattle.lpc_model.specs.Close.{close_handle, close_port, closed_row, closing_post, is_last, post_closed, server_of}
 use Rattle.lpc_model.specs.Connect.{Completable, client_port, complete_test, connect_start, connection_request, is_accepted_on}
 use Rattle.lpc_model.specs.Deaths.{is_died_post}
@@ -93,12 +93,13 @@ handle-deathless pid r w = at (is_last r w)
 
 -- Mild steps
 -- besides, no port is registered and no row goes; a thread that is made lives and has registered nothing, and a process that
--- gets a handle lives
+-- gets a handle or a view lives
 abbrev pub is_mild : World → Basic → Bool
 is_mild w (Registers who b) = false
 is_mild w (Frees o) = false
 is_mild w (AddsThread t) = t.live && (length t.registrations == 0)
 is_mild w (AddsHandle pid h) = is_live w pid
+is_mild w (Maps x) = is_live w x.process
 is_mild w b = is_deathless b
 
 abbrev pub AreMild : World → List Basic → Type 0
@@ -109,6 +110,7 @@ mild-deathless w (Registers who b) is = absurd (cc)
 mild-deathless w (Frees o) is = absurd (cc)
 mild-deathless w (AddsThread t) is = refl
 mild-deathless w (AddsHandle pid h) is = refl
+mild-deathless w (Maps x) is = refl
 mild-deathless w b is = is
 
 pub milds-deathless : (w : World) (bs : List Basic) → AreMild w bs → AreDeathless bs
@@ -119,6 +121,7 @@ ending-mild w (Registers who b) ends is = absurd (cc)
 ending-mild w (Frees o) ends is = absurd (cc)
 ending-mild w (AddsThread t) ends is = absurd (cc)
 ending-mild w (AddsHandle pid h) ends is = absurd (cc)
+ending-mild w (Maps x) ends is = absurd (cc)
 ending-mild w b ends is = is
 
 mild-enter : (w v : World) (m : MessageRow) → not (is_died_post m) ≡ true → AreMild w (enter m v)

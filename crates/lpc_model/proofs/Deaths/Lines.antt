@@ -356,7 +356,7 @@ end-deaths pid code ts w found = at (not (is_live (behind_told code ts w) pid))
         }
 
     at : (last : Bool) → TellsDeaths w (in_turn (die code) ts w ++ (in_turn post_deaths ts (behind_dead code ts w) ++ when last (end_process pid (behind_told code ts w))))
-    at true = ended-part (end_process pid (behind_told code ts w)) (turn-pass is_deathless (close_handle pid) (λ r u. handle-deathless pid r u) (handles_of (behind_told code ts w) pid) (behind_told code ts w))
+    at true = ended-part (end_process pid (behind_told code ts w)) (every-append is_deathless (in_turn (close_handle pid) (handles_of (behind_told code ts w) pid) (behind_told code ts w)) _ (turn-pass is_deathless (close_handle pid) (λ r u. handle-deathless pid r u) (handles_of (behind_told code ts w) pid) (behind_told code ts w)) refl)
     at false = ended-part [] refl
 
 -- The calls

@@ -9,7 +9,7 @@ use Rattle.lpc_base.specs.declared.status.TheConstants.{LPC_REPLY_LOST, PORT_DIS
 use Rattle.lpc_base.proofs.RowWords.{every-append, every-more}
 use Rattle.lpc_model.specs.World.{Birth, MessageRow, ThreadRow, WaitRow, World}
 use Rattle.lpc_model.specs.Found.{is_accepted, wait_of}
-use Rattle.lpc_model.specs.Basics.{Basic, Cuts, Dies, DropsHandle, Enters, Receives, Steps, Takes, TakesConnect, Unbinds, Unregisters, Wakes, Withdraws, basic, end_each, in_turn, world_after}
+use Rattle.lpc_model.specs.Basics.{Basic, Cuts, Dies, DropsHandle, DropsViewsOf, Enters, Receives, Steps, Takes, TakesConnect, Unbinds, Unregisters, Wakes, Withdraws, basic, end_each, in_turn, world_after}
 use Rattle.lpc_model.specs.Entering.{enter}
 use Rattle.lpc_model.specs.Close.{cut_pair, end_accepted, end_request, is_accepted_across, is_receive_across, is_request_across, wake}
 use Rattle.lpc_model.specs.Death.{cut_accepted, die, post_death, post_deaths, death_post}
@@ -77,6 +77,7 @@ highest (b ∷ bs) = every-append (λ n. nat_le n 2) (rank_of b) (each rank_of b
     of (Unregisters who p) = refl
     of (Unbinds p) = refl
     of (DropsHandle pid value) = refl
+    of (DropsViewsOf pid) = refl
     of b = refl
 
 -- no step that tells of no end has a lower rank than the last

@@ -1,4 +1,4 @@
--- Where no process lives, handles are of living processes alone and pairs are kept, nothing is left.
+-- Where no process lives, handles and views are of living processes alone and pairs are kept, nothing is left.
 use Rattle.std.proofs.Common.{◌≡◌, ℕ, List, [], ◌∷◌, ◌++◌, Bool, true, false, not, Option, Some, None, refl, arith}
 use Rattle.std.specs.Prelude.{◌&&◌, ◌||◌, is_none, is_some}
 use Rattle.std.proofs.lemmas.Bool.Decides.{nat_tests}
@@ -8,13 +8,13 @@ use Rattle.lpc_base.proofs.RowWords.{every-more, first-passes}
 use Rattle.lpc_base.proofs.RowMaps.{every-both}
 use Rattle.lpc_base.proofs.Bools.{first-true, or-second, second-true}
 use Rattle.lpc_model.specs.World.{Birth, HandleRow, HandleTable, PortRow, ThreadRow, WaitRow, World}
-use Rattle.lpc_model.specs.Found.{all_handles, is_connected_to, is_life, is_live, is_live_thread, is_open, is_paired_to, is_port, is_the, lives_by, lives_in, live_thread, names_port, port_name, process_name, registered_by, thread_name}
+use Rattle.lpc_model.specs.Found.{all_handles, is_connected_to, is_life, is_live, is_live_thread, is_open, is_paired_to, is_port, is_the, lives_by, lives_in, live_thread, names_port, port_name, process_name, registered_by, section_name, thread_name}
 use Rattle.lpc_model.specs.Sweep.{is_unheld}
 use Rattle.lpc_model.specs.Linked.{HasHeldRows, IsLinked, names_nothing}
 use Rattle.lpc_model.specs.OpenQueues.{HasOpenQueues}
 use Rattle.lpc_model.specs.SoundWaits.{IsSoundWorld, is_sound_as, is_sound_wait, waiter_of}
 use Rattle.lpc_model.specs.Tests.{is_client}
-use Rattle.lpc_model.specs.Left.{HasKeptPairs, HasLivingHandles, IsBare, is_kept_pair, is_living_table, lacks_handles}
+use Rattle.lpc_model.specs.Left.{HasKeptPairs, HasLivingHandles, HasLivingViews, IsBare, is_kept_pair, is_living_table, is_living_view, lacks_handles}
 use Rattle.lpc_model.proofs.Steps.Rows.{has-found, has-off}
 use Rattle.lpc_model.proofs.Steps.Handles.{open-count}
 use Rattle.lpc_model.proofs.Held.Ports.{connected-end, found-self, is_held_aside, unheld-parts}
@@ -76,7 +76,7 @@ none-handles w dead living = of w.handles (every-more (is_living_table w) lacks_
     of [] all = refl
     of (t ∷ ts) all = rw (empty t (first-true (lacks_handles t) (every lacks_handles ts) all), of ts (second-true (lacks_handles t) (every lacks_handles ts) all)) refl
 
-module _ (w : World) (s : IsSoundWorld w) (l : IsLinked w) (held : HasHeldRows w) (queues : HasOpenQueues w) (living : HasLivingHandles w) (pairs : HasKeptPairs w) (dead : (pid : ℕ) → is_live w pid ≡ false) where
+module _ (w : World) (s : IsSoundWorld w) (l : IsLinked w) (held : HasHeldRows w) (queues : HasOpenQueues w) (living : HasLivingHandles w) (viewing : HasLivingViews w) (pairs : HasKeptPairs w) (dead : (pid : ℕ) → is_live w pid ≡ false) where
   none : all_handles w ≡ []
   none = none-handles w dead living
 
@@ -167,5 +167,14 @@ module _ (w : World) (s : IsSoundWorld w) (l : IsLinked w) (held : HasHeldRows w
       off : (b : Birth) → has (is_connected_to b) w.ports ≡ false
       off b = has-off (is_connected_to b) w.ports (every-more names_nothing (λ p. not (is_connected_to b p)) (λ p is. unconnected b p.pair p.connection is) w.ports naming-nothing)
 
+  no-views : w.views ≡ []
+  no-views = none-left (is_living_view w) w.views viewing (λ x. dead x.process)
+
+  no-sections : w.sections ≡ []
+  no-sections = none-left (λ s. not (is_unheld w (section_name s.birth))) w.sections held.sections (λ s. off s.birth)
+    where
+      off : (b : Birth) → not (is_unheld w (section_name b)) ≡ false
+      off b = rw (none, no-views) refl
+
   pub bare : IsBare w
-  bare = record { processes = no-processes; threads = no-threads; ports = no-ports; messages = no-messages; waits = no-waits }
+  bare = record { processes = no-processes; threads = no-threads; ports = no-ports; sections = no-sections; messages = no-messages; waits = no-waits; views = no-views }

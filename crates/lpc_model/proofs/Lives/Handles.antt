@@ -1,4 +1,4 @@
--- The step of each line leaves handles to living processes alone.
+-- The step of each line leaves handles and views to living processes alone.
 use Rattle.std.proofs.Common.{◌≡◌, ℕ, ◌≤◌, List, [], ◌∷◌, Bool, true, false, not, refl, sym, subst, arith}
 use Rattle.std.specs.Prelude.{◌&&◌, ◌||◌, ◌==◌}
 use Rattle.std.proofs.lemmas.Bool.{eqb-true, or_left, or_right}
@@ -6,18 +6,18 @@ use Rattle.std.proofs.lemmas.Bool.Decides.{nat_tests}
 use Rattle.lpc_base.specs.Rows.{count, every, first, has, when}
 use Rattle.lpc_base.specs.declared.status.Status.{Status}
 use Rattle.lpc_base.specs.declared.status.TheConstants.{SUCCESS}
-use Rattle.lpc_base.proofs.RowWords.{every-change, every-more, has-change, none-counted}
-use Rattle.lpc_base.proofs.RowMaps.{every-both}
+use Rattle.lpc_base.proofs.RowWords.{every-change, every-more, every-without, has-change, none-counted}
+use Rattle.lpc_base.proofs.RowMaps.{every-both, every-kept}
 use Rattle.lpc_base.proofs.Bools.{first-true, second-true}
 use Rattle.lpc_model.specs.declared.entry.CallName.TheVariants.{NtRegisterThreadTerminatePort}
 use Rattle.lpc_model.specs.declared.entry.Entry.TheVariants.{Answer}
-use Rattle.lpc_model.specs.World.{HandleRow, HandleTable, ThreadRow, World}
-use Rattle.lpc_model.specs.Found.{handles_of, is_live, is_table, is_thread, lives_in, rows_in, wait_of}
-use Rattle.lpc_model.specs.Basics.{Accepts, AddsHandle, AddsProcess, AddsThread, Awaits, Basic, Dies, DrawsIdentifier, DrawsOrdinal, DropsHandle, Frees, Registers, Tells, Unregisters, Withdraws, basic, ended, in_turn, provided, unregistering, without_handle, world_after, ◌▹◌}
+use Rattle.lpc_model.specs.World.{HandleRow, HandleTable, ThreadRow, ViewRow, World}
+use Rattle.lpc_model.specs.Found.{handles_of, is_live, is_table, is_thread, is_view_in, lives_in, rows_in, wait_of}
+use Rattle.lpc_model.specs.Basics.{Accepts, AddsHandle, AddsProcess, AddsThread, Awaits, Basic, Dies, DrawsIdentifier, DrawsOrdinal, DropsHandle, DropsViewsOf, Frees, Maps, Registers, Tells, Unmaps, Unregisters, Withdraws, basic, doing, ended, in_turn, provided, unregistering, without_handle, world_after, ◌▹◌}
 use Rattle.lpc_model.specs.Close.{close_handle}
 use Rattle.lpc_model.specs.Death.{cut_accepted, die, end_process, end_threads, post_death, post_deaths}
 use Rattle.lpc_model.specs.Lawful.{HasThreadsOnce}
-use Rattle.lpc_model.specs.Left.{HasLivingHandles, is_living_table, lacks_handles}
+use Rattle.lpc_model.specs.Left.{is_living_table, is_living_view, lacks_handles}
 use Rattle.lpc_model.specs.Lines.{ScriptLine}
 use Rattle.lpc_model.specs.Machine.{step}
 use Rattle.lpc_model.specs.SoundWaits.{IsSoundWorld}
@@ -27,7 +27,7 @@ use Rattle.lpc_model.proofs.Deaths.Lines.{away-still, death-still, deathless-sti
 use Rattle.lpc_model.proofs.Deaths.Doomed.{AreOf, IsOf, doomed-of, of-ended}
 use Rattle.lpc_model.proofs.Steps.Ending.{AreEnding, accepted-pass, behind_dead, behind_told, die-ending, ending-death, first-at, handle-ending, is_ending, rows-left, turn-keeps, world-ends}
 use Rattle.lpc_model.proofs.Calls.Lines.{Keep, LineLaw, Shut, passing-lines, step-keeps}
-use Rattle.lpc_model.proofs.Lives.HandleSteps.{homely-all, is_homely, lacks-less, living-swept, mild-homely}
+use Rattle.lpc_model.proofs.Lives.HandleSteps.{HasLivingRows, homely-all, is_homely, lacks-less, living-swept, mild-homely}
 use Rattle.lpc_model.proofs.Steps.Rows.{has-change_to}
 use Rattle.lpc_model.proofs.Sound.Close.{close_handle-sound}
 use Rattle.lpc_model.proofs.Sound.Terminate.{IsSafe, sound-of, told-safe}
@@ -40,21 +40,37 @@ handle-still pid r w = every-more is_deathless is_still deathless-still (close_h
 abbrev is_almost : ℕ → World → HandleTable → Bool
 is_almost pid w t = (t.process == pid) || is_living_table w t
 
-abbrev HasLivingBut : ℕ → World → Type 0
-HasLivingBut pid w = every (is_almost pid w) w.handles ≡ true
+abbrev is_almost_view : ℕ → World → ViewRow → Bool
+is_almost_view pid w x = (x.process == pid) || is_living_view w x
 
-but-all : (pid : ℕ) (w : World) → HasLivingHandles w → HasLivingBut pid w
-but-all pid w l = every-more (is_living_table w) (is_almost pid w) (λ t is. or_right (t.process == pid) _ is) w.handles l
+record HasLivingBut (pid : ℕ) (w : World) : Type 0 where
+  handles : every (is_almost pid w) w.handles ≡ true
+  views : every (is_almost_view pid w) w.views ≡ true
+
+but-all : (pid : ℕ) (w : World) → HasLivingRows w → HasLivingBut pid w
+but-all pid w l = record {
+  handles = every-more (is_living_table w) (is_almost pid w) (λ t is. or_right (t.process == pid) _ is) w.handles l.handles;
+  views = every-more (is_living_view w) (is_almost_view pid w) (λ x is. or_right (x.process == pid) _ is) w.views l.views;
+}
 
 almost-more : (e a b c : Bool) → (e ≡ false → a ≡ true → b ≡ true) → (e || (a || c)) ≡ true → (e || (b || c)) ≡ true
 almost-more true a b c more is = refl
 almost-more false a b c more is = grind (arith, more refl)
 
+view-more : (e a b : Bool) → (e ≡ false → a ≡ true → b ≡ true) → (e || a) ≡ true → (e || b) ≡ true
+view-more true a b more is = refl
+view-more false a b more is = more refl is
+
+-- what lives stays so, but the process
+but-live : (pid : ℕ) (w v : World) → ((q : ℕ) → (q == pid) ≡ false → is_live w q ≡ true → is_live v q ≡ true) → w.handles ≡ v.handles → w.views ≡ v.views → HasLivingBut pid w → HasLivingBut pid v
+but-live pid w v stay one two l = record {
+  handles = subst (λ ts. every (is_almost pid v) ts ≡ true) one (every-more (is_almost pid w) (is_almost pid v) (λ t. almost-more (t.process == pid) (is_live w t.process) (is_live v t.process) (lacks_handles t) (λ off. stay t.process off)) w.handles l.handles);
+  views = subst (λ xs. every (is_almost_view pid v) xs ≡ true) two (every-more (is_almost_view pid w) (is_almost_view pid v) (λ x. view-more (x.process == pid) (is_live w x.process) (is_live v x.process) (λ off. stay x.process off)) w.views l.views);
+}
+
 -- a thread of the process ends
 dies-but : (pid n : ℕ) (code : Status) (w : World) → IsOf pid n w.threads → HasLivingBut pid w → HasLivingBut pid (basic w (Dies n code))
-dies-but pid n code w of l =
-    let v = basic w (Dies n code) in
-    every-more (is_almost pid w) (is_almost pid v) (λ t. almost-more (t.process == pid) (is_live w t.process) (is_live v t.process) (lacks_handles t) (λ off. still t.process off)) w.handles l
+dies-but pid n code w of = but-live pid w (basic w (Dies n code)) still refl refl
   where
     parts : (q : ℕ) (u : ThreadRow) → (q == pid) ≡ false → (not (is_thread n u) || (u.process == pid)) ≡ true → (not (is_thread n u && lives_in q u) || lives_in q (ended u)) ≡ true
     parts q u off is = grind (arith, nat_tests)
@@ -64,14 +80,17 @@ dies-but pid n code w of l =
 
 -- steps that end nothing of a thread
 still-step : (pid : ℕ) (w : World) (b : Basic) → is_ending b ≡ true → is_still b ≡ true → HasLivingBut pid w → HasLivingBut pid (basic w b)
-still-step pid w (DropsHandle p value) is still l =
-    every-change (is_almost pid w) (is_table p) (without_handle value) (λ t was. more (t.process == pid) (is_live w t.process) (lacks_handles t) (lacks_handles (without_handle value t)) (lacks-less value t) was) w.handles l
+still-step pid w (DropsHandle p value) is still l = record {
+    handles = every-change (is_almost pid w) (is_table p) (without_handle value) (λ t was. more (t.process == pid) (is_live w t.process) (lacks_handles t) (lacks_handles (without_handle value t)) (lacks-less value t) was) w.handles l.handles;
+    views = l.views;
+  }
   where
     more : (e a c d : Bool) → (c ≡ true → d ≡ true) → (e || (a || c)) ≡ true → (e || (a || d)) ≡ true
     more e a c d less was = grind (arith, less)
-still-step pid w (Unregisters who b) is still l =
-    let v = basic w (Unregisters who b) in
-    every-more (is_almost pid w) (is_almost pid v) (λ t. almost-more (t.process == pid) (is_live w t.process) (is_live v t.process) (lacks_handles t) (λ off one. rw (has-change (lives_in t.process) (is_thread who) (unregistering b) (λ u. refl) w.threads) one)) w.handles l
+still-step pid w (Unregisters who b) is still l = but-live pid w (basic w (Unregisters who b)) (λ q off one. rw (has-change (lives_in q) (is_thread who) (unregistering b) (λ u. refl) w.threads) one) refl refl l
+still-step pid w (DropsViewsOf p) is still l = record { handles = l.handles; views = every-without (is_almost_view pid w) (is_view_in p) w.views l.views }
+still-step pid w (Maps x) is still l = absurd (cc)
+still-step pid w (Unmaps p base) is still l = absurd (cc)
 still-step pid w (Dies who status) is still l = absurd (cc)
 still-step pid w (Awaits x) is still l = absurd (cc)
 still-step pid w (Accepts who reply) is still l = absurd (cc)
@@ -82,7 +101,7 @@ still-step pid w (AddsProcess p) is still l = absurd (cc)
 still-step pid w (AddsThread t) is still l = absurd (cc)
 still-step pid w (Frees o) is still l = absurd (cc)
 still-step pid w (AddsHandle p h) is still l = absurd (cc)
-still-step pid w b is still l = l
+still-step pid w b is still l = record { handles = l.handles; views = l.views }
 
 still-all : (pid : ℕ) (w : World) (bs : List Basic) → AreEnding bs → every is_still bs ≡ true → HasLivingBut pid w → HasLivingBut pid (world_after w bs)
 still-all pid w [] all still l = l
@@ -96,7 +115,7 @@ die-but pid code t w of l =
     let gone = basic dead (Withdraws t.number) in
     let later = cut_accepted (wait_of w t.number) gone in
     let all = die-ending code t w in
-    still-all pid gone later all (accepted-pass is_still away-still (λ b. refl) (wait_of w t.number) gone) (dies-but pid t.number code w of l)
+    still-all pid gone later all (accepted-pass is_still away-still (λ b. refl) (wait_of w t.number) gone) (still-all pid dead (Withdraws t.number ∷ []) refl refl (dies-but pid t.number code w of l))
 
 dead-but : (pid : ℕ) (code : Status) (ts : List ThreadRow) (w : World) → AreOf pid w.threads ts → HasLivingBut pid w → HasLivingBut pid (behind_dead code ts w)
 dead-but pid code [] w of l = l
@@ -140,47 +159,60 @@ table-lacks pid (t ∷ ts) one none = at (is_table pid t) refl (table-lacks pid 
         let few : count (is_table pid) ts ≤ 1 = grind arith in
         let rest = later few row in grind arith
 
-living-empty : (pid : ℕ) (w : World) → HasLivingBut pid w → handles_of w pid ≡ [] → IsSoundWorld w → HasLivingHandles w
-living-empty pid w l none s =
-    every-both (is_almost pid w) (λ t. not (is_table pid t) || lacks_handles t) (is_living_table w) (λ t one two. parts (t.process == pid) (is_live w t.process) (lacks_handles t) one two) w.handles l (table-lacks pid w.handles (s.tables pid) none)
+-- and then its views go
+living-empty : (pid : ℕ) (w : World) → HasLivingBut pid w → handles_of w pid ≡ [] → IsSoundWorld w → HasLivingRows (basic w (DropsViewsOf pid))
+living-empty pid w l none s = record {
+    handles = every-both (is_almost pid w) (λ t. not (is_table pid t) || lacks_handles t) (is_living_table w) (λ t one two. parts (t.process == pid) (is_live w t.process) (lacks_handles t) one two) w.handles l.handles (table-lacks pid w.handles (s.tables pid) none);
+    views = every-kept (is_almost_view pid w) (is_view_in pid) (is_living_view w) (λ x is off. view-parts (x.process == pid) (is_live w x.process) is off) w.views l.views;
+  }
   where
     parts : (e a c : Bool) → (e || (a || c)) ≡ true → (not e || c) ≡ true → (a || c) ≡ true
     parts e a c one two = grind arith
 
-living-live : (pid : ℕ) (w : World) → HasLivingBut pid w → is_live w pid ≡ true → HasLivingHandles w
-living-live pid w l live = every-more (is_almost pid w) (is_living_table w) (λ t is. at t (t.process == pid) refl is) w.handles l
+    view-parts : (e a : Bool) → (e || a) ≡ true → e ≡ false → a ≡ true
+    view-parts e a one two = grind arith
+
+living-live : (pid : ℕ) (w : World) → HasLivingBut pid w → is_live w pid ≡ true → HasLivingRows w
+living-live pid w l live = record {
+    handles = every-more (is_almost pid w) (is_living_table w) (λ t is. at t (t.process == pid) refl is) w.handles l.handles;
+    views = every-more (is_almost_view pid w) (is_living_view w) (λ x is. its-view x (x.process == pid) refl is) w.views l.views;
+  }
   where
     at : (t : HandleTable) (e : Bool) → (t.process == pid) ≡ e → (e || is_living_table w t) ≡ true → is_living_table w t ≡ true
     at t true same is = let own = subst (λ n. is_live w n ≡ true) (sym (eqb-true t.process pid same)) live in or_left (is_live w t.process) (lacks_handles t) own
     at t false off is = is
 
-end-living : (pid : ℕ) (code : Status) (ts : List ThreadRow) (w : World) → IsSafe w → AreOf pid w.threads ts → HasLivingHandles w → HasLivingHandles (behind (end_threads pid code ts) w)
+    its-view : (x : ViewRow) (e : Bool) → (x.process == pid) ≡ e → (e || is_living_view w x) ≡ true → is_living_view w x ≡ true
+    its-view x true same is = subst (λ n. is_live w n ≡ true) (sym (eqb-true x.process pid same)) live
+    its-view x false off is = is
+
+end-living : (pid : ℕ) (code : Status) (ts : List ThreadRow) (w : World) → IsSafe w → AreOf pid w.threads ts → HasLivingRows w → HasLivingRows (behind (end_threads pid code ts) w)
 unfolding end_threads
 end-living pid code ts w is of l =
     let two = behind_told code ts w in
-    then-holds HasLivingHandles (in_turn (die code) ts) (in_turn post_deaths ts ▹ provided (λ w. not (is_live w pid)) (end_process pid)) w
-    (then-holds HasLivingHandles (in_turn post_deaths ts) (provided (λ w. not (is_live w pid)) (end_process pid)) (behind_dead code ts w)
+    then-holds HasLivingRows (in_turn (die code) ts) (in_turn post_deaths ts ▹ provided (λ w. not (is_live w pid)) (end_process pid)) w
+    (then-holds HasLivingRows (in_turn post_deaths ts) (provided (λ w. not (is_live w pid)) (end_process pid)) (behind_dead code ts w)
     (at (is_live two pid) refl (told-but pid code ts w of (but-all pid w l)) (sound-of two (told-safe code ts w is))))
   where
-    at : (live : Bool) → is_live (behind_told code ts w) pid ≡ live → HasLivingBut pid (behind_told code ts w) → IsSoundWorld (behind_told code ts w) → HasLivingHandles (world_after (behind_told code ts w) (when (not live) (end_process pid (behind_told code ts w))))
+    at : (live : Bool) → is_live (behind_told code ts w) pid ≡ live → HasLivingBut pid (behind_told code ts w) → IsSoundWorld (behind_told code ts w) → HasLivingRows (world_after (behind_told code ts w) (when (not live) (end_process pid (behind_told code ts w))))
     at true live l s = living-live pid (behind_told code ts w) l live
     at false off l s =
         let v = behind_told code ts w in
         let t = handles-but pid (handles_of v pid) v refl s l in
-        living-empty pid (behind (in_turn (close_handle pid) (handles_of v pid)) v) t.0 t.1 t.2
+        then-holds HasLivingRows (in_turn (close_handle pid) (handles_of v pid)) (doing (DropsViewsOf pid ∷ [])) v (living-empty pid (behind (in_turn (close_handle pid) (handles_of v pid)) v) t.0 t.1 t.2)
 
 -- The calls
-living-law : (by : ThreadRow) → LifeLaw by (Shut HasThreadsOnce) (Keep HasLivingHandles)
+living-law : (by : ThreadRow) → LifeLaw by (Shut HasThreadsOnce) (Keep HasLivingRows)
 living-law by = record {
   mild = λ w bs all. homely-all w bs (every-more (is_mild w) (is_homely w) (mild-homely w) bs all);
   registers = λ w b new is. homely-all w (Tells (Answer by.number NtRegisterThreadTerminatePort SUCCESS []) ∷ Registers by.number b ∷ []) refl;
-  ends = λ w name own pid code ts doomed is l. world-ends HasLivingHandles w by name own pid code ts (end-living pid code ts w (record { sound = is.sound; shut = is.known.0 }) (doomed-of w by own pid ts doomed is.known.1 is.can) l);
+  ends = λ w name own pid code ts doomed is l. world-ends HasLivingRows w by name own pid code ts (end-living pid code ts w (record { sound = is.sound; shut = is.known.0 }) (doomed-of w by own pid ts doomed is.known.1 is.can) l);
 }
 
 -- Lines
-living-lines : LineLaw (Shut HasThreadsOnce) (λ _. Keep HasLivingHandles)
-living-lines = passing-lines (Shut HasThreadsOnce) (Keep HasLivingHandles) is_homely homely-all (λ w. record { tells = λ _. refl; processes = λ _. refl; threads = λ _ _ _. refl; binds = λ _ _. refl }) (λ by. life-outcomes by (Shut HasThreadsOnce) (Keep HasLivingHandles) (living-law by))
+living-lines : LineLaw (Shut HasThreadsOnce) (λ _. Keep HasLivingRows)
+living-lines = passing-lines (Shut HasThreadsOnce) (Keep HasLivingRows) is_homely homely-all (λ w. record { tells = λ _. refl; processes = λ _. refl; threads = λ _ _ _. refl; binds = λ _ _. refl }) (λ by. life-outcomes by (Shut HasThreadsOnce) (Keep HasLivingRows) (living-law by))
 
--- the step of a line leaves handles to living processes alone
-pub living_step : (w : World) (line : ScriptLine) → IsSafe w → HasThreadsOnce w → HasLivingHandles w → HasLivingHandles (step w line).world
-living_step w line is once = step-keeps (Shut HasThreadsOnce) HasLivingHandles living-lines living-swept w line is.sound (is.shut, once)
+-- the step of a line leaves handles and views to living processes alone
+pub living_step : (w : World) (line : ScriptLine) → IsSafe w → HasThreadsOnce w → HasLivingRows w → HasLivingRows (step w line).world
+living_step w line is once = step-keeps (Shut HasThreadsOnce) HasLivingRows living-lines living-swept w line is.sound (is.shut, once)

@@ -19,7 +19,7 @@ use Rattle.lpc_model.proofs.Sound.Worlds.{kept-pair-open}
 use Rattle.lpc_model.proofs.Steps.Steady.{steady-enter}
 use Rattle.lpc_model.proofs.Steps.InTurn.{after-append, steps-keep}
 use Rattle.lpc_model.proofs.Calls.Usable.{CanCall}
-use Rattle.lpc_model.specs.Basics.{Accepts, AddsHandle, AddsProcess, AddsThread, Awaits, Basic, Completes, Cuts, DrawsIdentifier, DrawsOrdinal, DropsHandle, Empties, Frees, Joins, Makes, Receives, Registers, Takes, TakesConnect, Unbinds, Unregisters, Wakes, Withdraws, basic, completed, cut, freed, is_end_of, joined, no_handles, paired, world_after}
+use Rattle.lpc_model.specs.Basics.{Accepts, AddsHandle, AddsProcess, AddsThread, Awaits, Basic, Completes, Cuts, DrawsIdentifier, DrawsOrdinal, DropsHandle, DropsViewsOf, Empties, Frees, Joins, Makes, Receives, Registers, Takes, TakesConnect, Unbinds, Unregisters, Wakes, Withdraws, basic, completed, cut, freed, is_end_of, joined, no_handles, paired, world_after}
 use Rattle.lpc_model.specs.Close.{close_handle, close_port, is_last}
 use Rattle.lpc_model.specs.Connect.{connect_start, Completable, client_port, connection_request, server_port}
 use Rattle.lpc_model.specs.Creation.{new_process, new_thread, second_birth}
@@ -193,6 +193,7 @@ pairs-law by = record {
   closes = λ w pid r at s _. pair-closed w pid r at s;
   dies = λ w code t is. pair-all w (die code t w) (die-pass is_pairing away-pairing (λ n c. refl) (λ b. refl) code t w);
   leaves = λ w n b. pair-all w (Unregisters n b ∷ []) refl;
+  unmaps = λ w pid. pair-all w (DropsViewsOf pid ∷ []) refl;
 }
 
 -- Lines

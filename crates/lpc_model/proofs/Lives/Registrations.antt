@@ -12,7 +12,7 @@ use Rattle.lpc_base.proofs.Births.{birth-self}
 use Rattle.lpc_model.specs.declared.entry.ObjectKind.TheVariants as kind
 use Rattle.lpc_model.specs.World.{Birth, ObjectKind, ThreadRow, World}
 use Rattle.lpc_model.specs.Found.{handles_of, is_live, is_live_thread, is_thread, same_birth}
-use Rattle.lpc_model.specs.Basics.{AddsThread, Basic, Dies, DrawsIdentifier, DrawsOrdinal, Frees, Registers, Unregisters, basic, ended, freed, in_turn, past_identifier, past_ordinal, provided, registering, unregistering, world_after, ◌▹◌}
+use Rattle.lpc_model.specs.Basics.{AddsThread, Basic, Dies, DrawsIdentifier, DrawsOrdinal, DropsViewsOf, Frees, Registers, Unregisters, basic, doing, ended, freed, in_turn, past_identifier, past_ordinal, provided, registering, unregistering, world_after, ◌▹◌}
 use Rattle.lpc_model.specs.Close.{close_handle}
 use Rattle.lpc_model.specs.Death.{die, end_process, end_threads, post_death, post_deaths, death_post}
 use Rattle.lpc_model.specs.Deaths.{HasLivingRegistrations, has_living_registrations}
@@ -273,7 +273,10 @@ end-living pid code ts w once found l =
     (at (not (is_live (behind_told code ts w) pid)) (none-living (behind_told code ts w) (told-owed ts (behind_dead code ts w) (kept-owed ts (behind_dead code ts w) (dead-kept code ts ts w (one-self ts) (kept-first ts w once found l)))))))
   where
     at : (last : Bool) → HasLivingRegistrations (behind_told code ts w) → HasLivingRegistrations (world_after (behind_told code ts w) (when last (end_process pid (behind_told code ts w))))
-    at true l = turn-keeps HasLivingRegistrations (close_handle pid) (λ r v. milds-living v (close_handle pid r v) (handle-mild v pid r)) (handles_of (behind_told code ts w) pid) (behind_told code ts w) l
+    at true l =
+        let v = behind_told code ts w in
+        then-holds HasLivingRegistrations (in_turn (close_handle pid) (handles_of v pid)) (doing (DropsViewsOf pid ∷ [])) v
+        (turn-keeps HasLivingRegistrations (close_handle pid) (λ r u. milds-living u (close_handle pid r u) (handle-mild u pid r)) (handles_of v pid) v l)
     at false l = l
 
 -- a caller lives

@@ -9,7 +9,7 @@ use Rattle.lpc_model.proofs.Steps.Ending.{AreEnding, die-ending, ending-enter, e
 use Rattle.lpc_model.proofs.Steps.Rows.{count-change, count-less, has-off}
 use Rattle.lpc_model.proofs.Sound.Basics.{sound-ordinal}
 use Rattle.lpc_model.proofs.Steps.InTurn.{steps-keep}
-use Rattle.lpc_model.specs.Basics.{AddsThread, Awaits, Basic, Dies, DrawsIdentifier, DrawsOrdinal, Frees, Registers, Unregisters, basic, ended, freed, past_identifier, past_ordinal, registering, unregistering, world_after}
+use Rattle.lpc_model.specs.Basics.{AddsThread, Awaits, Basic, Dies, DrawsIdentifier, DrawsOrdinal, DropsViewsOf, Frees, Registers, Unregisters, basic, ended, freed, past_identifier, past_ordinal, registering, unregistering, world_after}
 use Rattle.lpc_model.specs.Close.{close_handle}
 use Rattle.lpc_model.specs.Connect.{client_port, connect_start, connection_request, named_steps, unnamed_steps}
 use Rattle.lpc_model.specs.Creation.{new_thread, second_birth}
@@ -118,6 +118,7 @@ once-law by = record {
   closes = λ w pid r at s _. ended-once w (close_handle pid r w) (handle-ending pid r w);
   dies = λ w code t is. ended-once w (die code t w) (die-ending code t w);
   leaves = λ w n b. ended-once w (Unregisters n b ∷ []) refl;
+  unmaps = λ w pid. ended-once w (DropsViewsOf pid ∷ []) refl;
 }
 
 -- Lines

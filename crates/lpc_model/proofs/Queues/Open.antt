@@ -20,7 +20,7 @@ use Rattle.lpc_model.proofs.Sound.Closing.{close-shut}
 use Rattle.lpc_model.proofs.Queues.Closing.{is_elsewhere}
 use Rattle.lpc_model.proofs.Sound.Worlds.{by_kind}
 use Rattle.lpc_model.proofs.Steps.InTurn.{after-append}
-use Rattle.lpc_model.specs.Basics.{Accepts, AddsHandle, AddsProcess, AddsThread, Awaits, Basic, Completes, Cuts, Dies, DrawsIdentifier, DrawsOrdinal, DropsHandle, Empties, Enters, Frees, Joins, Makes, Receives, Registers, Takes, TakesConnect, Tells, Unbinds, Unregisters, Wakes, Withdraws, accepted, basic, freed, no_handles, received, world_after}
+use Rattle.lpc_model.specs.Basics.{Accepts, AddsHandle, AddsProcess, AddsThread, Awaits, Basic, Completes, Cuts, Dies, DrawsIdentifier, DrawsOrdinal, DropsHandle, DropsViewsOf, Empties, Enters, Frees, Joins, Makes, Receives, Registers, Takes, TakesConnect, Tells, Unbinds, Unregisters, Wakes, Withdraws, accepted, basic, freed, no_handles, received, world_after}
 use Rattle.lpc_model.specs.Close.{close_handle, close_port, is_last}
 use Rattle.lpc_model.specs.Connect.{Completable, answer_of, client_port, connect_start, connection_request, named_steps, names_connect, server_port, unnamed_steps}
 use Rattle.lpc_model.specs.Creation.{new_process, new_thread, second_birth}
@@ -280,6 +280,7 @@ open-law by = record {
   closes = λ w pid r at s l. closed-open w pid r at s l;
   dies = λ w code t is. open-all w (die code t w) (die-pass (is_open_step w) (away-open w) (λ n c. refl) (λ b. refl) code t w);
   leaves = λ w n b. open-all w (Unregisters n b ∷ []) refl;
+  unmaps = λ w pid. open-all w (DropsViewsOf pid ∷ []) refl;
 }
 
 -- Lines

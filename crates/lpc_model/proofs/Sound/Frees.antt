@@ -16,7 +16,7 @@ use Rattle.lpc_model.proofs.Steps.Rows.{has-less}
 use Rattle.lpc_model.proofs.Steps.Registrations.{dead-each, fewer-each}
 use Rattle.lpc_model.proofs.Sound.Pairs.{tied-of}
 use Rattle.lpc_model.proofs.Sound.Ties.{is_joined_to}
-use Rattle.lpc_model.proofs.Sound.Worlds.{port-kept, sound-kept, stands-same}
+use Rattle.lpc_model.proofs.Sound.Worlds.{port-kept, sound-kept, sound-memory, stands-same}
 use Rattle.lpc_model.proofs.Sound.Ports.{sound-frees}
 use Rattle.lpc_model.proofs.Steps.InTurn.{after-append}
 
@@ -37,26 +37,9 @@ sum-second a b few = omega arith
 unjoined : (b : Birth) (p : PortRow) → not (is_paired_to b p) ≡ true → not (is_connected_to b p) ≡ true → not (is_joined_to b p) ≡ true
 unjoined b p one two = grind arith
 
--- A process, a section and a thread that go
+-- A process and a thread that go
 process-freed : (w : World) (b : Birth) → IsSoundWorld w → IsSoundWorld (basic w (Frees (record { kind = kind.Process; birth = b })))
 process-freed w b s = record {
-  waits = s.waits;
-  stay = s.stay;
-  once = s.once;
-  names = s.names;
-  tables = s.tables;
-  unused = s.unused;
-  homes = s.homes;
-  pairs = s.pairs;
-  servers = s.servers;
-  ordinals = s.ordinals;
-  numbers = s.numbers;
-  makers = s.makers;
-}
-
--- a section that goes
-section-freed : (w : World) (b : Birth) → IsSoundWorld w → IsSoundWorld (basic w (Frees (record { kind = kind.Section; birth = b })))
-section-freed w b s = record {
   waits = s.waits;
   stay = s.stay;
   once = s.once;
@@ -114,7 +97,7 @@ freed-sound w o none s = at o.kind (is-zero (pointer_count w o) none)
         let one = none-pass (is_paired_to b) w.ports (omega (arith, held)) in
         let two = none-pass (is_connected_to b) w.ports (omega (arith, held)) in
         sound-frees w b waits (every-both (λ p. not (is_paired_to b p)) (λ p. not (is_connected_to b p)) (λ p. not (is_joined_to b p)) (unjoined b) w.ports one two) s
-    at kind.Section few = section-freed w b s
+    at kind.Section few = sound-memory w _ _ _ s
     at kind.Token few = s
     at kind.Process few = process-freed w b s
     at kind.Thread few = thread-freed w b (none-pass (is_life b) w.threads (sum-second _ _ few)) s

@@ -13,6 +13,7 @@ use Rattle.lpc_model.proofs.Sound.Calls.{entered-sound}
 use Rattle.lpc_model.proofs.Sound.Basics.{sound-unregisters}
 use Rattle.lpc_model.proofs.Sound.Close.{close_handle-sound}
 use Rattle.lpc_model.proofs.Sound.Death.{die-sound}
+use Rattle.lpc_model.proofs.Sound.Worlds.{sound-memory}
 use Rattle.lpc_model.proofs.Steps.Ending.{behind_told, die-ending, end-keeps, ending-enter, handle-ending, told-keeps}
 use Rattle.lpc_model.proofs.Sound.ShutConnects.{shut-all}
 
@@ -43,7 +44,7 @@ pub told-safe : (code : Status) (ts : List ThreadRow) (w : World) → IsSafe w �
 told-safe = told-keeps IsSafe die-safe unregister-safe (λ t b m w some is. enter-safe m w is)
 
 pub end-safe : (pid : ℕ) (code : Status) (ts : List ThreadRow) (w : World) → IsSafe w → IsSafe (behind (end_threads pid code ts) w)
-end-safe = end-keeps IsSafe die-safe unregister-safe (λ t b m w some is. enter-safe m w is) sound-of handle-safe
+end-safe = end-keeps IsSafe die-safe unregister-safe (λ t b m w some is. enter-safe m w is) sound-of handle-safe (λ w pid is. record { sound = sound-memory w _ _ _ is.sound; shut = is.shut })
 
 pub end-sound : (pid : ℕ) (code : Status) (ts : List ThreadRow) (w : World) → IsSoundWorld w → HasShutConnects w → IsSoundWorld (behind (end_threads pid code ts) w)
 end-sound pid code ts w s shut = let t = end-safe pid code ts w (record { sound = s; shut = shut }) in t.sound

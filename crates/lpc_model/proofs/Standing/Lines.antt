@@ -25,7 +25,7 @@ use Rattle.lpc_model.proofs.Sound.Ties.{joined-birth}
 use Rattle.lpc_model.proofs.Sound.Worlds.{by_kind}
 use Rattle.lpc_model.proofs.Standing.Steps.{AreNaming, cut-names, is_naming, kept, naming-all, object-kept, swept-names}
 use Rattle.lpc_model.proofs.Steps.InTurn.{after-append}
-use Rattle.lpc_model.specs.Basics.{Accepts, AddsHandle, AddsProcess, AddsThread, Awaits, Basic, Binds, Completes, Dies, DrawsIdentifier, DrawsOrdinal, DropsHandle, Empties, Joins, Makes, Receives, Registers, Unbinds, Unregisters, Wakes, Withdraws, basic, completed, end_each, joined, paired, world_after}
+use Rattle.lpc_model.specs.Basics.{Accepts, AddsHandle, AddsProcess, AddsThread, Awaits, Basic, Binds, Completes, Dies, DrawsIdentifier, DrawsOrdinal, DropsHandle, DropsViewsOf, Empties, Joins, Makes, Receives, Registers, Unbinds, Unregisters, Wakes, Withdraws, basic, completed, end_each, joined, paired, world_after}
 use Rattle.lpc_model.specs.Close.{close_handle, close_port, closed_row, closing_post, cut_pair, end_accepted, end_request, is_accepted_across, is_across, is_last, is_receive_across, is_receiver, is_request_across, post_closed, server_of, wake}
 use Rattle.lpc_model.specs.Connect.{Completable, answer_of, client_port, connect_wait, connection_request, named_steps, names_connect, new_port, server_port, unnamed_steps}
 use Rattle.lpc_model.specs.Creation.{new_process, new_thread, second_birth}
@@ -292,6 +292,7 @@ names-law by = record {
   closes = λ w pid r at s _. handle-names w pid r s;
   dies = λ w code t is. die-names code t w is;
   leaves = λ w n b. naming-all w (Unregisters n b ∷ []) refl;
+  unmaps = λ w pid. naming-all w (DropsViewsOf pid ∷ []) refl;
 }
 
 -- Lines

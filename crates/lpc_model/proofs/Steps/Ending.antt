@@ -12,7 +12,7 @@ use Rattle.lpc_model.specs.declared.entry.CallName.{CallName}
 use Rattle.lpc_model.specs.declared.entry.CallName.TheVariants.{NtTerminateThread}
 use Rattle.lpc_model.specs.World.{Birth, Creator, HandleRow, HandleTable, MessageRow, PortRow, ThreadRow, WaitRow, World}
 use Rattle.lpc_model.specs.Found.{handle_at, handles_of, has_value, is_accepted, is_live, is_open, is_port, is_table, port_row, route, rows_in, wait_of, way}
-use Rattle.lpc_model.specs.Basics.{Accepts, AddsHandle, AddsProcess, AddsSection, AddsThread, Awaits, Basic, Binds, Completes, Cuts, Dies, DrawsIdentifier, DrawsOrdinal, DropsHandle, Empties, Frees, Joins, Makes, Maps, Receives, Registers, Steps, Takes, TakesConnect, Unbinds, Unmaps, Unregisters, Wakes, Withdraws, Writes, basic, doing, in_turn, provided, without_handle, world_after, ◌▹◌}
+use Rattle.lpc_model.specs.Basics.{Accepts, AddsHandle, AddsProcess, AddsSection, AddsThread, Awaits, Basic, Binds, Completes, Cuts, Dies, DrawsIdentifier, DrawsOrdinal, DropsHandle, DropsViewsOf, Empties, Frees, Joins, Makes, Maps, Receives, Registers, Steps, Takes, TakesConnect, Unbinds, Unmaps, Unregisters, Wakes, Withdraws, Writes, basic, doing, in_turn, provided, without_handle, world_after, ◌▹◌}
 use Rattle.lpc_model.specs.Entering.{enter, received_steps, row_of}
 use Rattle.lpc_model.specs.Refusal.{refuse_if}
 use Rattle.lpc_model.specs.Lines.{ProcArg}
@@ -135,7 +135,7 @@ end-ending pid code ts w =
     (at (not (is_live two pid)) two))
   where
     at : (last : Bool) (v : World) → AreEnding (when last (end_process pid v))
-    at true v = turn-pass is_ending (close_handle pid) (λ r u. handle-ending pid r u) (handles_of v pid) v
+    at true v = every-append is_ending (in_turn (close_handle pid) (handles_of v pid) v) _ (turn-pass is_ending (close_handle pid) (λ r u. handle-ending pid r u) (handles_of v pid) v) refl
     at false v = refl
 
 -- so of another test
@@ -241,7 +241,8 @@ module _ (P : World → Type 0) (dies : (code : Status) (t : ThreadRow) (w : Wor
   told-keeps code ts w is =
       turn-keeps P post_deaths (λ t v. turn-keeps P (post_death t) (λ b u. post-keeps t b u) t.registrations v) ts (behind_dead code ts w) (turn-keeps P (die code) (λ t v. dies code t v) ts w is)
 
-  module _ (sound : (w : World) → P w → IsSoundWorld w) (closes : (w : World) (pid : ℕ) (r : HandleRow) → handle_at w pid r.value ≡ Some r → P w → P (behind (close_handle pid r) w)) where
+  module _ (sound : (w : World) → P w → IsSoundWorld w) (closes : (w : World) (pid : ℕ) (r : HandleRow) → handle_at w pid r.value ≡ Some r → P w → P (behind (close_handle pid r) w))
+      (unmaps : (w : World) (pid : ℕ) → P w → P (basic w (DropsViewsOf pid))) where
     pub handles-keep : (pid : ℕ) (rows : List HandleRow) (w : World) → handles_of w pid ≡ rows → P w → P (behind (in_turn (close_handle pid) rows) w)
     handles-keep pid [] w same is = is
     handles-keep pid (r ∷ rows) w same is =
@@ -254,7 +255,9 @@ module _ (P : World → Type 0) (dies : (code : Status) (t : ThreadRow) (w : Wor
         (then-holds P (in_turn post_deaths ts) (provided (λ w. not (is_live w pid)) (end_process pid)) (behind_dead code ts w) (at (not (is_live (behind_told code ts w) pid)) (told-keeps code ts w is)))
       where
         at : (last : Bool) → P (behind_told code ts w) → P (world_after (behind_told code ts w) (when last (end_process pid (behind_told code ts w))))
-        at true is = handles-keep pid (handles_of (behind_told code ts w) pid) (behind_told code ts w) refl is
+        at true is =
+            let v = behind_told code ts w in
+            then-holds P (in_turn (close_handle pid) (handles_of v pid)) (doing (DropsViewsOf pid ∷ [])) v (unmaps (behind (in_turn (close_handle pid) (handles_of v pid)) v) pid (handles-keep pid (handles_of v pid) v refl is))
         at false is = is
 
 -- The calls
