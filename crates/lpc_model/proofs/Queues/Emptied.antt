@@ -221,6 +221,7 @@ empties-law by = record {
   closes = λ w pid r at s _. handle-empties w pid r at s;
   dies = λ w code t is. still w (die code t w) (die-still code t w);
   leaves = λ w n b. refl;
+  unmaps = λ w pid. refl;
 }
 
 -- Lines

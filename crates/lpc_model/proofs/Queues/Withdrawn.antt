@@ -213,6 +213,7 @@ ends-law by = record {
   closes = λ w pid r at s _. handle-ends w pid r;
   dies = λ w code t is. die-ends code t w;
   leaves = λ w n b. refl;
+  unmaps = λ w pid. refl;
 }
 
 -- Lines
