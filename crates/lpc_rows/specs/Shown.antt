@@ -206,7 +206,8 @@ pub record Tables : Type 0 where
 abbrev pub tables_of : procs.Table → List Part → PortTable → WaitTable → NameSpace Key → Tables
 tables_of procs parts ports waits space = record { procs = procs; parts = parts; ports = ports; waits = waits; space = space }
 
--- what the tables stand for, under the births of keys
+-- What the tables stand for, under the births of keys. There is no table of sections or views yet, and no call makes one: so
+-- there are none, and no bytes.
 abbrev pub shown_by : Births → Tables → World
 shown_by n it = record {
   processes = map shown_process it.procs.processes;
@@ -218,6 +219,9 @@ shown_by n it = record {
   messages = map (shown_message (birth_of n)) it.ports.messages;
   waits = map (shown_wait (birth_of n)) it.waits.rows;
   bindings = map (shown_binding (birth_of n)) it.space.bindings;
+  sections = [];
+  contents = model.Known [];
+  views = [];
 }
 
 -- the births that the tables give their keys
