@@ -1,7 +1,7 @@
 // What goes when a handle is closed, and what is counted of its object.
 ghost use Rattle.std.specs.Prelude.{◌≡◌, ◌+◌, ◌*◌, ◌≤◌, true};
 ghost use Rattle.lpc_base.specs.Rows.{count, has};
-ghost use Rattle.lpc_model.specs.Basics.{Cuts, DropsHandle, Empties, Unbinds};
+ghost use Rattle.lpc_model.specs.Basics.{Cuts, DropsHandle, DropsViewsOf, Empties, Unbinds};
 ghost use Rattle.lpc_model.specs.Found.{all_registrations, handle_count, holders, is_table, pointer_count, same_birth};
 ghost use Rattle.lpc_model.specs.declared.entry.ObjectKind.TheVariants as kind;
 ghost use Rattle.lpc_rows.specs.Closing.{HasMutualPairs};
@@ -67,6 +67,16 @@ impl World {
     {
         self.loose = true;
         parts::close_handle(&mut self.parts, pid, value);
+    }
+
+    /// All views of a process go. There is no table of views yet, and no call maps one, so none stands.
+    pub fn views_drop(&mut self, pid: u32)
+        ensures step { IsStep (after self.old (DropsViewsOf pid)) self.old self.new }
+        ensures loose { self.new.loose ≡ true }
+        ensures capacity { self.new.capacity ≡ self.old.capacity }
+    {
+        let _ = pid;
+        self.loose = true;
     }
 
     /// A handle names an object.

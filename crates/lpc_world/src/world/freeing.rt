@@ -1,5 +1,5 @@
 // What names a port in the tables, and the rows that go. The sweep, which stands above, lets them go.
-ghost use Rattle.std.specs.Prelude.{◌≡◌, ◌+◌, ◌≤◌, true, false};
+ghost use Rattle.std.specs.Prelude.{◌≡◌, ◌+◌, ◌≤◌, true, false, []};
 ghost use Rattle.lpc_model.specs.Basics.{Frees};
 ghost use Rattle.lpc_model.specs.Found.{port_name, process_name, thread_name};
 ghost use Rattle.lpc_rows.specs.Held as held;
@@ -59,6 +59,13 @@ impl World {
         ensures capacity { self.new.capacity ≡ self.old.capacity }
     {
         self.loose = false;
+    }
+
+    /// No section stands: there is no table of them yet, and no call makes one.
+    pub fn law_no_sections(&self)
+        ensures { self.now.rows.sections ≡ [] }
+    {
+        let _ = &self.procs;
     }
 
     /// The row of a thread that has ended goes.
