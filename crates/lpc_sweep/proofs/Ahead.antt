@@ -1,14 +1,18 @@
 -- Rows go ahead of the sweep, one after the other, and the sweep still leaves the same.
-use Rattle.std.proofs.Common.{◌≡◌, ◌≤◌, not, refl, ap, sym, subst, ◌∙◌, true, arith}
+use Rattle.std.proofs.Common.{◌≡◌, ◌≤◌, Bool, not, refl, ap, sym, subst, ◌∙◌, true, arith}
 use Rattle.std.specs.Prelude.{◌==◌}
 use Rattle.lpc_base.specs.declared.birth.Birth.{Birth}
-use Rattle.lpc_base.proofs.RowWords.{every-more}
-use Rattle.lpc_model.specs.World.{ObjectName, World}
-use Rattle.lpc_model.specs.Basics.{Frees, basic, world_after}
-use Rattle.lpc_model.specs.Found.{process_name, thread_name}
+use Rattle.lpc_base.specs.Rows.{every}
+use Rattle.lpc_base.proofs.RowWords.{every-more, every-without}
+use Rattle.lpc_model.specs.World.{ObjectName, SectionRow, World}
+use Rattle.lpc_model.specs.Basics.{Frees, basic, freed, world_after}
+use Rattle.lpc_model.specs.Found.{is_section, process_name, section_name, thread_name}
+use Rattle.lpc_model.specs.Linked.{HasHeldSections}
 use Rattle.lpc_model.specs.Sweep.{is_unheld, sweep}
 use Rattle.lpc_model.proofs.Held.FreedLife.{process_first, thread_first}
-use Rattle.lpc_model.proofs.Held.Lives.{same-thread}
+use Rattle.lpc_model.proofs.Held.Lives.{same-section, same-thread}
+use Rattle.lpc_model.specs.declared.entry.ObjectKind.{ObjectKind}
+use Rattle.lpc_model.specs.declared.entry.ObjectKind.TheVariants as kind
 use Rattle.lpc_rows.specs.Capacity.{but_lives}
 use Rattle.lpc_rows.specs.Kept.{GainsNoLives, Kept, Roomy}
 use Rattle.lpc_rows.proofs.Rooms.{roomy_same, roomy_then}
@@ -16,7 +20,7 @@ use Rattle.lpc_sweep.specs.Sweeping.{CanSweep, HasHeldThreads, SweepsAhead}
 use Rattle.lpc_sweep.proofs.HeldPorts.{can_freed}
 
 pub ahead_same : (w : Kept) → CanSweep w.rows → SweepsAhead w w
-ahead_same w can = record { can = can; leaves = refl; calls = refl; made = omega arith; room = roomy_same w.room; capacity = refl; lives = record { for_processes = omega arith; for_threads = omega arith } }
+ahead_same w can = record { can = can; leaves = refl; sections = λ held. held; calls = refl; made = omega arith; room = roomy_same w.room; capacity = refl; lives = record { for_processes = omega arith; for_threads = omega arith } }
 
 pub lives_then : (u v w : Kept) → GainsNoLives u v → GainsNoLives v w → GainsNoLives u w
 lives_then u v w one two = record { for_processes = omega (arith, one.for_processes, two.for_processes); for_threads = omega (arith, one.for_threads, two.for_threads) }
@@ -25,6 +29,7 @@ pub ahead_then : (u v w : Kept) → SweepsAhead u v → SweepsAhead v w → Swee
 ahead_then u v w one two = record {
   can = two.can;
   leaves = two.leaves ∙ one.leaves;
+  sections = λ held. two.sections (one.sections held);
   calls = two.calls ∙ one.calls;
   made = omega (arith, one.made, two.made);
   room = roomy_then _ _ _ one.room two.room;
@@ -32,12 +37,24 @@ ahead_then u v w one two = record {
   lives = lives_then u v w one.lives two.lives;
 }
 
+-- sections that are held stay so whatever goes
+pub sections-held : (w : World) (o : ObjectName) → HasHeldSections w → HasHeldSections (basic w (Frees o))
+sections-held w o held = left o.kind o.birth (every-more (λ s. not (is_unheld w (section_name s.birth))) still (λ s is. ap (λ n. not (n == 0)) (same-section w o s.birth) ∙ is) w.sections held)
+  where
+    still : SectionRow → Bool
+    still s = not (is_unheld (basic w (Frees o)) (section_name s.birth))
+
+    left : (k : ObjectKind) (b : Birth) → every still w.sections ≡ true → every still (freed w k b).sections ≡ true
+    left kind.Section b all = every-without still (is_section b) w.sections all
+    left k b all = all
+
 -- what no row counts for goes
 module _ (u v : Kept) (b : Birth) (calls : v.calls ≡ u.calls) (made : v.made ≤ u.made) (room : Roomy u.room v.room) (capacity : but_lives v.capacity ≡ but_lives u.capacity) (lives : GainsNoLives u v) (can : CanSweep u.rows) where
   ahead-by : (o : ObjectName) → v.rows ≡ basic u.rows (Frees o) → is_unheld u.rows o ≡ true → world_after (basic u.rows (Frees o)) (sweep (basic u.rows (Frees o))) ≡ world_after u.rows (sweep u.rows) → SweepsAhead u v
   ahead-by o went none same = record {
     can = subst CanSweep (sym went) (can_freed u.rows o can none);
     leaves = ap (λ (w : World). world_after w (sweep w)) went ∙ same;
+    sections = λ held. subst HasHeldSections (sym went) (sections-held u.rows o held);
     calls = calls;
     made = made;
     room = room;

@@ -1,7 +1,7 @@
 // Rows that no row counts for go, one after the other.
 ghost use Rattle.std.specs.Prelude.{◌≡◌, ◌≤◌, [], false, true};
 ghost use Rattle.lpc_model.specs.Basics.{world_after, Frees};
-ghost use Rattle.lpc_model.specs.Linked.{AreLivesHeld};
+ghost use Rattle.lpc_model.specs.Linked.{AreLivesHeld, HasHeldSections};
 ghost use Rattle.lpc_model.specs.Sweep as model;
 ghost use Rattle.lpc_model.specs.Sweep.{is_unheld};
 ghost use Rattle.lpc_sweep.specs.Sweeping.{CanSweep, HasHeldThreads, SweepsAhead};
@@ -66,10 +66,12 @@ fn free_processes(world: &mut World)
     }
 }
 
-/// While there is a port that no row counts for, it goes. Some row counts for each thread and each process.
+/// While there is a port that no row counts for, it goes. Some row counts for each thread, each process and each
+/// section.
 fn free_ports(world: &mut World)
     requires can { CanSweep world.old.rows }
     requires lives { AreLivesHeld world.old.rows }
+    requires sections { HasHeldSections world.old.rows }
     ensures rows { world.new.rows ≡ world_after world.old.rows (model.sweep world.old.rows) }
     ensures calls { world.new.calls ≡ world.old.calls }
     ensures made { world.new.made ≤ world.old.made }
@@ -100,6 +102,7 @@ pub fn sweep(world: &mut World)
     ensures lives { GainsNoLives world.old world.new }
 {
     if world.is_loose() {
+        world.law_no_sections();
         free_threads(world);
         free_processes(world);
         free_ports(world);
