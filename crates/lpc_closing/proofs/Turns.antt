@@ -11,7 +11,7 @@ use Rattle.lpc_handles.specs.declared.table.Row.{Row}
 use Rattle.lpc_homes.specs.declared.object.Object.{Object}
 use Rattle.lpc_model.specs.World.{Birth, HandleRow, World}
 use Rattle.lpc_model.specs.Found.{handle_at, handles_of, has_value, is_table}
-use Rattle.lpc_model.specs.Basics.{DropsHandle, in_turn, without_handle, world_after}
+use Rattle.lpc_model.specs.Basics.{DropsHandle, DropsViewsOf, Steps, basic, doing, in_turn, without_handle, world_after, ◌▹◌}
 use Rattle.lpc_model.specs.Close.{close_handle, close_port, is_last}
 use Rattle.lpc_model.specs.SoundWaits.{IsSoundWorld}
 use Rattle.lpc_model.proofs.Steps.Ending.{rows-left}
@@ -56,18 +56,22 @@ closed-can w pid r at can = record {
 pub one-closed : (w : World) (pid : ℕ) (r : HandleRow) (rows : List HandleRow) (es : List Entry) (loose : Bool) (l : Left) → handles_of w pid ≡ r ∷ rows → IsSoundWorld w → l ≡ left_by w es loose (close_handle pid r w)
     → left_further l (end_process pid) ≡ left_by w es loose (end_process pid w)
 one-closed w pid r rows es loose l same sound took =
-    let v = world_after w (close_handle pid r w) in
-    let rest = ap (λ rs. left_further (left_by w es loose (close_handle pid r w)) (in_turn (close_handle pid) rs)) (rows-left w pid r rows same sound) in
-    let all = ap (λ rs. left_by w es loose (in_turn (close_handle pid) rs w)) (sym same) in
+    let first = left_by w es loose (close_handle pid r w) in
+    let others = in_turn (close_handle pid) rows in
+    let views = doing (DropsViewsOf pid ∷ []) in
+    let rest = ap (λ rs. left_further first (in_turn (close_handle pid) rs ▹ views)) (rows-left w pid r rows same sound) in
+    let all = ap (λ rs. left_by w es loose ((in_turn (close_handle pid) rs ▹ views) w)) (sym same) in
     ap (λ (l : Left). left_further l (end_process pid)) took
     ∙ rest
-    ∙ left-then w es loose (close_handle pid r) (in_turn (close_handle pid) rows)
+    ∙ sym (left-then first.world first.entries first.loose others views)
+    ∙ ap (λ (l : Left). left_further l views) (left-then w es loose (close_handle pid r) others)
+    ∙ left-then w es loose (close_handle pid r ▹ others) views
     ∙ all
 
--- where none is left, nothing
-pub none-closed : (w : World) (pid : ℕ) (es : List Entry) (loose : Bool) → handles_of w pid ≡ []
-    → (let l : Left = record { world = w; entries = es; loose = loose } in l ≡ left_by w es loose (end_process pid w))
-none-closed w pid es loose none = rw (none, append-nil es) refl
+-- where none is left, the views alone go
+pub none-closed : (w v : World) (pid : ℕ) (es : List Entry) (loose after : Bool) → handles_of w pid ≡ [] → v ≡ basic w (DropsViewsOf pid) → after ≡ true
+    → (let l : Left = record { world = v; entries = es; loose = after } in l ≡ left_by w es loose (end_process pid w))
+none-closed w v pid es loose after none went still = rw (none, went, still, append-nil es) refl
 
 -- The handle that stands first, if one does
 pub head-is : (rows : List HandleRow) (r : HandleRow) → slice_get rows 0 ≡ Some r → rows ≡ r ∷ drop 1 rows

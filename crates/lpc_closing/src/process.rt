@@ -1,4 +1,4 @@
-// A process that ends: its handles are closed.
+// A process that ends: its handles are closed, and its views go.
 ghost use Rattle.std.specs.Prelude.{◌≡◌, ◌≤◌, ◌+◌, true, IfSome, length, slice_get};
 ghost use Rattle.lpc_base.specs.Rows.{has};
 ghost use Rattle.lpc_closing.specs.Closing.{CanCloseAll};
@@ -30,8 +30,8 @@ fn first_handle(world: &World, pid: u32) -> Option<(u32, Row<Object>)>
     Some((value, row))
 }
 
-/// The handles of a process are closed by rising value, each as `NtClose` does it. It takes no memory, and makes no row
-/// but the messages that the closings of ports owed.
+/// The handles of a process are closed by rising value, each as `NtClose` does it, and then its views go. It takes no
+/// memory, and makes no row but the messages that the closings of ports owed.
 pub fn end_process(world: &mut World, pid: u32, out: &mut Entries)
     requires table { has (is_table pid) world.old.rows.handles ≡ true }
     requires can { CanCloseAll world.old.rows }
@@ -48,4 +48,5 @@ pub fn end_process(world: &mut World, pid: u32, out: &mut Entries)
     while let Some((value, row)) = first_handle(world, pid) {
         close_handle(world, pid, value, row, out);
     }
+    world.views_drop(pid);
 }

@@ -47,4 +47,5 @@ loop-value-preserved c =
 pub returns-clause-takes : goal.returns-clause-takes
 returns-clause-takes c =
     let w = c.loop-value.world.rows in
-    none-closed w c.args.pid c.loop-value.out.list c.loop-value.world.loose (head-none (handles_of w c.args.pid) c.in_default.ensures.handle) ∙ c.loop-value.invariant.leaves
+    none-closed w c.views_drop.new.self.rows c.args.pid c.loop-value.out.list c.loop-value.world.loose c.views_drop.new.self.loose (head-none (handles_of w c.args.pid) c.in_default.ensures.handle) c.views_drop.ensures.step.rows c.views_drop.ensures.loose
+    ∙ c.loop-value.invariant.leaves
