@@ -2,7 +2,7 @@
 -- process is told follows from what its circle does and is told.
 use Rattle.std.specs.Prelude.{◌≡◌, ℕ, ◌==◌, ◌&&◌, ◌||◌, Bool, true, false, not, nat_lt, length, List, [], ◌∷◌, ◌++◌, map, Option, Some, None, Result, Ok, Err, is_none, option_map, if◌then◌else◌}
 use Rattle.std.specs.List.{list_any}
-use Rattle.lpc_base.specs.Rows.{every, first, passes, which}
+use Rattle.lpc_base.specs.Rows.{every, first, has, passes, which}
 use Rattle.lpc_base.specs.declared.limits.TheConstants.{HEADER_SIZE}
 use Rattle.lpc_base.specs.declared.port_kind.PortKind.TheVariants.{Client}
 use Rattle.lpc_message.specs.Layout.{header_of}
@@ -12,11 +12,12 @@ use Rattle.lpc_names.specs.declared.names.Found.{Found}
 use Rattle.lpc_names.specs.declared.names.Found.TheVariants.{Directory, Item as PortThere}
 use Rattle.lpc_model.specs.declared.entry.Entry.{Entry}
 use Rattle.lpc_model.specs.declared.entry.Entry.TheVariants.{Answer, Busy, Died, Directive, NoThread, Waits, Wakes}
-use Rattle.lpc_model.specs.World.{Birth, PortRow, ProcessRow, UsedThread, World}
-use Rattle.lpc_model.specs.Found.{is_used_thread, was_process}
+use Rattle.lpc_model.specs.World.{Birth, PortRow, ProcessRow, UsedThread, ViewRow, World}
+use Rattle.lpc_model.specs.Found.{is_used_thread, same_birth, shows_section, was_process}
+use Rattle.lpc_model.specs.Basics.{Basic, Writes}
 use Rattle.lpc_model.specs.Lines.{ScriptCall, ScriptLine, accept_connect_port, boot, complete_connect_port, connect_port, create_port, dir, link, listen_port, close, duplicate_object, query_object, create_process, create_thread, register_thread_terminate_port, reply_port, reply_wait_receive_port, request_port, request_wait_reply_port, run, terminate_process, terminate_thread, thread}
 use Rattle.lpc_model.specs.Linked.{passes_or_none}
-use Rattle.lpc_model.specs.Machine.{step}
+use Rattle.lpc_model.specs.Machine.{step, steps}
 use Rattle.lpc_model.specs.Run.{Along, State, first_state, said_in, world_behind}
 
 -- The group
@@ -201,6 +202,39 @@ is_fine_call group w (create_thread target tid) = is_no_outsiders_thread group w
 is_fine_call group w (terminate_thread target code) = true
 is_fine_call group w (terminate_process target code) = true
 
+-- The circle: what c may see of sections
+-- an outsider has a view of the section; a step writes it
+abbrev pub is_outsiders_view : Group → Birth → ViewRow → Bool
+is_outsiders_view group b v = not (group v.process) && shows_section b v
+
+abbrev pub is_write_of : Birth → Basic → Bool
+is_write_of b (Writes section place new) = same_birth section b
+is_write_of b s = false
+
+-- A section is outer at a line where an outsider has a view of it by then, or the line is an outsider's and writes it.
+abbrev pub is_outer_at : Group → World → ScriptLine → Birth → Bool
+is_outer_at group w line b =
+    has (is_outsiders_view group b) w.views
+    || (not (is_seen group (line_whose w line)) && has (is_write_of b) (steps line w))
+
+-- it is outer in a run of lines where it is at some line, or an outsider has a view of it behind the last
+abbrev pub is_outer : Group → State → List (Option ScriptLine) → Birth → Bool
+is_outer group w [] b = has (is_outsiders_view group b) w.views
+is_outer group w (None ∷ later) b = is_outer group w later b
+is_outer group w (Some line ∷ later) b =
+    is_outer_at group w line b || is_outer group (step w line).world later b
+
+-- c has no view of a section that is outer in the run: at no line, and not behind the last
+abbrev pub is_inner_view : ℕ → (Birth → Bool) → ViewRow → Bool
+is_inner_view c outer v = not (v.process == c) || not (outer v.section)
+
+abbrev pub HasInnerViews : ℕ → (Birth → Bool) → World → Type 0
+HasInnerViews c outer w = every (is_inner_view c outer) w.views ≡ true
+
+abbrev pub SeesInner : ℕ → (Birth → Bool) → State → List (Option ScriptLine) → Type 0
+SeesInner c outer w lines =
+    Along (λ w line. HasInnerViews c outer w) w lines × HasInnerViews c outer (world_behind w lines)
+
 -- where a line is a call of c, it is such a call; directives and other processes may name whom they like
 abbrev pub is_fine_line : Group → ℕ → World → ScriptLine → Bool
 is_fine_line group c w (run tid call) = not (passes (owner w tid) (λ p. p == c)) || is_fine_call group w call
@@ -213,9 +247,12 @@ is_fine_line group c w (link path target) = true
 abbrev pub IsFineAt : Group → ℕ → World → ScriptLine → Type 0
 IsFineAt group c w line = IsFineWorld group c w × (is_fine_line group c w line ≡ true)
 
--- the group is a circle of c in a run of lines from a state on: at each line, and behind the last
+-- The group is a circle of c in a run of lines from a state on: at each line, and behind the last; and of the sections
+-- that are outer in that run, c sees none.
 abbrev pub IsCircle : Group → ℕ → State → List (Option ScriptLine) → Type 0
-IsCircle group c w lines = Along (IsFineAt group c) w lines × IsFineWorld group c (world_behind w lines)
+IsCircle group c w lines =
+    Along (IsFineAt group c) w lines × IsFineWorld group c (world_behind w lines)
+    × SeesInner c (is_outer group w lines) w lines
 
 -- The law
 -- what happens in the run of a script; the items and inputs of a list of processes in it
