@@ -76,6 +76,7 @@ is_home u call n = false
 -- what a call may make is alive
 pub record Room (k : Alive) (u : World) (by : ThreadRow) (call : ScriptCall) : Type 0 where
   pub port : k.ports (next_birth by) ≡ true
+  pub section : k.sections (next_birth by) ≡ true
   pub process : k.processes (next_birth by) ≡ true
   pub thread : k.threads (next_birth by) ≡ true
   pub second : k.threads (second_birth by) ≡ true

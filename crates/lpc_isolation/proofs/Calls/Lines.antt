@@ -11,7 +11,7 @@ use Rattle.lpc_model.specs.declared.entry.Entry.{Entry}
 use Rattle.lpc_model.specs.declared.entry.Entry.TheVariants as entry
 use Rattle.lpc_model.specs.World.{ThreadRow, WaitRow, World}
 use Rattle.lpc_model.specs.Found.{live_thread, wait_of, waits_as}
-use Rattle.lpc_model.specs.Basics.{Accepts, AddsHandle, AddsProcess, AddsThread, Awaits, Basic, Binds, Completes, Cuts, DrawsIdentifier, DrawsOrdinal, DropsHandle, Empties, Enters, Frees, Joins, Makes, Receives, Takes, TakesConnect, Tells, Unbinds, Wakes, Withdraws, entries_of, world_after, told, Dies, Registers, Unregisters}
+use Rattle.lpc_model.specs.Basics.{Accepts, AddsHandle, AddsProcess, AddsSection, AddsThread, Awaits, Basic, Binds, Completes, Cuts, DrawsIdentifier, DrawsOrdinal, DropsHandle, DropsViewsOf, Empties, Enters, Frees, Joins, Makes, Maps, Receives, Takes, TakesConnect, Tells, Unbinds, Unmaps, Wakes, Withdraws, Writes, entries_of, world_after, told, Dies, Registers, Unregisters}
 use Rattle.lpc_model.specs.Lines.{ScriptCall, run}
 use Rattle.lpc_model.specs.Machine.{name_of_call, settled, bare_steps}
 use Rattle.lpc_isolation.proofs.Gone.Served.{served, served_step, served_steps}
@@ -195,6 +195,11 @@ headed w tid (Empties q ∷ bs) is = absurd (cc)
 headed w tid (Cuts b ∷ bs) is = absurd (cc)
 headed w tid (Unbinds b ∷ bs) is = absurd (cc)
 headed w tid (DropsHandle a b ∷ bs) is = absurd (cc)
+headed w tid (AddsSection s ∷ bs) is = absurd (cc)
+headed w tid (Writes a b d ∷ bs) is = absurd (cc)
+headed w tid (Maps v ∷ bs) is = absurd (cc)
+headed w tid (Unmaps a b ∷ bs) is = absurd (cc)
+headed w tid (DropsViewsOf a ∷ bs) is = absurd (cc)
 
 -- an orderly list begins so
 pub begins-of : (w : World) (tid : ℕ) (bs : List Basic) → is_call_of w tid bs ≡ true → Begins w tid bs

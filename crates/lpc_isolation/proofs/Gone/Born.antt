@@ -13,7 +13,7 @@ use Rattle.std.specs.Prelude.{◌&&◌, ◌||◌, ◌==◌, nat_lt, Ok}
 use Rattle.std.proofs.lemmas.Bool.{and_from, eqb-true, false_from_ne_true}
 use Rattle.std.proofs.lemmas.Bool.Decides.{nat_tests}
 use Rattle.std.proofs.Math.Bool.{or-true}
-use Rattle.lpc_base.specs.Rows.{change, every, has}
+use Rattle.lpc_base.specs.Rows.{change, every, has, without}
 use Rattle.lpc_base.proofs.RowWords.{every-change, every-more, every-push, every-without, has-kept, has-push, every-append}
 use Rattle.lpc_base.proofs.RowMaps.{every-both, every-change_to, every-first}
 use Rattle.lpc_base.proofs.Bools.{first-true, or-last, same-number, second-off, second-true}
@@ -29,9 +29,9 @@ use Rattle.lpc_model.specs.declared.entry.ObjectKind.TheVariants as kind
 use Rattle.lpc_model.specs.declared.entry.Word.TheVariants as word
 use Rattle.lpc_model.specs.Grammar.{has_call_ids, has_ids}
 use Rattle.lpc_model.specs.Words.{is_id}
-use Rattle.lpc_model.specs.World.{Birth, ProcessRow, ThreadRow, UsedThread, WaitRow, World, no_rows, MessageRow, PortRow}
-use Rattle.lpc_model.specs.Found.{is_live, is_live_thread, is_thread, live_thread, same_birth, wait_of, was_process, was_thread, free_handle}
-use Rattle.lpc_model.specs.Basics.{AddsProcess, AddsThread, Basic, Binds, Dies, DrawsIdentifier, DrawsOrdinal, Frees, Registers, Unregisters, basic, ended, freed, past_identifier, past_ordinal, registering, unregistering, world_after}
+use Rattle.lpc_model.specs.World.{Birth, ContentRow, Contents, Known, ProcessRow, ThreadRow, Unknown, UsedThread, WaitRow, World, no_rows, MessageRow, PortRow}
+use Rattle.lpc_model.specs.Found.{is_content, is_live, is_live_thread, is_section, is_thread, live_thread, same_birth, wait_of, was_process, was_thread, free_handle}
+use Rattle.lpc_model.specs.Basics.{AddsProcess, AddsSection, AddsThread, Basic, Binds, Dies, DrawsIdentifier, DrawsOrdinal, Frees, Registers, Unregisters, Writes, basic, ended, freed, in_known, past_identifier, past_ordinal, registering, unregistering, world_after, written}
 use Rattle.lpc_model.specs.Named.{free_name, spelled_name}
 use Rattle.lpc_model.specs.Lines.{ScriptCall, ScriptLine, boot, dir, link, run, thread}
 use Rattle.lpc_model.specs.Machine.{bare_steps, boot_line, dir_line, directive_birth, link_line, name_of_call, new_process, new_thread, thread_line, thread_test, unused_test}
@@ -54,6 +54,18 @@ is_before b t = not (b.maker == t.number) || nat_lt b.ordinal t.next_ordinal
 abbrev pub is_after : World → ThreadRow → Bool
 is_after u t = every (λ p. is_before p.birth t) u.processes && every (λ x. is_before x.birth t) u.threads
 
+-- a thread made it, and that thread's next ordinal is past it
+abbrev pub is_drawn : World → Birth → Bool
+is_drawn u b = was_thread u b.maker && every (is_before b) u.threads
+
+-- the bytes that stand
+abbrev pub content_rows : Contents → List ContentRow
+content_rows Unknown = []
+content_rows (Known rows) = rows
+
+abbrev Drawn : World → Contents → Type 0
+Drawn u k = every (λ c. is_drawn u c.section) (content_rows k) ≡ true
+
 pub record Born (u : World) : Type 0 where
   pub processes : every (λ p. is_made u p.birth p.number) u.processes ≡ true
   pub threads : every (λ t. is_made u t.birth t.number) u.threads ≡ true
@@ -62,6 +74,20 @@ pub record Born (u : World) : Type 0 where
   pub uses : every (λ t. was_thread u t.number) u.threads ≡ true
   pub zero : was_thread u 0 ≡ false
   pub once : HasThreadsOnce u
+  pub sections : every (λ s. is_drawn u s.birth) u.sections ≡ true
+  pub contents : Drawn u u.contents
+
+-- what keeps of each birth that it was drawn
+drawn-more : (u v : World) → ((b : Birth) → is_drawn u b ≡ true → is_drawn v b ≡ true) → (k : Contents) → Drawn u k → Drawn v k
+drawn-more u v more k all = every-more (λ c. is_drawn u c.section) (λ c. is_drawn v c.section) (λ c is. more c.section is) (content_rows k) all
+
+drawn-without : (u : World) (b : Birth) (k : Contents) → Drawn u k → Drawn u (in_known (without (is_content b)) k)
+drawn-without u b Unknown all = refl
+drawn-without u b (Known rows) all = every-without (λ c. is_drawn u c.section) (is_content b) rows all
+
+drawn-written : (u : World) (b : Birth) (place : ℕ) (new : List ℕ) (k : Contents) → Drawn u k → Drawn u (in_known (change (is_content b) (written place new)) k)
+drawn-written u b place new Unknown all = refl
+drawn-written u b place new (Known rows) all = every-change (λ c. is_drawn u c.section) (is_content b) (written place new) (λ c is. is) rows all
 
 -- Steps
 changed-born : (u : World) (who : ℕ) (f : ThreadRow → ThreadRow) → ((x : ThreadRow) → (f x).birth ≡ x.birth) → ((x : ThreadRow) → (f x).number ≡ x.number) → ((b : Birth) (x : ThreadRow) → is_before b x ≡ true → is_before b (f x) ≡ true) → Born u → Born (record u { threads = change (is_thread who) f u.threads })
@@ -73,10 +99,15 @@ changed-born u who f births numbers more b = record {
   uses = every-change (λ t. was_thread u t.number) (is_thread who) f (λ t is. rw (numbers t) is) u.threads b.uses;
   zero = b.zero;
   once = λ n. rw (count-change (is_thread n) (is_thread who) f (λ x. ap (λ i. i == n) (numbers x)) u.threads) (b.once n);
+  sections = every-more (λ s. is_drawn u s.birth) (λ s. is_drawn v s.birth) (λ s is. drawn s.birth is) u.sections b.sections;
+  contents = drawn-more u v drawn u.contents b.contents;
 }
   where
     v : World
     v = record u { threads = change (is_thread who) f u.threads }
+
+    drawn : (b : Birth) → is_drawn u b ≡ true → is_drawn v b ≡ true
+    drawn b is = and_from _ _ (first-true _ _ is) (every-change (is_before b) (is_thread who) f (more b) u.threads (second-true (was_thread u b.maker) _ is))
 
     kept : (t : ThreadRow) → is_after u t ≡ true → is_after v t ≡ true
     kept t is = and_from _ _ (first-true _ _ is) (every-change (λ x. is_before x.birth t) (is_thread who) f (λ x is. rw (births x) is) u.threads (second-true (every (λ p. is_before p.birth t) u.processes) _ is))
@@ -93,8 +124,18 @@ drawn-before b t is = at (b.maker == t.number) is
     at false is = refl
 
 freed-born : (u : World) (k : ObjectKind) (b : Birth) → Born u → Born (freed u k b)
-freed-born u kind.Port b o = record { processes = o.processes; threads = o.threads; past = o.past; numbers = o.numbers; uses = o.uses; zero = o.zero; once = o.once }
-freed-born u kind.Section b o = o
+freed-born u kind.Port b o = record { processes = o.processes; threads = o.threads; past = o.past; numbers = o.numbers; uses = o.uses; zero = o.zero; once = o.once; sections = o.sections; contents = o.contents }
+freed-born u kind.Section b o = record {
+  processes = o.processes;
+  threads = o.threads;
+  past = o.past;
+  numbers = o.numbers;
+  uses = o.uses;
+  zero = o.zero;
+  once = o.once;
+  sections = every-without (λ s. is_drawn u s.birth) (is_section b) u.sections o.sections;
+  contents = drawn-without u b u.contents o.contents;
+}
 freed-born u kind.Token b o = o
 freed-born u kind.Process b o = record {
   processes = every-without (λ p. is_made u p.birth p.number) (λ p. same_birth p.birth b) u.processes o.processes;
@@ -104,6 +145,8 @@ freed-born u kind.Process b o = record {
   uses = o.uses;
   zero = o.zero;
   once = o.once;
+  sections = o.sections;
+  contents = o.contents;
 }
 freed-born u kind.Thread b o = record {
   processes = o.processes;
@@ -114,24 +157,32 @@ freed-born u kind.Thread b o = record {
   uses = every-without (λ t. was_thread u t.number) (λ t. same_birth t.birth b) u.threads o.uses;
   zero = o.zero;
   once = λ n. count-less (is_thread n) (λ t. same_birth t.birth b) u.threads 1 (o.once n);
+  sections = every-more (λ s. is_drawn u s.birth) (λ s. is_drawn (freed u kind.Thread b) s.birth) (λ s is. drawn s.birth is) u.sections o.sections;
+  contents = drawn-more u (freed u kind.Thread b) drawn u.contents o.contents;
 }
+  where
+    drawn : (d : Birth) → is_drawn u d ≡ true → is_drawn (freed u kind.Thread b) d ≡ true
+    drawn d is = and_from _ _ (first-true _ _ is) (every-without (is_before d) (λ t. same_birth t.birth b) u.threads (second-true (was_thread u d.maker) _ is))
 
--- a step that makes no process and no thread
+-- a step that makes no process, no thread and no section
 abbrev pub makes_none : Basic → Bool
 makes_none (AddsProcess p) = false
 makes_none (AddsThread t) = false
+makes_none (AddsSection s) = false
 makes_none b = true
 
 none-born : (u : World) (b : Basic) → makes_none b ≡ true → Born u → Born (basic u b)
 none-born u (AddsProcess p) none o = absurd (cc)
 none-born u (AddsThread t) none o = absurd (cc)
+none-born u (AddsSection s) none o = absurd (cc)
+none-born u (Writes b place new) none o = record { processes = o.processes; threads = o.threads; past = o.past; numbers = o.numbers; uses = o.uses; zero = o.zero; once = o.once; sections = o.sections; contents = drawn-written u b place new u.contents o.contents }
 none-born u (DrawsIdentifier who) none o = changed-born u who past_identifier (λ x. refl) (λ x. refl) (λ b x is. is) o
 none-born u (DrawsOrdinal who) none o = changed-born u who past_ordinal (λ x. refl) (λ x. refl) drawn-before o
-none-born u (Dies who status) none o = let c = changed-born u who ended (λ x. refl) (λ x. refl) (λ b x is. is) o in record { processes = c.processes; threads = c.threads; past = c.past; numbers = c.numbers; uses = c.uses; zero = c.zero; once = c.once }
+none-born u (Dies who status) none o = let c = changed-born u who ended (λ x. refl) (λ x. refl) (λ b x is. is) o in record { processes = c.processes; threads = c.threads; past = c.past; numbers = c.numbers; uses = c.uses; zero = c.zero; once = c.once; sections = c.sections; contents = c.contents }
 none-born u (Registers who b) none o = changed-born u who (registering b) (λ x. refl) (λ x. refl) (λ b x is. is) o
 none-born u (Unregisters who b) none o = changed-born u who (unregistering b) (λ x. refl) (λ x. refl) (λ b x is. is) o
 none-born u (Frees n) none o = freed-born u n.kind n.birth o
-none-born u b none o = record { processes = o.processes; threads = o.threads; past = o.past; numbers = o.numbers; uses = o.uses; zero = o.zero; once = o.once }
+none-born u b none o = record { processes = o.processes; threads = o.threads; past = o.past; numbers = o.numbers; uses = o.uses; zero = o.zero; once = o.once; sections = o.sections; contents = o.contents }
 
 pub nones-born : (u : World) (bs : List Basic) → every makes_none bs ≡ true → Born u → Born (world_after u bs)
 nones-born u [] none o = o
@@ -147,6 +198,8 @@ process-born u p made before o = record {
   uses = o.uses;
   zero = o.zero;
   once = o.once;
+  sections = o.sections;
+  contents = o.contents;
 }
   where
     past : (ts : List ThreadRow) → every (is_after u) ts ≡ true → every (is_before p.birth) ts ≡ true → every (is_after (basic u (AddsProcess p))) ts ≡ true
@@ -183,10 +236,22 @@ thread-born u t made before unused id o = record {
   uses = every-push (λ x. was_thread v x.number) u.threads t (every-more (λ x. was_thread u x.number) (λ x. was_thread v x.number) (λ x is. has-kept (λ (y : UsedThread). y.number == x.number) u.used_threads (record { number = t.number; process = t.process }) is) u.threads o.uses) (has-push (λ (y : UsedThread). y.number == t.number) u.used_threads (record { number = t.number; process = t.process }) (same-number t.number));
   zero = none u.used_threads o.zero id;
   once = new-once u.threads t o.once (has-off (is_thread t.number) u.threads (every-more (λ x. was_thread u x.number) (λ x. not (is_thread t.number x)) (λ x used. off x (is_thread t.number x) refl used) u.threads o.uses));
+  sections = every-more (λ s. is_drawn u s.birth) (λ s. is_drawn v s.birth) (λ s is. drawn s.birth is) u.sections o.sections;
+  contents = drawn-more u v drawn u.contents o.contents;
 }
   where
     v : World
     v = basic u (AddsThread t)
+
+    drawn : (b : Birth) → is_drawn u b ≡ true → is_drawn v b ≡ true
+    drawn b is =
+        let maker : was_thread u b.maker ≡ true = first-true _ _ is in
+        and_from _ _ (has-kept (λ (y : UsedThread). y.number == b.maker) u.used_threads (record { number = t.number; process = t.process }) maker)
+        (every-push (is_before b) u.threads t (second-true (was_thread u b.maker) _ is) (rw (other (b.maker == t.number) refl maker) refl))
+      where
+        other : (e : Bool) → (b.maker == t.number) ≡ e → was_thread u b.maker ≡ true → e ≡ false
+        other false off used = refl
+        other true same used = let never : was_thread u t.number ≡ true = subst (λ n. was_thread u n ≡ true) (eqb-true b.maker t.number same) used in absurd (cc)
 
     off : (x : ThreadRow) (e : Bool) → is_thread t.number x ≡ e → was_thread u x.number ≡ true → not e ≡ true
     off x false apart used = refl
@@ -252,6 +317,7 @@ made-by u b n used = rw used (or-true ((b.maker == 0) && (b.ordinal == n)))
 ending-none : (b : Basic) → is_ending b ≡ true → makes_none b ≡ true
 ending-none (AddsProcess p) is = absurd (cc)
 ending-none (AddsThread t) is = absurd (cc)
+ending-none (AddsSection s) is = absurd (cc)
 ending-none b is = refl
 
 enter-none : (m : MessageRow) (v : World) → every makes_none (enter m v) ≡ true
@@ -277,7 +343,7 @@ module _ (u : World) (by : ThreadRow) (live : live_thread u by.number ≡ Some b
       let next_past : every (is_before (second_birth by)) v.threads ≡ true = rw twice (drawn-past u by (λ t. past_ordinal (past_ordinal t)) (second_birth by) live refl (λ t. refl) (less-next (by.next_ordinal + 1)) o) in
       let three = process-born v (new_process pid (Some by.process) (next_birth by)) (made-by v (next_birth by) pid used) first_past two in
       let four = thread-born (basic v (AddsProcess (new_process pid (Some by.process) (next_birth by)))) (new_thread tid pid (second_birth by)) (made-by v (second_birth by) tid used) next_past unused (is-id tid (second-true _ _ ids)) three in
-      record { processes = four.processes; threads = four.threads; past = four.past; numbers = four.numbers; uses = four.uses; zero = four.zero; once = four.once }
+      record { processes = four.processes; threads = four.threads; past = four.past; numbers = four.numbers; uses = four.uses; zero = four.zero; once = four.once; sections = four.sections; contents = four.contents }
 
   started : (tid pid : ℕ) → is_id tid ≡ true → was_thread u tid ≡ false → Born (world_after u (making_thread u by tid pid))
   started tid pid id unused =
@@ -285,7 +351,7 @@ module _ (u : World) (by : ThreadRow) (live : live_thread u by.number ≡ Some b
       let two : Born v = none-born u (DrawsOrdinal by.number) refl o in
       let next_past : every (is_before (next_birth by)) v.threads ≡ true = drawn-past u by past_ordinal (next_birth by) live refl (λ t. refl) (less-next by.next_ordinal) o in
       let three = thread-born v (new_thread tid pid (next_birth by)) (made-by v (next_birth by) tid used) next_past unused (is-id tid id) two in
-      record { processes = three.processes; threads = three.threads; past = three.past; numbers = three.numbers; uses = three.uses; zero = three.zero; once = three.once }
+      record { processes = three.processes; threads = three.threads; past = three.past; numbers = three.numbers; uses = three.uses; zero = three.zero; once = three.once; sections = three.sections; contents = three.contents }
 
   nones : (bs : List Basic) → every makes_none bs ≡ true → Born (world_after u bs)
   nones bs all = nones-born u bs all o
@@ -372,7 +438,7 @@ line-born u (link path target) ids o = directed_holds (λ bs. Born (world_after 
 line-born u (run tid call) ids o = thread-line-born u tid call (live_thread u tid) refl (second-true (is_id tid) _ ids) o
 
 pub born_none : Born no_rows
-born_none = record { processes = refl; threads = refl; past = refl; numbers = refl; uses = refl; zero = refl; once = λ n. omega arith }
+born_none = record { processes = refl; threads = refl; past = refl; numbers = refl; uses = refl; zero = refl; once = λ n. omega arith; sections = refl; contents = refl }
 
 -- What is made next is new
 before-new : (b : Birth) (by : ThreadRow) (n : Birth) → is_before b by ≡ true → n.maker ≡ by.number → nat_lt n.ordinal by.next_ordinal ≡ false → not (same_birth b n) ≡ true
@@ -401,6 +467,15 @@ next-threads u by live o = every-more (λ t. is_before t.birth by) (λ t. not (s
   where
     neither : (a b : Bool) → not a ≡ true → not b ≡ true → not (a || b) ≡ true
     neither a b one two = grind arith
+
+drawn-new : (u : World) (by : ThreadRow) (b : Birth) → live_thread u by.number ≡ Some by → is_drawn u b ≡ true → not (same_birth b (next_birth by)) ≡ true
+drawn-new u by b live is = before-new b by (next_birth by) (every-first (is_before b) (is_live_thread by.number) u.threads by (second-true (was_thread u b.maker) _ is) live) refl (not-less by.next_ordinal)
+
+pub next-sections : (u : World) (by : ThreadRow) → live_thread u by.number ≡ Some by → Born u → every (λ s. not (same_birth s.birth (next_birth by))) u.sections ≡ true
+next-sections u by live o = every-more (λ s. is_drawn u s.birth) (λ s. not (same_birth s.birth (next_birth by))) (λ s is. drawn-new u by s.birth live is) u.sections o.sections
+
+pub next-contents : (u : World) (by : ThreadRow) → live_thread u by.number ≡ Some by → Born u → every (λ c. not (same_birth c.section (next_birth by))) (content_rows u.contents) ≡ true
+next-contents u by live o = every-more (λ c. is_drawn u c.section) (λ c. not (same_birth c.section (next_birth by))) (λ c is. drawn-new u by c.section live is) (content_rows u.contents) o.contents
 
 -- a directive's number gives a birth that no row has
 directed-new : (u : World) (b : Birth) (n number pid : ℕ) → is_made u b n ≡ true → was_thread u 0 ≡ false → (n == number) ≡ false → not (same_birth b (directive_birth number pid)) ≡ true

@@ -12,15 +12,15 @@ use Rattle.lpc_base.proofs.Births.{birth-same}
 use Rattle.lpc_base.specs.declared.port_kind.PortKind.TheVariants.{Client, Connection, Server, Unnamed}
 use Rattle.lpc_model.specs.declared.entry.ObjectKind.{ObjectKind}
 use Rattle.lpc_model.specs.declared.entry.ObjectKind.TheVariants as kind
-use Rattle.lpc_model.specs.World.{Birth, HandleRow, HandleTable, MessageRow, ObjectName, PortKind, PortRow, ProcessRow, WaitRow, World, ThreadRow}
-use Rattle.lpc_model.specs.Found.{handle_count, is_client_port, is_connected_to, is_cut, is_life, lives_by, is_made_on, is_paired_to, is_port, is_request, is_sent_on, is_server_port, is_the, port_name, same_birth, same_kind, same_object, all_registrations, registered_by}
+use Rattle.lpc_model.specs.World.{Birth, HandleRow, HandleTable, MessageRow, ObjectName, PortKind, PortRow, ProcessRow, ViewRow, WaitRow, World, ThreadRow}
+use Rattle.lpc_model.specs.Found.{handle_count, is_client_port, is_connected_to, is_cut, is_life, lives_by, is_made_on, is_paired_to, is_port, is_request, is_sent_on, is_server_port, is_the, port_name, same_birth, same_kind, same_object, shows_section, all_registrations, registered_by}
 use Rattle.lpc_model.specs.Standing.{is_near}
 use Rattle.lpc_model.specs.Circle.{Group, is_fine_client, is_fine_port}
 use Rattle.lpc_isolation.proofs.Views.Alone.{HasFineRows}
 use Rattle.lpc_isolation.proofs.Gone.Served.{is_made_to, is_sent_to, is_standing, standing_as, standing_count, standing_holders}
-use Rattle.lpc_isolation.proofs.Views.View.{of_birth, our_message, our_port, our_wait, seen_pair, seen_port, view, our_process, our_thread}
+use Rattle.lpc_isolation.proofs.Views.View.{of_birth, hidden_section, our_message, our_port, our_view, our_wait, seen_pair, seen_port, seen_view, view, our_process, our_thread}
 use Rattle.lpc_isolation.proofs.Views.Filters.{count-inside, first-inside, has-inside, which-where}
-use Rattle.lpc_isolation.proofs.Rows.Fair.{Fair, all_of, is_fair_message, is_fair_pair, is_fair_port, is_fair_wait, is_fair_life, is_fair_process, is_home, is_fair_thread, together}
+use Rattle.lpc_isolation.proofs.Rows.Fair.{Fair, all_of, is_fair_message, is_fair_pair, is_fair_port, is_fair_view, is_fair_wait, is_fair_life, is_fair_process, is_home, is_fair_thread, together}
 use Rattle.lpc_isolation.proofs.Views.Callers.{c-wait}
 use Rattle.lpc_isolation.proofs.Views.Mine.{the-seen}
 use Rattle.lpc_isolation.proofs.Gone.Thin.{Alive, Closed, handle_closed, message_closed, port_alive, port_cut, table_closed, thin, wait_closed, alive_as, lasts, object_alive, port-live, process_alive, registered-thin, thread_alive, thread_closed}
@@ -242,9 +242,29 @@ lives_view m c w b inside f =
 life_view : (m : Group) (c : ℕ) (w : World) (b : Birth) → m b.process ≡ true → Fair m c w → count (is_life b) (view m w).threads ≡ count (is_life b) w.threads
 life_view m c w b inside f = ap length (which-where (is_fair_life m) (our_thread m) (is_life b) (λ t fair is. together m t.process t.birth.process fair ∙ of_birth m t.birth b (second-true t.live _ is) ∙ inside) w.threads f.lives)
 
+-- a section of c's is shown by views of members
+shows-seen : (m : Group) (b : Birth) (v : ViewRow) → m b.process ≡ true → shows_section b (seen_view m v) ≡ shows_section b v
+shows-seen m b v inside = at (m v.section.process) refl
+  where
+    other : (d : Birth) → m d.process ≡ false → same_birth d b ≡ false
+    other d out = false_from_ne_true (same_birth d b) (λ is. let same : m d.process ≡ m b.process = of_birth m d b is in cc)
+
+    at : (e : Bool) → m v.section.process ≡ e → shows_section b (cond e v (record v { section = hidden_section v.section; offset = 0 })) ≡ shows_section b v
+    at true is = refl
+    at false out = other (hidden_section v.section) out ∙ sym (other v.section out)
+
+shows_view : (m : Group) (c : ℕ) (w : World) (b : Birth) → m b.process ≡ true → b.process ≡ c → Fair m c w → count (shows_section b) (view m w).views ≡ count (shows_section b) w.views
+shows_view m c w b inside mine f =
+    count-shown (is_fair_view m c) (our_view m) (shows_section b) (shows_section b) (seen_view m) (λ v fair ours. shows-seen m b v inside) (λ v fair is. member v fair is) w.views f.views
+  where
+    member : (v : ViewRow) → is_fair_view m c v ≡ true → shows_section b v ≡ true → m v.process ≡ true
+    member v fair is =
+        let own : (v.section.process == c) ≡ true = ap (λ (b : Birth). b.process == c) (birth-same v.section b is) ∙ ap (λ n. n == c) mine ∙ same-number c in
+        grind arith
+
 as-view : (m : Group) (c : ℕ) (w : World) (k : ObjectKind) (b : Birth) → m c ≡ true → b.process ≡ c → Fair m c w → HasFineRows m c w → standing_as (view m w) k b ≡ standing_as w k b
 as-view m c w kind.Port b c_in mine f fine = ports-view m c w b c_in mine f fine
-as-view m c w kind.Section b c_in mine f fine = refl
+as-view m c w kind.Section b c_in mine f fine = shows_view m c w b (ap m mine ∙ c_in) mine f
 as-view m c w kind.Token b c_in mine f fine = refl
 as-view m c w kind.Process b c_in mine f fine = lives_view m c w b (ap m mine ∙ c_in) f
 as-view m c w kind.Thread b c_in mine f fine = life_view m c w b (ap m mine ∙ c_in) f

@@ -1,5 +1,5 @@
 -- What a line may make is alive with what stands: it has births that no row has.
-use Rattle.std.proofs.Common.{◌≡◌, ℕ, List, [], ◌∷◌, Bool, true, false, not, Option, Some, None, refl, sym, subst, arith}
+use Rattle.std.proofs.Common.{◌≡◌, ℕ, List, [], ◌∷◌, Bool, true, false, not, Option, Some, None, refl, ap, sym, subst, arith}
 use Rattle.std.specs.Prelude.{◌&&◌, ◌||◌, ◌==◌, Ok}
 use Rattle.std.proofs.lemmas.Bool.{and_from, eqb-true, or_left, or_right}
 use Rattle.lpc_base.specs.Rows.{every, which}
@@ -10,9 +10,9 @@ use Rattle.lpc_base.proofs.Births.{birth-self}
 use Rattle.lpc_model.specs.declared.entry.ObjectKind.{ObjectKind}
 use Rattle.lpc_model.specs.declared.entry.ObjectKind.TheVariants as kind
 use Rattle.lpc_model.specs.declared.entry.Word.TheVariants as word
-use Rattle.lpc_model.specs.World.{Birth, PortRow, ProcessRow, ThreadRow, World}
+use Rattle.lpc_model.specs.World.{Birth, ContentRow, Contents, Known, PortRow, ProcessRow, SectionRow, ThreadRow, Unknown, World}
 use Rattle.lpc_model.specs.Found.{all_registrations, is_live, live_thread, same_birth, was_process, was_thread}
-use Rattle.lpc_model.specs.Basics.{Basic}
+use Rattle.lpc_model.specs.Basics.{Basic, in_known}
 use Rattle.lpc_model.specs.Lines.{ScriptCall, boot, create_process, thread}
 use Rattle.lpc_model.specs.Machine.{bare_steps, boot_line, directive_birth, thread_line, thread_test}
 use Rattle.lpc_model.specs.Creation.{second_birth}
@@ -22,15 +22,16 @@ use Rattle.lpc_model.proofs.Calls.Creating.{tested-further}
 use Rattle.lpc_model.proofs.Calls.Holding.{bind_holds, directed_holds, holds_ok}
 use Rattle.lpc_isolation.proofs.Gone.Served.{served_steps}
 use Rattle.lpc_isolation.proofs.Gone.Fresh.{next-new}
-use Rattle.lpc_isolation.proofs.Gone.Thin.{Alive, Closed, alive_as, all_alive, handle_closed, message_closed, port_alive, port_closed, port_cut, process_alive, process_closed, table_closed, thin, thread_alive, thread_closed, wait_closed}
+use Rattle.lpc_isolation.proofs.Gone.Thin.{Alive, Closed, alive_as, all_alive, handle_closed, message_closed, content_alive, port_alive, port_closed, port_cut, process_alive, process_closed, section_alive, table_closed, thin, thread_alive, thread_closed, view_closed, wait_closed}
 use Rattle.lpc_isolation.proofs.Gone.ThinCalls.{AreClosed}
 use Rattle.lpc_isolation.proofs.Calls.Laws.{Room, home-live, is_home}
-use Rattle.lpc_isolation.proofs.Gone.Born.{Born, directed-processes, directed-threads, next-process, next-threads}
+use Rattle.lpc_isolation.proofs.Gone.Born.{Born, content_rows, directed-processes, directed-threads, next-contents, next-process, next-sections, next-threads}
 
 -- what stands, and more
 abbrev pub either : Alive → Alive → Alive
 either n k = record {
   ports = λ b. k.ports b || n.ports b;
+  sections = λ b. k.sections b || n.sections b;
   processes = λ b. k.processes b || n.processes b;
   threads = λ b. k.threads b || n.threads b;
   homes = λ i. k.homes i || n.homes i;
@@ -39,12 +40,14 @@ either n k = record {
 -- no row has a birth, or a process a number, of these
 pub record IsNew (n : Alive) (u : World) : Type 0 where
   pub ports : every (λ p. not (n.ports p.birth)) u.ports ≡ true
+  pub sections : every (λ s. not (n.sections s.birth)) u.sections ≡ true
+  pub contents : every (λ c. not (n.sections c.section)) (content_rows u.contents) ≡ true
   pub processes : every (λ p. not (n.processes p.birth) && not (n.homes p.number)) u.processes ≡ true
   pub threads : every (λ t. not (n.threads t.birth)) u.threads ≡ true
 
 as-more : (n k : Alive) (s : ObjectKind) (b : Birth) → alive_as k s b ≡ true → alive_as (either n k) s b ≡ true
 as-more n k kind.Port b is = or_left (k.ports b) (n.ports b) is
-as-more n k kind.Section b is = is
+as-more n k kind.Section b is = or_left (k.sections b) (n.sections b) is
 as-more n k kind.Token b is = is
 as-more n k kind.Process b is = or_left (k.processes b) (n.processes b) is
 as-more n k kind.Thread b is = or_left (k.threads b) (n.threads b) is
@@ -88,27 +91,36 @@ either-closed n k u new c = record {
   cuts = every-more (port_cut k) (port_cut (either n k)) (λ p is. grind arith) u.ports c.cuts;
   threads = every-more (thread_closed k) (thread_closed (either n k)) (thread-more n k) u.threads c.threads;
   processes = every-both (process_closed k) (λ p. not (n.processes p.birth) && not (n.homes p.number)) (process_closed (either n k)) (process-more n k) u.processes c.processes new.processes;
+  views = every-more (view_closed k) (view_closed (either n k)) (λ v is. or_left (k.sections v.section) (n.sections v.section) is) u.views c.views;
 }
 
 which-either : {X : Type 0} (k n : X → Bool) (xs : List X) → every (λ x. not (n x)) xs ≡ true → which (λ x. k x || n x) xs ≡ which k xs
 which-either k n [] new = refl
 which-either k n (x ∷ xs) new = grind (arith, which-either k n xs)
 
-same-rows : (u : World) (ps qs : List ProcessRow) (ts ss : List ThreadRow) (os rs : List PortRow) → ps ≡ qs → ts ≡ ss → os ≡ rs
-    → let v : World = record u { processes = ps; threads = ts; ports = os } in let w : World = record u { processes = qs; threads = ss; ports = rs } in v ≡ w
-same-rows u ps qs ts ss os rs a b c = rw (a, b, c) refl
+bytes-either : (n k : Alive) (c : Contents) → every (λ r. not (n.sections r.section)) (content_rows c) ≡ true → in_known (which (content_alive (either n k))) c ≡ in_known (which (content_alive k)) c
+bytes-either n k Unknown new = refl
+bytes-either n k (Known rows) new = ap (λ rows. Known rows) (which-either (content_alive k) (content_alive n) rows new)
+
+same-rows : (u : World) (ps qs : List ProcessRow) (ts ss : List ThreadRow) (os rs : List PortRow) (xs ys : List SectionRow) (i j : Contents) → ps ≡ qs → ts ≡ ss → os ≡ rs → xs ≡ ys → i ≡ j
+    → let v : World = record u { processes = ps; threads = ts; ports = os; sections = xs; contents = i } in let w : World = record u { processes = qs; threads = ss; ports = rs; sections = ys; contents = j } in v ≡ w
+same-rows u ps qs ts ss os rs xs ys i j a b c d e = rw (a, b, c, d, e) refl
 
 pub either-thin : (n k : Alive) (u : World) → IsNew n u → thin (either n k) u ≡ thin k u
 either-thin n k u new =
     same-rows u (which (process_alive (either n k)) u.processes) (which (process_alive k) u.processes) (which (thread_alive (either n k)) u.threads) (which (thread_alive k) u.threads) (which (port_alive (either n k)) u.ports) (which (port_alive k) u.ports)
+    (which (section_alive (either n k)) u.sections) (which (section_alive k) u.sections) (in_known (which (content_alive (either n k))) u.contents) (in_known (which (content_alive k)) u.contents)
     (which-either (process_alive k) (process_alive n) u.processes (every-more (λ p. not (n.processes p.birth) && not (n.homes p.number)) (λ p. not (n.processes p.birth)) (λ p is. first-true _ _ is) u.processes new.processes))
     (which-either (thread_alive k) (thread_alive n) u.threads new.threads)
     (which-either (port_alive k) (port_alive n) u.ports new.ports)
+    (which-either (section_alive k) (section_alive n) u.sections new.sections)
+    (bytes-either n k u.contents new.contents)
 
 -- What a call may make
 abbrev pub next_births : World → ThreadRow → ScriptCall → Alive
 next_births u by call = record {
   ports = λ b. same_birth b (next_birth by);
+  sections = λ b. same_birth b (next_birth by);
   processes = λ b. same_birth b (next_birth by);
   threads = λ b. same_birth b (next_birth by) || same_birth b (second_birth by);
   homes = is_home u call;
@@ -127,6 +139,8 @@ next-births u by call live s o = record {
   ports = next-new u by.number by s live;
   processes = every-both (λ p. not (same_birth p.birth (next_birth by))) (λ p. was_process u p.number) (λ p. not (same_birth p.birth (next_birth by)) && not (is_home u call p.number)) (λ p new was. and_from _ _ new (home-apart u call p.number was)) u.processes (next-process u by live o) o.numbers;
   threads = next-threads u by live o;
+  sections = next-sections u by live o;
+  contents = next-contents u by live o;
 }
 
 pub room-of : (k : Alive) (u : World) (by : ThreadRow) (call : ScriptCall) → Room (either (next_births u by call) k) u by call
@@ -135,6 +149,7 @@ room-of k u by call =
     let m : Birth = second_birth by in
     record {
       port = or_right (k.ports n) (same_birth n n) (birth-self n);
+      section = or_right (k.sections n) (same_birth n n) (birth-self n);
       process = or_right (k.processes n) (same_birth n n) (birth-self n);
       thread = or_right (k.threads n) (same_birth n n || same_birth n m) (or_left (same_birth n n) (same_birth n m) (birth-self n));
       second = or_right (k.threads m) (same_birth m n || same_birth m m) (or_right (same_birth m n) (same_birth m m) (birth-self m));
@@ -145,6 +160,7 @@ room-of k u by call =
 abbrev boot_births : ℕ → ℕ → Alive
 boot_births pid tid = record {
   ports = λ b. false;
+  sections = λ b. false;
   processes = λ b. same_birth b (directive_birth pid pid);
   threads = λ b. same_birth b (directive_birth tid pid);
   homes = λ n. n == pid;
@@ -153,6 +169,7 @@ boot_births pid tid = record {
 abbrev thread_births : ℕ → ℕ → Alive
 thread_births tid pid = record {
   ports = λ b. false;
+  sections = λ b. false;
   processes = λ b. false;
   threads = λ b. same_birth b (directive_birth tid pid);
   homes = λ n. false;
@@ -184,7 +201,7 @@ boot-grows k u pid tid o c = at (was_process u pid) (was_thread u tid) refl refl
     at false false was used =
         let p : Birth = directive_birth pid pid in
         let t : Birth = directive_birth tid pid in
-        grown (boot_births pid tid) k u _ (record { ports = every-true u.ports; processes = directed-processes u pid was o; threads = directed-threads u tid pid used o }) c
+        grown (boot_births pid tid) k u _ (record { ports = every-true u.ports; sections = every-true u.sections; contents = every-true (content_rows u.contents); processes = directed-processes u pid was o; threads = directed-threads u tid pid used o }) c
         (rw (was, used) (boot-names (k.processes p || same_birth p p) (k.threads t || same_birth t t) (k.homes pid || (pid == pid)) (or_right (k.processes p) (same_birth p p) (birth-self p)) (or_right (k.threads t) (same_birth t t) (birth-self t)) (or_right (k.homes pid) (pid == pid) (same-number pid))))
 
 pub thread-grows : (k : Alive) (u : World) (tid pid : ℕ) → Born u → Closed k u → Grows k u (served_steps (thread tid pid) u)
@@ -199,6 +216,6 @@ thread-grows k u tid pid o c = at (was_thread u tid) refl
     at false unused =
         let t : Birth = directive_birth tid pid in
         let k' : Alive = either (thread_births tid pid) k in
-        grown (thread_births tid pid) k u _ (record { ports = every-true u.ports; processes = every-true u.processes; threads = directed-threads u tid pid unused o }) c
+        grown (thread_births tid pid) k u _ (record { ports = every-true u.ports; sections = every-true u.sections; contents = every-true (content_rows u.contents); processes = every-true u.processes; threads = directed-threads u tid pid unused o }) c
         (directed_holds (AreClosed k') word.Thread (thread_line u tid pid) (bind_holds (thread_test u tid pid) _ (AreClosed k') (λ v is.
         thread-names (k.threads t || same_birth t t) (k.homes pid || false) (or_right (k.threads t) (same_birth t t) (birth-self t)) (or_left (k.homes pid) false (home-live k u pid c (facts v is).0)))) (λ _. refl))

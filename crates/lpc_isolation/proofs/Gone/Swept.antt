@@ -126,7 +126,7 @@ circle-same m c w u (Some line ∷ later) ids t fine along last =
 
 -- The law
 behind_none : Behind no_rows no_rows
-behind_none = record { alive = record { ports = λ b. true; processes = λ b. true; threads = λ b. true; homes = λ n. true }; same = refl; closed = record { tables = refl; ports = refl; messages = refl; waits = refl; registrations = refl; cuts = refl; threads = refl; processes = refl } }
+behind_none = record { alive = record { ports = λ b. true; sections = λ b. true; processes = λ b. true; threads = λ b. true; homes = λ n. true }; same = refl; closed = record { tables = refl; ports = refl; messages = refl; waits = refl; registrations = refl; cuts = refl; threads = refl; processes = refl; views = refl } }
 
 sides_none : Sides no_rows no_rows
 sides_none = record { firm = firm_none; ports = refl; bare = firm_none; sent = refl; born = born_none; behind = behind_none }

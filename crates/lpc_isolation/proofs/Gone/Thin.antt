@@ -2,16 +2,16 @@
 use Rattle.std.proofs.Common.{◌≡◌, ◌≤◌, ℕ, List, [], ◌∷◌, ◌++◌, Bool, true, false, not, map, Option, Some, None, refl, ap, sym, subst, ◌∙◌, arith}
 use Rattle.std.specs.Prelude.{◌&&◌, ◌||◌, ◌+◌, ◌==◌, nat_lt, is_some}
 use Rattle.std.proofs.lemmas.Bool.{and_from, eqb-true, not-true, or_left}
-use Rattle.lpc_base.specs.Rows.{count, each, every, has, which, without, first}
+use Rattle.lpc_base.specs.Rows.{change, count, each, every, has, which, without, first}
 use Rattle.lpc_base.proofs.RowWords.{every-back, every-change, every-front, every-more, every-push, every-which, every-without, first-passes}
 use Rattle.lpc_base.proofs.RowMaps.{every-both, every-first, every-mapped, every-without_first}
 use Rattle.lpc_base.proofs.Bools.{apart-second, first-true, same-number, second-true}
 use Rattle.lpc_base.proofs.Births.{birth-same, births-apart}
 use Rattle.lpc_model.specs.declared.entry.ObjectKind.{ObjectKind}
 use Rattle.lpc_model.specs.declared.entry.ObjectKind.TheVariants as kind
-use Rattle.lpc_model.specs.World.{Birth, HandleRow, HandleTable, MessageRow, ObjectName, PortRow, ProcessRow, ThreadRow, WaitRow, World}
-use Rattle.lpc_model.specs.Found.{all_handles, handle_count, has_value, is_connected_to, is_cut, is_life, is_made_on, is_own_of, is_paired_to, is_port, is_queued, is_sent_on, is_table, is_the, is_thread, holders, lives_by, port_name, process_name, same_birth, same_kind, same_object, thread_name, waits_as, waits_at, all_registrations, registered_by, live_thread, live_threads, is_live, is_live_thread, lives_in}
-use Rattle.lpc_model.specs.Basics.{Accepts, AddsHandle, AddsProcess, AddsThread, Awaits, Basic, Binds, Completes, Cuts, DrawsIdentifier, DrawsOrdinal, DropsHandle, Empties, Enters, Frees, Joins, Makes, Receives, Takes, TakesConnect, Tells, Unbinds, Wakes, Withdraws, accepted, basic, completed, cut, freed, is_end_of, joined, no_handles, past_identifier, past_ordinal, received, with_handle, without_handle, world_after, Dies, Registers, Unregisters, ended, registering, unregistering}
+use Rattle.lpc_model.specs.World.{Birth, ContentRow, Contents, HandleRow, HandleTable, Known, MessageRow, ObjectName, PortRow, ProcessRow, SectionRow, ThreadRow, Unknown, ViewRow, WaitRow, World}
+use Rattle.lpc_model.specs.Found.{all_handles, handle_count, has_value, is_connected_to, is_content, is_cut, is_life, is_made_on, is_own_of, is_paired_to, is_port, is_queued, is_section, is_sent_on, is_table, is_the, is_thread, is_view, is_view_in, holders, lives_by, port_name, process_name, same_birth, same_kind, same_object, section_name, shows_section, thread_name, waits_as, waits_at, all_registrations, registered_by, live_thread, live_threads, is_live, is_live_thread, lives_in}
+use Rattle.lpc_model.specs.Basics.{Accepts, AddsHandle, AddsProcess, AddsSection, AddsThread, Awaits, Basic, Binds, Completes, Cuts, DrawsIdentifier, DrawsOrdinal, DropsHandle, DropsViewsOf, Empties, Enters, Frees, Joins, Makes, Maps, Receives, Takes, TakesConnect, Tells, Unbinds, Unmaps, Wakes, Withdraws, Writes, accepted, basic, completed, cut, freed, in_known, is_end_of, joined, no_handles, past_identifier, past_ordinal, received, with_handle, without_handle, world_after, written, zeros, Dies, Registers, Unregisters, ended, registering, unregistering}
 use Rattle.lpc_model.specs.Sweep.{free_unheld, is_unheld, sweep, unheld}
 use Rattle.lpc_model.specs.SoundWaits.{IsSoundWorld}
 use Rattle.lpc_model.specs.Linked.{IsLinked}
@@ -25,9 +25,10 @@ use Rattle.lpc_model.proofs.Steps.Rows.{has-off}
 use Rattle.lpc_model.proofs.Steps.InTurn.{after-append}
 use Rattle.lpc_isolation.proofs.Views.Filters.{first-where, has-inside, kept-change, kept-push, which-where}
 
--- the births of the ports, processes and threads that stand, and the numbers of processes that stand while they live
+-- the births of the ports, sections, processes and threads that stand, and the numbers of processes that stand while they live
 pub record Alive : Type 0 where
   pub ports : Birth → Bool
+  pub sections : Birth → Bool
   pub processes : Birth → Bool
   pub threads : Birth → Bool
   pub homes : ℕ → Bool
@@ -41,9 +42,21 @@ process_alive k p = k.processes p.birth
 abbrev pub thread_alive : Alive → ThreadRow → Bool
 thread_alive k t = k.threads t.birth
 
--- the world without the others' rows
+abbrev pub section_alive : Alive → SectionRow → Bool
+section_alive k s = k.sections s.birth
+
+abbrev pub content_alive : Alive → ContentRow → Bool
+content_alive k c = k.sections c.section
+
+-- the world without the others' rows, and without the bytes of other sections
 abbrev pub thin : Alive → World → World
-thin k u = record u { processes = which (process_alive k) u.processes; threads = which (thread_alive k) u.threads; ports = which (port_alive k) u.ports }
+thin k u = record u {
+  processes = which (process_alive k) u.processes;
+  threads = which (thread_alive k) u.threads;
+  ports = which (port_alive k) u.ports;
+  sections = which (section_alive k) u.sections;
+  contents = in_known (which (content_alive k)) u.contents;
+}
 
 -- what a row names is alive
 abbrev pub all_alive : (Birth → Bool) → Option Birth → Bool
@@ -52,7 +65,7 @@ all_alive f (Some b) = f b
 
 abbrev pub alive_as : Alive → ObjectKind → Birth → Bool
 alive_as k kind.Port b = k.ports b
-alive_as k kind.Section b = false
+alive_as k kind.Section b = k.sections b
 alive_as k kind.Token b = false
 alive_as k kind.Process b = k.processes b
 alive_as k kind.Thread b = k.threads b
@@ -74,6 +87,9 @@ message_closed k x = k.ports x.sender
 
 abbrev pub wait_closed : Alive → WaitRow → Bool
 wait_closed k x = k.ports x.port
+
+abbrev pub view_closed : Alive → ViewRow → Bool
+view_closed k v = k.sections v.section
 
 -- a port that a handle names is alive
 kind-live : (k : Alive) (s : ObjectKind) (b : Birth) → alive_as k s b ≡ true → same_kind s kind.Port ≡ true → k.ports b ≡ true
@@ -104,6 +120,7 @@ pub record Closed (k : Alive) (u : World) : Type 0 where
   pub cuts : every (port_cut k) u.ports ≡ true
   pub threads : every (thread_closed k) u.threads ≡ true
   pub processes : every (process_closed k) u.processes ≡ true
+  pub views : every (view_closed k) u.views ≡ true
 
 -- a step that names what is alive alone
 abbrev pub is_closed : Alive → Basic → Bool
@@ -133,6 +150,11 @@ is_closed k (Empties q) = true
 is_closed k (Cuts b) = true
 is_closed k (Unbinds b) = true
 is_closed k (DropsHandle pid value) = true
+is_closed k (AddsSection s) = k.sections s.birth
+is_closed k (Writes b place new) = true
+is_closed k (Maps v) = view_closed k v
+is_closed k (Unmaps pid base) = true
+is_closed k (DropsViewsOf pid) = true
 
 -- Lists
 which-map : {X : Type 0} (k : X → Bool) (f : X → X) → ((x : X) → k (f x) ≡ k x) → (xs : List X) → which k (map f xs) ≡ map f (which k xs)
@@ -160,6 +182,15 @@ joined-alive k client server context p = at (is_port client p) (is_port server p
     at false true is it = rw (is, it) refl
     at false false is it = rw (is, it) refl
 
+-- bytes that are added, and written
+added-alive : (k : Alive) (s : SectionRow) (c : Contents) → k.sections s.birth ≡ true → in_known (which (content_alive k)) (in_known (λ rows. rows ++ zeros s ∷ []) c) ≡ in_known (λ rows. rows ++ zeros s ∷ []) (in_known (which (content_alive k)) c)
+added-alive k s Unknown ok = refl
+added-alive k s (Known rows) ok = ap (λ rows. Known rows) (kept-push (content_alive k) rows (zeros s) ok)
+
+written-alive : (k : Alive) (b : Birth) (place : ℕ) (new : List ℕ) (c : Contents) → in_known (which (content_alive k)) (in_known (change (is_content b) (written place new)) c) ≡ in_known (change (is_content b) (written place new)) (in_known (which (content_alive k)) c)
+written-alive k b place new Unknown = refl
+written-alive k b place new (Known rows) = ap (λ rows. Known rows) (kept-change (content_alive k) (is_content b) (written place new) (λ c. refl) rows)
+
 pub thin-basic : (k : Alive) (u : World) (b : Basic) → is_closed k b ≡ true → thin k (basic u b) ≡ basic (thin k u) b
 thin-basic k u (Makes p) ok = rw (kept-push (port_alive k) u.ports p (first-true _ _ ok)) refl
 thin-basic k u (Joins client server context) ok = rw (which-map (port_alive k) (joined client server context) (joined-alive k client server context) u.ports) refl
@@ -173,6 +204,8 @@ thin-basic k u (Registers who b) ok = rw (kept-change (thread_alive k) (is_threa
 thin-basic k u (Unregisters who b) ok = rw (kept-change (thread_alive k) (is_thread who) (unregistering b) (λ t. refl) u.threads) refl
 thin-basic k u (AddsProcess p) ok = rw (kept-push (process_alive k) u.processes p ok) refl
 thin-basic k u (AddsThread t) ok = rw (kept-push (thread_alive k) u.threads t (first-true _ _ ok)) refl
+thin-basic k u (AddsSection s) ok = rw (kept-push (section_alive k) u.sections s ok, added-alive k s u.contents ok) refl
+thin-basic k u (Writes b place new) ok = rw (written-alive k b place new u.contents) refl
 thin-basic k u b ok = refl
 
 put-closed : (k : Alive) (h : HandleRow) (t : HandleTable) → handle_closed k h ≡ true → table_closed k t ≡ true → table_closed k (with_handle h t) ≡ true
@@ -200,30 +233,35 @@ or-last : (a : Bool) {b : Bool} → b ≡ true → (a || b) ≡ true
 or-last a is = grind arith
 
 pub keeps-closed : (k : Alive) (u : World) (b : Basic) → is_closed k b ≡ true → Closed k u → Closed k (basic u b)
-keeps-closed k u (Awaits x) ok c = record { tables = c.tables; ports = c.ports; messages = c.messages; waits = every-push (wait_closed k) u.waits x c.waits ok; registrations = c.registrations; cuts = c.cuts; threads = c.threads; processes = c.processes }
-keeps-closed k u (Enters x) ok c = record { tables = c.tables; ports = c.ports; messages = every-push (message_closed k) u.messages x c.messages ok; waits = c.waits; registrations = c.registrations; cuts = c.cuts; threads = c.threads; processes = c.processes }
-keeps-closed k u (Makes p) ok c = record { tables = c.tables; ports = every-push (port_closed k) u.ports p c.ports (second-true _ _ ok); messages = c.messages; waits = c.waits; registrations = c.registrations; cuts = every-push (port_cut k) u.ports p c.cuts (or_left (k.ports p.birth) (is_cut p) (first-true _ _ ok)); threads = c.threads; processes = c.processes }
-keeps-closed k u (Joins client server context) ok c = record { tables = c.tables; ports = every-mapped (port_closed k) (joined client server context) (joined-closed k client server context (first-true _ _ ok) (second-true _ _ ok)) u.ports c.ports; messages = c.messages; waits = c.waits; registrations = c.registrations; cuts = every-mapped (port_cut k) (joined client server context) (joined-cut k client server context (first-true _ _ ok) (second-true _ _ ok)) u.ports c.cuts; threads = c.threads; processes = c.processes }
-keeps-closed k u (Binds path node) ok c = record { tables = c.tables; ports = c.ports; messages = c.messages; waits = c.waits; registrations = c.registrations; cuts = c.cuts; threads = c.threads; processes = c.processes }
-keeps-closed k u (AddsHandle pid h) ok c = record { tables = every-change (table_closed k) (is_table pid) (with_handle h) (λ t all. put-closed k h t ok all) u.handles c.tables; ports = c.ports; messages = c.messages; waits = c.waits; registrations = c.registrations; cuts = c.cuts; threads = c.threads; processes = c.processes }
-keeps-closed k u (Empties q) ok c = record { tables = c.tables; ports = c.ports; messages = every-without (message_closed k) (is_queued q) u.messages c.messages; waits = c.waits; registrations = c.registrations; cuts = c.cuts; threads = c.threads; processes = c.processes }
-keeps-closed k u (Cuts b) ok c = record { tables = c.tables; ports = every-change (port_closed k) (is_end_of b) cut (λ p is. grind arith) u.ports c.ports; messages = c.messages; waits = c.waits; registrations = c.registrations; cuts = every-change (port_cut k) (is_end_of b) cut (λ p is. grind arith) u.ports c.cuts; threads = c.threads; processes = c.processes }
-keeps-closed k u (Unbinds b) ok c = record { tables = c.tables; ports = c.ports; messages = c.messages; waits = c.waits; registrations = c.registrations; cuts = c.cuts; threads = c.threads; processes = c.processes }
-keeps-closed k u (DropsHandle pid value) ok c = record { tables = every-change (table_closed k) (is_table pid) (without_handle value) (λ t all. every-without_first (handle_closed k) (has_value value) t.rows all) u.handles c.tables; ports = c.ports; messages = c.messages; waits = c.waits; registrations = c.registrations; cuts = c.cuts; threads = c.threads; processes = c.processes }
-keeps-closed k u (AddsProcess p) ok c = record { tables = every-push (table_closed k) u.handles (no_handles p.number) c.tables refl; ports = c.ports; messages = c.messages; waits = c.waits; registrations = c.registrations; cuts = c.cuts; threads = c.threads; processes = every-push (process_closed k) u.processes p c.processes (or-last (not (k.homes p.number)) ok) }
-keeps-closed k u (AddsThread t) ok c = record { tables = c.tables; ports = c.ports; messages = c.messages; waits = c.waits; registrations = all-pushed k.ports u.threads t (second-true (thread_closed k t) _ (second-true (k.threads t.birth) _ ok)) c.registrations; cuts = c.cuts; threads = every-push (thread_closed k) u.threads t c.threads (first-true _ _ (second-true (k.threads t.birth) _ ok)); processes = c.processes }
-keeps-closed k u (Wakes who call status fields) ok c = record { tables = c.tables; ports = c.ports; messages = c.messages; waits = every-without (wait_closed k) (waits_as who) u.waits c.waits; registrations = c.registrations; cuts = c.cuts; threads = c.threads; processes = c.processes }
-keeps-closed k u (Receives who q) ok c = record { tables = c.tables; ports = c.ports; messages = c.messages; waits = every-change (wait_closed k) (waits_at who q) received (λ x is. is) u.waits c.waits; registrations = c.registrations; cuts = c.cuts; threads = c.threads; processes = c.processes }
-keeps-closed k u (Accepts who reply) ok c = record { tables = c.tables; ports = c.ports; messages = c.messages; waits = every-change (wait_closed k) (waits_as who) (accepted reply) (λ x is. is) u.waits c.waits; registrations = c.registrations; cuts = c.cuts; threads = c.threads; processes = c.processes }
-keeps-closed k u (Takes q) ok c = record { tables = c.tables; ports = c.ports; messages = every-without_first (message_closed k) _ u.messages c.messages; waits = c.waits; registrations = c.registrations; cuts = c.cuts; threads = c.threads; processes = c.processes }
-keeps-closed k u (TakesConnect q) ok c = record { tables = c.tables; ports = c.ports; messages = every-without_first (message_closed k) _ u.messages c.messages; waits = c.waits; registrations = c.registrations; cuts = c.cuts; threads = c.threads; processes = c.processes }
-keeps-closed k u (Withdraws who) ok c = record { tables = c.tables; ports = c.ports; messages = every-without (message_closed k) (is_own_of who) u.messages c.messages; waits = c.waits; registrations = c.registrations; cuts = c.cuts; threads = c.threads; processes = c.processes }
-keeps-closed k u (Completes b) ok c = record { tables = c.tables; ports = every-change (port_closed k) (is_port b) completed (λ p is. is) u.ports c.ports; messages = c.messages; waits = c.waits; registrations = c.registrations; cuts = every-change (port_cut k) (is_port b) completed (λ p is. is) u.ports c.cuts; threads = c.threads; processes = c.processes }
-keeps-closed k u (DrawsIdentifier who) ok c = record { tables = c.tables; ports = c.ports; messages = c.messages; waits = c.waits; registrations = all-changed k.ports (is_thread who) past_identifier (λ t is. is) u.threads c.registrations; cuts = c.cuts; threads = every-change (thread_closed k) (is_thread who) past_identifier (λ t is. is) u.threads c.threads; processes = c.processes }
-keeps-closed k u (DrawsOrdinal who) ok c = record { tables = c.tables; ports = c.ports; messages = c.messages; waits = c.waits; registrations = all-changed k.ports (is_thread who) past_ordinal (λ t is. is) u.threads c.registrations; cuts = c.cuts; threads = every-change (thread_closed k) (is_thread who) past_ordinal (λ t is. is) u.threads c.threads; processes = c.processes }
-keeps-closed k u (Dies who status) ok c = record { tables = c.tables; ports = c.ports; messages = c.messages; waits = every-without (wait_closed k) (waits_as who) u.waits c.waits; registrations = all-changed k.ports (is_thread who) ended (λ t is. refl) u.threads c.registrations; cuts = c.cuts; threads = every-change (thread_closed k) (is_thread who) ended (λ t is. refl) u.threads c.threads; processes = c.processes }
-keeps-closed k u (Registers who b) ok c = record { tables = c.tables; ports = c.ports; messages = c.messages; waits = c.waits; registrations = all-changed k.ports (is_thread who) (registering b) (registering-all k.ports b ok) u.threads c.registrations; cuts = c.cuts; threads = every-change (thread_closed k) (is_thread who) (registering b) (λ t is. is) u.threads c.threads; processes = c.processes }
-keeps-closed k u (Unregisters who b) ok c = record { tables = c.tables; ports = c.ports; messages = c.messages; waits = c.waits; registrations = all-changed k.ports (is_thread who) (unregistering b) (unregistering-all k.ports b) u.threads c.registrations; cuts = c.cuts; threads = every-change (thread_closed k) (is_thread who) (unregistering b) (λ t is. is) u.threads c.threads; processes = c.processes }
+keeps-closed k u (Awaits x) ok c = record { tables = c.tables; ports = c.ports; messages = c.messages; waits = every-push (wait_closed k) u.waits x c.waits ok; registrations = c.registrations; cuts = c.cuts; threads = c.threads; processes = c.processes; views = c.views }
+keeps-closed k u (Enters x) ok c = record { tables = c.tables; ports = c.ports; messages = every-push (message_closed k) u.messages x c.messages ok; waits = c.waits; registrations = c.registrations; cuts = c.cuts; threads = c.threads; processes = c.processes; views = c.views }
+keeps-closed k u (Makes p) ok c = record { tables = c.tables; ports = every-push (port_closed k) u.ports p c.ports (second-true _ _ ok); messages = c.messages; waits = c.waits; registrations = c.registrations; cuts = every-push (port_cut k) u.ports p c.cuts (or_left (k.ports p.birth) (is_cut p) (first-true _ _ ok)); threads = c.threads; processes = c.processes; views = c.views }
+keeps-closed k u (Joins client server context) ok c = record { tables = c.tables; ports = every-mapped (port_closed k) (joined client server context) (joined-closed k client server context (first-true _ _ ok) (second-true _ _ ok)) u.ports c.ports; messages = c.messages; waits = c.waits; registrations = c.registrations; cuts = every-mapped (port_cut k) (joined client server context) (joined-cut k client server context (first-true _ _ ok) (second-true _ _ ok)) u.ports c.cuts; threads = c.threads; processes = c.processes; views = c.views }
+keeps-closed k u (Binds path node) ok c = record { tables = c.tables; ports = c.ports; messages = c.messages; waits = c.waits; registrations = c.registrations; cuts = c.cuts; threads = c.threads; processes = c.processes; views = c.views }
+keeps-closed k u (AddsHandle pid h) ok c = record { tables = every-change (table_closed k) (is_table pid) (with_handle h) (λ t all. put-closed k h t ok all) u.handles c.tables; ports = c.ports; messages = c.messages; waits = c.waits; registrations = c.registrations; cuts = c.cuts; threads = c.threads; processes = c.processes; views = c.views }
+keeps-closed k u (Empties q) ok c = record { tables = c.tables; ports = c.ports; messages = every-without (message_closed k) (is_queued q) u.messages c.messages; waits = c.waits; registrations = c.registrations; cuts = c.cuts; threads = c.threads; processes = c.processes; views = c.views }
+keeps-closed k u (Cuts b) ok c = record { tables = c.tables; ports = every-change (port_closed k) (is_end_of b) cut (λ p is. grind arith) u.ports c.ports; messages = c.messages; waits = c.waits; registrations = c.registrations; cuts = every-change (port_cut k) (is_end_of b) cut (λ p is. grind arith) u.ports c.cuts; threads = c.threads; processes = c.processes; views = c.views }
+keeps-closed k u (Unbinds b) ok c = record { tables = c.tables; ports = c.ports; messages = c.messages; waits = c.waits; registrations = c.registrations; cuts = c.cuts; threads = c.threads; processes = c.processes; views = c.views }
+keeps-closed k u (DropsHandle pid value) ok c = record { tables = every-change (table_closed k) (is_table pid) (without_handle value) (λ t all. every-without_first (handle_closed k) (has_value value) t.rows all) u.handles c.tables; ports = c.ports; messages = c.messages; waits = c.waits; registrations = c.registrations; cuts = c.cuts; threads = c.threads; processes = c.processes; views = c.views }
+keeps-closed k u (AddsSection s) ok c = record { tables = c.tables; ports = c.ports; messages = c.messages; waits = c.waits; registrations = c.registrations; cuts = c.cuts; threads = c.threads; processes = c.processes; views = c.views }
+keeps-closed k u (Writes b place new) ok c = record { tables = c.tables; ports = c.ports; messages = c.messages; waits = c.waits; registrations = c.registrations; cuts = c.cuts; threads = c.threads; processes = c.processes; views = c.views }
+keeps-closed k u (Maps v) ok c = record { tables = c.tables; ports = c.ports; messages = c.messages; waits = c.waits; registrations = c.registrations; cuts = c.cuts; threads = c.threads; processes = c.processes; views = every-push (view_closed k) u.views v c.views ok }
+keeps-closed k u (Unmaps pid base) ok c = record { tables = c.tables; ports = c.ports; messages = c.messages; waits = c.waits; registrations = c.registrations; cuts = c.cuts; threads = c.threads; processes = c.processes; views = every-without (view_closed k) (is_view pid base) u.views c.views }
+keeps-closed k u (DropsViewsOf pid) ok c = record { tables = c.tables; ports = c.ports; messages = c.messages; waits = c.waits; registrations = c.registrations; cuts = c.cuts; threads = c.threads; processes = c.processes; views = every-without (view_closed k) (is_view_in pid) u.views c.views }
+keeps-closed k u (AddsProcess p) ok c = record { tables = every-push (table_closed k) u.handles (no_handles p.number) c.tables refl; ports = c.ports; messages = c.messages; waits = c.waits; registrations = c.registrations; cuts = c.cuts; threads = c.threads; processes = every-push (process_closed k) u.processes p c.processes (or-last (not (k.homes p.number)) ok); views = c.views }
+keeps-closed k u (AddsThread t) ok c = record { tables = c.tables; ports = c.ports; messages = c.messages; waits = c.waits; registrations = all-pushed k.ports u.threads t (second-true (thread_closed k t) _ (second-true (k.threads t.birth) _ ok)) c.registrations; cuts = c.cuts; threads = every-push (thread_closed k) u.threads t c.threads (first-true _ _ (second-true (k.threads t.birth) _ ok)); processes = c.processes; views = c.views }
+keeps-closed k u (Wakes who call status fields) ok c = record { tables = c.tables; ports = c.ports; messages = c.messages; waits = every-without (wait_closed k) (waits_as who) u.waits c.waits; registrations = c.registrations; cuts = c.cuts; threads = c.threads; processes = c.processes; views = c.views }
+keeps-closed k u (Receives who q) ok c = record { tables = c.tables; ports = c.ports; messages = c.messages; waits = every-change (wait_closed k) (waits_at who q) received (λ x is. is) u.waits c.waits; registrations = c.registrations; cuts = c.cuts; threads = c.threads; processes = c.processes; views = c.views }
+keeps-closed k u (Accepts who reply) ok c = record { tables = c.tables; ports = c.ports; messages = c.messages; waits = every-change (wait_closed k) (waits_as who) (accepted reply) (λ x is. is) u.waits c.waits; registrations = c.registrations; cuts = c.cuts; threads = c.threads; processes = c.processes; views = c.views }
+keeps-closed k u (Takes q) ok c = record { tables = c.tables; ports = c.ports; messages = every-without_first (message_closed k) _ u.messages c.messages; waits = c.waits; registrations = c.registrations; cuts = c.cuts; threads = c.threads; processes = c.processes; views = c.views }
+keeps-closed k u (TakesConnect q) ok c = record { tables = c.tables; ports = c.ports; messages = every-without_first (message_closed k) _ u.messages c.messages; waits = c.waits; registrations = c.registrations; cuts = c.cuts; threads = c.threads; processes = c.processes; views = c.views }
+keeps-closed k u (Withdraws who) ok c = record { tables = c.tables; ports = c.ports; messages = every-without (message_closed k) (is_own_of who) u.messages c.messages; waits = c.waits; registrations = c.registrations; cuts = c.cuts; threads = c.threads; processes = c.processes; views = c.views }
+keeps-closed k u (Completes b) ok c = record { tables = c.tables; ports = every-change (port_closed k) (is_port b) completed (λ p is. is) u.ports c.ports; messages = c.messages; waits = c.waits; registrations = c.registrations; cuts = every-change (port_cut k) (is_port b) completed (λ p is. is) u.ports c.cuts; threads = c.threads; processes = c.processes; views = c.views }
+keeps-closed k u (DrawsIdentifier who) ok c = record { tables = c.tables; ports = c.ports; messages = c.messages; waits = c.waits; registrations = all-changed k.ports (is_thread who) past_identifier (λ t is. is) u.threads c.registrations; cuts = c.cuts; threads = every-change (thread_closed k) (is_thread who) past_identifier (λ t is. is) u.threads c.threads; processes = c.processes; views = c.views }
+keeps-closed k u (DrawsOrdinal who) ok c = record { tables = c.tables; ports = c.ports; messages = c.messages; waits = c.waits; registrations = all-changed k.ports (is_thread who) past_ordinal (λ t is. is) u.threads c.registrations; cuts = c.cuts; threads = every-change (thread_closed k) (is_thread who) past_ordinal (λ t is. is) u.threads c.threads; processes = c.processes; views = c.views }
+keeps-closed k u (Dies who status) ok c = record { tables = c.tables; ports = c.ports; messages = c.messages; waits = every-without (wait_closed k) (waits_as who) u.waits c.waits; registrations = all-changed k.ports (is_thread who) ended (λ t is. refl) u.threads c.registrations; cuts = c.cuts; threads = every-change (thread_closed k) (is_thread who) ended (λ t is. refl) u.threads c.threads; processes = c.processes; views = c.views }
+keeps-closed k u (Registers who b) ok c = record { tables = c.tables; ports = c.ports; messages = c.messages; waits = c.waits; registrations = all-changed k.ports (is_thread who) (registering b) (registering-all k.ports b ok) u.threads c.registrations; cuts = c.cuts; threads = every-change (thread_closed k) (is_thread who) (registering b) (λ t is. is) u.threads c.threads; processes = c.processes; views = c.views }
+keeps-closed k u (Unregisters who b) ok c = record { tables = c.tables; ports = c.ports; messages = c.messages; waits = c.waits; registrations = all-changed k.ports (is_thread who) (unregistering b) (unregistering-all k.ports b) u.threads c.registrations; cuts = c.cuts; threads = every-change (thread_closed k) (is_thread who) (unregistering b) (λ t is. is) u.threads c.threads; processes = c.processes; views = c.views }
 keeps-closed k u (Tells e) ok c = c
 keeps-closed k u (Frees o) ok c = absurd (cc)
 
@@ -270,12 +308,15 @@ pub record Behind (w u : World) : Type 0 where
   pub same : w ≡ thin alive u
   pub closed : Closed alive u
 
--- without a port, a process or a thread
+-- without a port, a section, a process or a thread
 abbrev but_birth : Birth → (Birth → Bool) → Birth → Bool
 but_birth b f x = f x && not (same_birth x b)
 
 abbrev pub but : Birth → Alive → Alive
 but b k = record k { ports = but_birth b k.ports }
+
+abbrev but_section : Birth → Alive → Alive
+but_section b k = record k { sections = but_birth b k.sections }
 
 abbrev but_process : World → Birth → Alive → Alive
 but_process u b k = record k { processes = but_birth b k.processes; homes = λ n. k.homes n && is_live u n }
@@ -323,6 +364,10 @@ unnamed-of w b none =
 port-apart : (k : Alive) (b : Birth) (s : ObjectKind) (x : Birth) → alive_as k s x ≡ true → not (same_kind s kind.Port && same_birth x b) ≡ true → alive_as (but b k) s x ≡ true
 port-apart k b kind.Port x live off = and_from _ _ live off
 port-apart k b e x live off = live
+
+section-apart : (k : Alive) (b : Birth) (s : ObjectKind) (x : Birth) → alive_as k s x ≡ true → not (same_kind s kind.Section && same_birth x b) ≡ true → alive_as (but_section b k) s x ≡ true
+section-apart k b kind.Section x live off = and_from _ _ live off
+section-apart k b e x live off = live
 
 process-apart : (k : Alive) (u : World) (b : Birth) (s : ObjectKind) (x : Birth) → alive_as k s x ≡ true → not (same_kind s kind.Process && same_birth x b) ≡ true → alive_as (but_process u b k) s x ≡ true
 process-apart k u b kind.Process x live off = and_from _ _ live off
@@ -384,6 +429,7 @@ frees-one k u b none lonely c =
       cuts = cut-but k b u.ports lonely c.cuts;
       threads = c.threads;
       processes = c.processes;
+      views = c.views;
     }
 
 -- what holds of each row by a number that lives, holds of each row by its own
@@ -432,6 +478,7 @@ frees-process k u b none c =
       waits = c.waits;
       registrations = c.registrations;
       cuts = c.cuts;
+      views = c.views;
       threads = every-both (thread_closed k) (λ t. not t.live || is_live u t.process) (thread_closed (but_process u b k)) (λ t closed lives. grind arith) u.threads c.threads (living-in u.threads);
       processes = every-both (process_closed k) (λ p. not (is_live u p.number) || (not (process_alive k p) || not (same_birth p.birth b && (p.number == p.number)))) (process_closed (but_process u b k))
           (λ p closed apart. goes (k.homes p.number) (is_live u p.number) (k.processes p.birth) (same_birth p.birth b) (p.number == p.number) (same-number p.number) closed apart) u.processes c.processes
@@ -452,6 +499,7 @@ frees-thread k u b none c =
       waits = c.waits;
       registrations = c.registrations;
       cuts = c.cuts;
+      views = c.views;
       threads = every-both (thread_closed k) (λ t. not (thread_alive k t) || not (is_life b t)) (thread_closed (but_thread b k)) (λ t closed apart. goes t.live (k.threads t.birth) (k.homes t.process) (same_birth t.birth b) closed apart) u.threads c.threads
           (none-which (thread_alive k) (is_life b) u.threads (has-off (is_life b) v.threads (none-pass (is_life b) v.threads few)));
       processes = c.processes;
@@ -459,6 +507,26 @@ frees-thread k u b none c =
   where
     goes : (l a h s : Bool) → (not l || (a && h)) ≡ true → (not a || not (l && s)) ≡ true → (not l || ((a && not s) && h)) ≡ true
     goes l a h s closed apart = grind arith
+
+frees-section : (k : Alive) (u : World) (b : Birth) → is_unheld (thin k u) (section_name b) ≡ true → Closed k u → Closed (but_section b k) u
+frees-section k u b none c =
+    let v : World = thin k u in
+    let few = sum-second (handle_count v (section_name b)) (count (shows_section b) v.views) (is-zero (handle_count v (section_name b) + count (shows_section b) v.views) none) in
+    record {
+      tables = tables-off k (but_section b k) (section_name b) u (section-apart k b) (none-handles v (section_name b) none) c.tables;
+      ports = c.ports;
+      messages = c.messages;
+      waits = c.waits;
+      registrations = c.registrations;
+      cuts = c.cuts;
+      threads = c.threads;
+      processes = c.processes;
+      views = every-both (view_closed k) (λ x. not (shows_section b x)) (view_closed (but_section b k)) (λ x live off. and_from _ _ live off) u.views c.views (none-pass (shows_section b) u.views few);
+    }
+
+bytes-but : (k : Alive) (b : Birth) (c : Contents) → in_known (without (is_content b)) (in_known (which (content_alive k)) c) ≡ in_known (which (content_alive (but_section b k))) c
+bytes-but k b Unknown = refl
+bytes-but k b (Known rows) = ap (λ rows. Known rows) (sym (which-but (content_alive k) (is_content b) rows))
 
 lonely-at : (w : World) (b : Birth) → IsLinked w → is_unheld w (port_name b) ≡ true → every (is_lonely b) w.ports ≡ true
 lonely-at w b l none = every-more (λ p. not (is_unheld w (port_name p.birth)) || is_cut p) (is_lonely b) (λ p is. at p (is_port b p) refl is) w.ports (lonely w l)
@@ -476,7 +544,13 @@ behind-one w u o l none r = at o.kind o.birth (subst (λ v. IsLinked v) r.same l
       same = ap (λ v. freed v kind.Port b) r.same ∙ ap (λ ps. record (thin r.alive u) { ports = ps }) (sym (which-but (port_alive r.alive) (is_port b) u.ports));
       closed = frees-one r.alive u b off (lonely-at (thin r.alive u) b linked off) r.closed;
     }
-    at kind.Section b linked off = r
+    at kind.Section b linked off = record {
+      alive = but_section b r.alive;
+      same = ap (λ v. freed v kind.Section b) r.same
+          ∙ ap (λ ss. record (thin r.alive u) { sections = ss; contents = in_known (without (is_content b)) (thin r.alive u).contents }) (sym (which-but (section_alive r.alive) (is_section b) u.sections))
+          ∙ ap (λ c. record (thin (but_section b r.alive) u) { contents = c }) (bytes-but r.alive b u.contents);
+      closed = frees-section r.alive u b off r.closed;
+    }
     at kind.Token b linked off = r
     at kind.Process b linked off = record {
       alive = but_process u b r.alive;

@@ -1,6 +1,6 @@
 -- The law on two scripts of the run whose rows never go.
 use Rattle.std.proofs.Common.{◌≡◌, ℕ, ◌≤◌, List, [], ◌++◌, Bool, true, false, refl, sym, subst, ◌∙◌, arith}
-use Rattle.lpc_model.specs.World.{World, no_rows}
+use Rattle.lpc_model.specs.World.{Unknown, World, no_rows}
 use Rattle.lpc_model.specs.Lines.{ScriptLine}
 use Rattle.lpc_isolation.proofs.Gone.Served.{served_step}
 use Rattle.lpc_isolation.proofs.Gone.Sweeps.{served-firm, served-firm}
@@ -60,12 +60,16 @@ none-once : (tid : ℕ) → 0 ≤ 1
 none-once tid = omega arith
 
 -- before the first line
-stood_none : (m : Group) (c : ℕ) → Stood m c no_rows (record { seen = no_rows; memo = [] })
+-- what is seen of no rows
+abbrev none_seen : State
+none_seen = record { seen = record no_rows { contents = Unknown }; memo = [] }
+
+stood_none : (m : Group) (c : ℕ) → Stood m c no_rows none_seen
 stood_none m c = record {
   seen = refl;
   firm = firm_none;
   kept = record {
-    fair = record { tables = refl; ports = refl; messages = refl; waits = refl; threads = refl; senders = refl; creators = refl; registrations = refl; processes = refl; lives = refl };
+    fair = record { tables = refl; ports = refl; messages = refl; waits = refl; threads = refl; senders = refl; creators = refl; registrations = refl; processes = refl; lives = refl; views = refl };
     once = none-once;
     names = λ path. omega arith;
     paths = refl;
@@ -76,4 +80,4 @@ stood_none m c = record {
 }
 
 pub bare-isolation : BareIsolation
-bare-isolation = isolation (λ m c. player m c) (λ m c. Stood m c) (record { seen = no_rows; memo = [] }) has_ids script-says (λ m c c_in. keeps-all m c c_in) (λ m c. stood_none m c)
+bare-isolation = isolation (λ m c. player m c) (λ m c. Stood m c) none_seen has_ids script-says (λ m c c_in. keeps-all m c c_in) (λ m c. stood_none m c)

@@ -6,9 +6,9 @@ use Rattle.lpc_base.specs.Rows.{every, first, has, passes}
 use Rattle.lpc_base.proofs.RowWords.{every-append, every-change, every-more, every-push, every-which, every-without, first-kept, first-push}
 use Rattle.lpc_base.proofs.RowMaps.{every-both, every-change_to, every-map, every-without_first}
 use Rattle.lpc_base.proofs.Bools.{first-true, same-number, second-true}
-use Rattle.lpc_model.specs.World.{Accepted, Birth, Connect, Creator, HandleRow, HandleTable, Listen, MessageRow, PortRow, ProcessRow, Receive, Request, ThreadRow, UsedThread, WaitKind, WaitRow, World}
-use Rattle.lpc_model.specs.Found.{has_value, is_client_port, is_connect, is_listen, is_own_of, is_port, is_queued, is_receive, is_server_port, is_table, is_thread, is_used_thread, same_birth, waits_as, waits_at}
-use Rattle.lpc_model.specs.Basics.{Accepts, AddsHandle, AddsProcess, AddsThread, Awaits, Basic, Binds, Completes, Cuts, DrawsIdentifier, DrawsOrdinal, DropsHandle, Empties, Enters, Frees, Joins, Makes, Receives, Takes, TakesConnect, Tells, Unbinds, Wakes, Withdraws, accepted, accepted_as, basic, completed, cut, is_end_of, joined, no_handles, past_identifier, past_ordinal, received, used, with_handle, without_handle, world_after, Dies, Registers, Unregisters, ended, registering, unregistering}
+use Rattle.lpc_model.specs.World.{Accepted, Birth, Connect, Creator, HandleRow, HandleTable, Listen, MessageRow, PortRow, ProcessRow, Receive, Request, ThreadRow, UsedThread, ViewRow, WaitKind, WaitRow, World}
+use Rattle.lpc_model.specs.Found.{has_value, is_client_port, is_connect, is_listen, is_own_of, is_port, is_queued, is_receive, is_server_port, is_table, is_thread, is_used_thread, is_view, is_view_in, same_birth, waits_as, waits_at}
+use Rattle.lpc_model.specs.Basics.{Accepts, AddsHandle, AddsProcess, AddsSection, AddsThread, Awaits, Basic, Binds, Completes, Cuts, DrawsIdentifier, DrawsOrdinal, DropsHandle, DropsViewsOf, Empties, Enters, Frees, Joins, Makes, Maps, Receives, Takes, TakesConnect, Tells, Unbinds, Unmaps, Wakes, Withdraws, Writes, accepted, accepted_as, basic, completed, cut, is_end_of, joined, no_handles, past_identifier, past_ordinal, received, used, with_handle, without_handle, world_after, Dies, Registers, Unregisters, ended, registering, unregistering}
 use Rattle.lpc_model.specs.Circle.{Group, owner}
 use Rattle.lpc_isolation.proofs.Views.View.{of_birth}
 
@@ -90,6 +90,12 @@ is_sent used x = passes (first (is_used_thread x.message.header.client.thread) u
 abbrev pub is_created : List UsedThread → PortRow → Bool
 is_created used p = all_of p.creator (λ by. (by.client.process == p.birth.process) && passes (first (is_used_thread by.client.thread) used) (λ u. u.process == by.client.process))
 
+-- Views of c's are of members' sections, and views of its sections are members'. A view's owner is a port of its process.
+abbrev pub is_fair_view : Group → ℕ → ViewRow → Bool
+is_fair_view m c v =
+    implies (v.process == c) (m v.section.process)
+    && (implies (v.section.process == c) (m v.process) && all_of v.owner (λ (b : Birth). b.process == v.process))
+
 pub record Fair (m : Group) (c : ℕ) (w : World) : Type 0 where
   pub tables : every is_fair_table w.handles ≡ true
   pub ports : every (is_fair_port m c) w.ports ≡ true
@@ -101,6 +107,7 @@ pub record Fair (m : Group) (c : ℕ) (w : World) : Type 0 where
   pub registrations : every is_fair_thread w.threads ≡ true
   pub processes : every (is_fair_process m) w.processes ≡ true
   pub lives : every (is_fair_life m) w.threads ≡ true
+  pub views : every (is_fair_view m c) w.views ≡ true
 
 -- what a step must be, so that it stays so
 abbrev pub is_server_at : Birth → PortRow → Bool
@@ -138,6 +145,11 @@ is_fair_step m c w (Cuts b) = true
 is_fair_step m c w (Unbinds b) = true
 is_fair_step m c w (DropsHandle pid value) = true
 is_fair_step m c w (Binds path node) = true
+is_fair_step m c w (AddsSection s) = true
+is_fair_step m c w (Writes b place new) = true
+is_fair_step m c w (Maps v) = is_fair_view m c v
+is_fair_step m c w (Unmaps pid base) = true
+is_fair_step m c w (DropsViewsOf pid) = true
 
 -- what changes a row keeps it
 accepted-fair : (m : Group) (c : ℕ) (reply : List ℕ) (x : WaitRow) → is_fair_wait m c x ≡ true → is_fair_wait m c (accepted reply x) ≡ true
@@ -250,17 +262,18 @@ registering-fair us who b t owned homed fair its =
 -- a step that is fair leaves a fair world
 pub keeps-fair : (m : Group) (c : ℕ) (w : World) (b : Basic) → is_fair_step m c w b ≡ true → Fair m c w → Fair m c (basic w b)
 keeps-fair m c w (Tells e) ok f = f
-keeps-fair m c w (Wakes who call status fields) ok f = record { tables = f.tables; ports = f.ports; messages = f.messages; waits = every-without (is_fair_wait m c) (waits_as who) w.waits f.waits; threads = f.threads; senders = f.senders; creators = f.creators; registrations = f.registrations; processes = f.processes; lives = f.lives }
-keeps-fair m c w (Awaits x) ok f = record { tables = f.tables; ports = f.ports; messages = f.messages; waits = every-push (is_fair_wait m c) w.waits x f.waits ok; threads = f.threads; senders = f.senders; creators = f.creators; registrations = f.registrations; processes = f.processes; lives = f.lives }
-keeps-fair m c w (Receives who q) ok f = record { tables = f.tables; ports = f.ports; messages = f.messages; waits = every-change (is_fair_wait m c) (waits_at who q) received (λ x is. is) w.waits f.waits; threads = f.threads; senders = f.senders; creators = f.creators; registrations = f.registrations; processes = f.processes; lives = f.lives }
-keeps-fair m c w (Accepts who reply) ok f = record { tables = f.tables; ports = f.ports; messages = f.messages; waits = every-change (is_fair_wait m c) (waits_as who) (accepted reply) (accepted-fair m c reply) w.waits f.waits; threads = f.threads; senders = f.senders; creators = f.creators; registrations = f.registrations; processes = f.processes; lives = f.lives }
-keeps-fair m c w (Enters x) ok f = record { tables = f.tables; ports = f.ports; messages = every-push (is_fair_message m c) w.messages x f.messages (first-true _ _ ok); waits = f.waits; threads = f.threads; senders = every-push (is_sent w.used_threads) w.messages x f.senders (second-true _ _ ok); creators = f.creators; registrations = f.registrations; processes = f.processes; lives = f.lives }
-keeps-fair m c w (Takes q) ok f = record { tables = f.tables; ports = f.ports; messages = every-without_first (is_fair_message m c) _ w.messages f.messages; waits = f.waits; threads = f.threads; senders = every-without_first (is_sent w.used_threads) _ w.messages f.senders; creators = f.creators; registrations = f.registrations; processes = f.processes; lives = f.lives }
-keeps-fair m c w (TakesConnect q) ok f = record { tables = f.tables; ports = f.ports; messages = every-without_first (is_fair_message m c) _ w.messages f.messages; waits = f.waits; threads = f.threads; senders = every-without_first (is_sent w.used_threads) _ w.messages f.senders; creators = f.creators; registrations = f.registrations; processes = f.processes; lives = f.lives }
-keeps-fair m c w (DrawsIdentifier who) ok f = record { tables = f.tables; ports = f.ports; messages = f.messages; waits = f.waits; threads = every-change (is_homed w.used_threads) (is_thread who) past_identifier (λ t is. is) w.threads f.threads; senders = f.senders; creators = f.creators; registrations = every-change is_fair_thread (is_thread who) past_identifier (λ t is. is) w.threads f.registrations; processes = f.processes; lives = every-change (is_fair_life m) (is_thread who) past_identifier (λ t is. is) w.threads f.lives }
-keeps-fair m c w (DrawsOrdinal who) ok f = record { tables = f.tables; ports = f.ports; messages = f.messages; waits = f.waits; threads = every-change (is_homed w.used_threads) (is_thread who) past_ordinal (λ t is. is) w.threads f.threads; senders = f.senders; creators = f.creators; registrations = every-change is_fair_thread (is_thread who) past_ordinal (λ t is. is) w.threads f.registrations; processes = f.processes; lives = every-change (is_fair_life m) (is_thread who) past_ordinal (λ t is. is) w.threads f.lives }
-keeps-fair m c w (Dies who status) ok f = record { tables = f.tables; ports = f.ports; messages = f.messages; waits = every-without (is_fair_wait m c) (waits_as who) w.waits f.waits; threads = every-change (is_homed w.used_threads) (is_thread who) ended (λ t is. is) w.threads f.threads; senders = f.senders; creators = f.creators; registrations = every-change is_fair_thread (is_thread who) ended (λ t is. is) w.threads f.registrations; processes = f.processes; lives = every-change (is_fair_life m) (is_thread who) ended (λ t is. is) w.threads f.lives }
+keeps-fair m c w (Wakes who call status fields) ok f = record { tables = f.tables; ports = f.ports; messages = f.messages; waits = every-without (is_fair_wait m c) (waits_as who) w.waits f.waits; threads = f.threads; senders = f.senders; creators = f.creators; registrations = f.registrations; processes = f.processes; lives = f.lives; views = f.views }
+keeps-fair m c w (Awaits x) ok f = record { tables = f.tables; ports = f.ports; messages = f.messages; waits = every-push (is_fair_wait m c) w.waits x f.waits ok; threads = f.threads; senders = f.senders; creators = f.creators; registrations = f.registrations; processes = f.processes; lives = f.lives; views = f.views }
+keeps-fair m c w (Receives who q) ok f = record { tables = f.tables; ports = f.ports; messages = f.messages; waits = every-change (is_fair_wait m c) (waits_at who q) received (λ x is. is) w.waits f.waits; threads = f.threads; senders = f.senders; creators = f.creators; registrations = f.registrations; processes = f.processes; lives = f.lives; views = f.views }
+keeps-fair m c w (Accepts who reply) ok f = record { tables = f.tables; ports = f.ports; messages = f.messages; waits = every-change (is_fair_wait m c) (waits_as who) (accepted reply) (accepted-fair m c reply) w.waits f.waits; threads = f.threads; senders = f.senders; creators = f.creators; registrations = f.registrations; processes = f.processes; lives = f.lives; views = f.views }
+keeps-fair m c w (Enters x) ok f = record { tables = f.tables; ports = f.ports; messages = every-push (is_fair_message m c) w.messages x f.messages (first-true _ _ ok); waits = f.waits; threads = f.threads; senders = every-push (is_sent w.used_threads) w.messages x f.senders (second-true _ _ ok); creators = f.creators; registrations = f.registrations; processes = f.processes; lives = f.lives; views = f.views }
+keeps-fair m c w (Takes q) ok f = record { tables = f.tables; ports = f.ports; messages = every-without_first (is_fair_message m c) _ w.messages f.messages; waits = f.waits; threads = f.threads; senders = every-without_first (is_sent w.used_threads) _ w.messages f.senders; creators = f.creators; registrations = f.registrations; processes = f.processes; lives = f.lives; views = f.views }
+keeps-fair m c w (TakesConnect q) ok f = record { tables = f.tables; ports = f.ports; messages = every-without_first (is_fair_message m c) _ w.messages f.messages; waits = f.waits; threads = f.threads; senders = every-without_first (is_sent w.used_threads) _ w.messages f.senders; creators = f.creators; registrations = f.registrations; processes = f.processes; lives = f.lives; views = f.views }
+keeps-fair m c w (DrawsIdentifier who) ok f = record { tables = f.tables; ports = f.ports; messages = f.messages; waits = f.waits; threads = every-change (is_homed w.used_threads) (is_thread who) past_identifier (λ t is. is) w.threads f.threads; senders = f.senders; creators = f.creators; registrations = every-change is_fair_thread (is_thread who) past_identifier (λ t is. is) w.threads f.registrations; processes = f.processes; lives = every-change (is_fair_life m) (is_thread who) past_identifier (λ t is. is) w.threads f.lives; views = f.views }
+keeps-fair m c w (DrawsOrdinal who) ok f = record { tables = f.tables; ports = f.ports; messages = f.messages; waits = f.waits; threads = every-change (is_homed w.used_threads) (is_thread who) past_ordinal (λ t is. is) w.threads f.threads; senders = f.senders; creators = f.creators; registrations = every-change is_fair_thread (is_thread who) past_ordinal (λ t is. is) w.threads f.registrations; processes = f.processes; lives = every-change (is_fair_life m) (is_thread who) past_ordinal (λ t is. is) w.threads f.lives; views = f.views }
+keeps-fair m c w (Dies who status) ok f = record { tables = f.tables; ports = f.ports; messages = f.messages; waits = every-without (is_fair_wait m c) (waits_as who) w.waits f.waits; threads = every-change (is_homed w.used_threads) (is_thread who) ended (λ t is. is) w.threads f.threads; senders = f.senders; creators = f.creators; registrations = every-change is_fair_thread (is_thread who) ended (λ t is. is) w.threads f.registrations; processes = f.processes; lives = every-change (is_fair_life m) (is_thread who) ended (λ t is. is) w.threads f.lives; views = f.views }
 keeps-fair m c w (Registers who b) ok f = record {
+  views = f.views;
   processes = f.processes;
   lives = every-change (is_fair_life m) (is_thread who) (registering b) (λ t is. is) w.threads f.lives;
   tables = f.tables;
@@ -273,9 +286,10 @@ keeps-fair m c w (Registers who b) ok f = record {
   registrations = every-change_to (λ t. is_homed w.used_threads t && is_fair_thread t) is_fair_thread (is_thread who) (registering b) (λ t is its. registering-fair w.used_threads who b t ok (first-true _ _ is) (second-true (is_homed w.used_threads t) _ is) its) (λ t is off. second-true (is_homed w.used_threads t) _ is) w.threads
       (every-both (is_homed w.used_threads) is_fair_thread _ (λ t one two. and_from _ _ one two) w.threads f.threads f.registrations);
 }
-keeps-fair m c w (Unregisters who b) ok f = record { tables = f.tables; ports = f.ports; messages = f.messages; waits = f.waits; threads = every-change (is_homed w.used_threads) (is_thread who) (unregistering b) (λ t is. is) w.threads f.threads; senders = f.senders; creators = f.creators; registrations = every-change is_fair_thread (is_thread who) (unregistering b) (λ t is. every-without (λ c. c.process == t.process) (same_birth b) t.registrations is) w.threads f.registrations; processes = f.processes; lives = every-change (is_fair_life m) (is_thread who) (unregistering b) (λ t is. is) w.threads f.lives }
-keeps-fair m c w (AddsProcess p) ok f = record { tables = every-push is_fair_table w.handles (no_handles p.number) f.tables refl; ports = f.ports; messages = f.messages; waits = f.waits; threads = f.threads; senders = f.senders; creators = f.creators; registrations = f.registrations; processes = every-push (is_fair_process m) w.processes p f.processes ok; lives = f.lives }
+keeps-fair m c w (Unregisters who b) ok f = record { tables = f.tables; ports = f.ports; messages = f.messages; waits = f.waits; threads = every-change (is_homed w.used_threads) (is_thread who) (unregistering b) (λ t is. is) w.threads f.threads; senders = f.senders; creators = f.creators; registrations = every-change is_fair_thread (is_thread who) (unregistering b) (λ t is. every-without (λ c. c.process == t.process) (same_birth b) t.registrations is) w.threads f.registrations; processes = f.processes; lives = every-change (is_fair_life m) (is_thread who) (unregistering b) (λ t is. is) w.threads f.lives; views = f.views }
+keeps-fair m c w (AddsProcess p) ok f = record { tables = every-push is_fair_table w.handles (no_handles p.number) f.tables refl; ports = f.ports; messages = f.messages; waits = f.waits; threads = f.threads; senders = f.senders; creators = f.creators; registrations = f.registrations; processes = every-push (is_fair_process m) w.processes p f.processes ok; lives = f.lives; views = f.views }
 keeps-fair m c w (AddsThread t) ok f = record {
+  views = f.views;
   processes = f.processes;
   lives = every-push (is_fair_life m) w.threads t f.lives (second-true (is_fair_thread t) _ (second-true (not (has (is_used_thread t.number) w.used_threads)) _ ok));
   tables = f.tables;
@@ -288,8 +302,9 @@ keeps-fair m c w (AddsThread t) ok f = record {
   threads = every-push (is_homed (w.used_threads ++ used t ∷ [])) w.threads t (every-more (is_homed w.used_threads) _ (added-home w.used_threads (used t)) w.threads f.threads)
       (rw (first-push (is_used_thread t.number) w.used_threads (used t) (grind arith) (same-number t.number)) (same-number t.process));
 }
-keeps-fair m c w (Makes p) ok f = record { tables = f.tables; ports = every-push (is_fair_port m c) w.ports p f.ports (second-true _ _ ok); messages = f.messages; waits = f.waits; threads = f.threads; senders = f.senders; creators = every-push (is_created w.used_threads) w.ports p f.creators (first-true _ _ ok); registrations = f.registrations; processes = f.processes; lives = f.lives }
+keeps-fair m c w (Makes p) ok f = record { tables = f.tables; ports = every-push (is_fair_port m c) w.ports p f.ports (second-true _ _ ok); messages = f.messages; waits = f.waits; threads = f.threads; senders = f.senders; creators = every-push (is_created w.used_threads) w.ports p f.creators (first-true _ _ ok); registrations = f.registrations; processes = f.processes; lives = f.lives; views = f.views }
 keeps-fair m c w (Joins client server context) ok f = record {
+  views = f.views;
   processes = f.processes;
   lives = f.lives;
   tables = f.tables;
@@ -303,15 +318,20 @@ keeps-fair m c w (Joins client server context) ok f = record {
       (every-both (λ p. is_no_server_at client p && is_server_at server p) (is_fair_port m c) _ (joined-fair m c client server context (grind arith) (grind arith)) w.ports
       (every-both (is_no_server_at client) (is_server_at server) _ (λ p a b. and_from _ _ a b) w.ports (grind arith) (grind arith)) f.ports);
 }
-keeps-fair m c w (Completes b) ok f = record { tables = f.tables; ports = every-change (is_fair_port m c) (is_port b) completed (λ p is. is) w.ports f.ports; messages = f.messages; waits = f.waits; threads = f.threads; senders = f.senders; creators = every-change (is_created w.used_threads) (is_port b) completed (λ p is. is) w.ports f.creators; registrations = f.registrations; processes = f.processes; lives = f.lives }
-keeps-fair m c w (Withdraws who) ok f = record { tables = f.tables; ports = f.ports; messages = every-without (is_fair_message m c) (is_own_of who) w.messages f.messages; waits = f.waits; threads = f.threads; senders = every-without (is_sent w.used_threads) (is_own_of who) w.messages f.senders; creators = f.creators; registrations = f.registrations; processes = f.processes; lives = f.lives }
+keeps-fair m c w (Completes b) ok f = record { tables = f.tables; ports = every-change (is_fair_port m c) (is_port b) completed (λ p is. is) w.ports f.ports; messages = f.messages; waits = f.waits; threads = f.threads; senders = f.senders; creators = every-change (is_created w.used_threads) (is_port b) completed (λ p is. is) w.ports f.creators; registrations = f.registrations; processes = f.processes; lives = f.lives; views = f.views }
+keeps-fair m c w (Withdraws who) ok f = record { tables = f.tables; ports = f.ports; messages = every-without (is_fair_message m c) (is_own_of who) w.messages f.messages; waits = f.waits; threads = f.threads; senders = every-without (is_sent w.used_threads) (is_own_of who) w.messages f.senders; creators = f.creators; registrations = f.registrations; processes = f.processes; lives = f.lives; views = f.views }
 keeps-fair m c w (Frees o) ok f = absurd (cc)
-keeps-fair m c w (Binds path node) ok f = record { tables = f.tables; ports = f.ports; messages = f.messages; waits = f.waits; threads = f.threads; senders = f.senders; creators = f.creators; registrations = f.registrations; processes = f.processes; lives = f.lives }
-keeps-fair m c w (AddsHandle pid h) ok f = record { tables = every-change_to is_fair_table is_fair_table (is_table pid) (with_handle h) (λ t is its. with-handle pid h ok t is its) (λ t is off. is) w.handles f.tables; ports = f.ports; messages = f.messages; waits = f.waits; threads = f.threads; senders = f.senders; creators = f.creators; registrations = f.registrations; processes = f.processes; lives = f.lives }
-keeps-fair m c w (Empties q) ok f = record { tables = f.tables; ports = f.ports; messages = every-without (is_fair_message m c) (is_queued q) w.messages f.messages; waits = f.waits; threads = f.threads; senders = every-without (is_sent w.used_threads) (is_queued q) w.messages f.senders; creators = f.creators; registrations = f.registrations; processes = f.processes; lives = f.lives }
-keeps-fair m c w (Cuts b) ok f = record { tables = f.tables; ports = every-change (is_fair_port m c) (is_end_of b) cut (cut-fair m c) w.ports f.ports; messages = f.messages; waits = f.waits; threads = f.threads; senders = f.senders; creators = every-change (is_created w.used_threads) (is_end_of b) cut (λ p is. is) w.ports f.creators; registrations = f.registrations; processes = f.processes; lives = f.lives }
-keeps-fair m c w (Unbinds b) ok f = record { tables = f.tables; ports = f.ports; messages = f.messages; waits = f.waits; threads = f.threads; senders = f.senders; creators = f.creators; registrations = f.registrations; processes = f.processes; lives = f.lives }
-keeps-fair m c w (DropsHandle pid value) ok f = record { tables = every-change is_fair_table (is_table pid) (without_handle value) (λ t is. every-without_first (is_own t.process) (has_value value) t.rows is) w.handles f.tables; ports = f.ports; messages = f.messages; waits = f.waits; threads = f.threads; senders = f.senders; creators = f.creators; registrations = f.registrations; processes = f.processes; lives = f.lives }
+keeps-fair m c w (Binds path node) ok f = record { tables = f.tables; ports = f.ports; messages = f.messages; waits = f.waits; threads = f.threads; senders = f.senders; creators = f.creators; registrations = f.registrations; processes = f.processes; lives = f.lives; views = f.views }
+keeps-fair m c w (AddsHandle pid h) ok f = record { tables = every-change_to is_fair_table is_fair_table (is_table pid) (with_handle h) (λ t is its. with-handle pid h ok t is its) (λ t is off. is) w.handles f.tables; ports = f.ports; messages = f.messages; waits = f.waits; threads = f.threads; senders = f.senders; creators = f.creators; registrations = f.registrations; processes = f.processes; lives = f.lives; views = f.views }
+keeps-fair m c w (Empties q) ok f = record { tables = f.tables; ports = f.ports; messages = every-without (is_fair_message m c) (is_queued q) w.messages f.messages; waits = f.waits; threads = f.threads; senders = every-without (is_sent w.used_threads) (is_queued q) w.messages f.senders; creators = f.creators; registrations = f.registrations; processes = f.processes; lives = f.lives; views = f.views }
+keeps-fair m c w (Cuts b) ok f = record { tables = f.tables; ports = every-change (is_fair_port m c) (is_end_of b) cut (cut-fair m c) w.ports f.ports; messages = f.messages; waits = f.waits; threads = f.threads; senders = f.senders; creators = every-change (is_created w.used_threads) (is_end_of b) cut (λ p is. is) w.ports f.creators; registrations = f.registrations; processes = f.processes; lives = f.lives; views = f.views }
+keeps-fair m c w (Unbinds b) ok f = record { tables = f.tables; ports = f.ports; messages = f.messages; waits = f.waits; threads = f.threads; senders = f.senders; creators = f.creators; registrations = f.registrations; processes = f.processes; lives = f.lives; views = f.views }
+keeps-fair m c w (DropsHandle pid value) ok f = record { tables = every-change is_fair_table (is_table pid) (without_handle value) (λ t is. every-without_first (is_own t.process) (has_value value) t.rows is) w.handles f.tables; ports = f.ports; messages = f.messages; waits = f.waits; threads = f.threads; senders = f.senders; creators = f.creators; registrations = f.registrations; processes = f.processes; lives = f.lives; views = f.views }
+keeps-fair m c w (AddsSection s) ok f = record { tables = f.tables; ports = f.ports; messages = f.messages; waits = f.waits; threads = f.threads; senders = f.senders; creators = f.creators; registrations = f.registrations; processes = f.processes; lives = f.lives; views = f.views }
+keeps-fair m c w (Writes b place new) ok f = record { tables = f.tables; ports = f.ports; messages = f.messages; waits = f.waits; threads = f.threads; senders = f.senders; creators = f.creators; registrations = f.registrations; processes = f.processes; lives = f.lives; views = f.views }
+keeps-fair m c w (Maps v) ok f = record { tables = f.tables; ports = f.ports; messages = f.messages; waits = f.waits; threads = f.threads; senders = f.senders; creators = f.creators; registrations = f.registrations; processes = f.processes; lives = f.lives; views = every-push (is_fair_view m c) w.views v f.views ok }
+keeps-fair m c w (Unmaps pid base) ok f = record { tables = f.tables; ports = f.ports; messages = f.messages; waits = f.waits; threads = f.threads; senders = f.senders; creators = f.creators; registrations = f.registrations; processes = f.processes; lives = f.lives; views = every-without (is_fair_view m c) (is_view pid base) w.views f.views }
+keeps-fair m c w (DropsViewsOf pid) ok f = record { tables = f.tables; ports = f.ports; messages = f.messages; waits = f.waits; threads = f.threads; senders = f.senders; creators = f.creators; registrations = f.registrations; processes = f.processes; lives = f.lives; views = every-without (is_fair_view m c) (is_view_in pid) w.views f.views }
 
 abbrev pub are_fair : Group → ℕ → World → List Basic → Bool
 are_fair m c w [] = true

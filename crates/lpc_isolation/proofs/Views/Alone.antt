@@ -1,8 +1,8 @@
--- Short words for the law's proof: a process alone, and what the circle says of a world's processes and ports.
-use Rattle.std.specs.Prelude.{◌≡◌, ℕ, ◌==◌, true}
+-- Short words for the law's proof: a process alone, and what the circle says of a world's processes, ports and views.
+use Rattle.std.specs.Prelude.{◌≡◌, ℕ, ◌==◌, Bool, cond, true}
 use Rattle.lpc_base.specs.Rows.{every}
-use Rattle.lpc_model.specs.World.{World}
-use Rattle.lpc_model.specs.Circle.{Group, is_fine_port, is_fine_process}
+use Rattle.lpc_model.specs.World.{Birth, ViewRow, World}
+use Rattle.lpc_model.specs.Circle.{Group, is_fine_port, is_fine_process, is_inner_view}
 
 -- the group of one process
 abbrev pub alone : ℕ → Group
@@ -11,3 +11,10 @@ alone c = λ p. p == c
 -- what the circle says of the processes and the ports of a world
 abbrev pub HasFineRows : Group → ℕ → World → Type 0
 HasFineRows group c w = (every (is_fine_process group) w.processes ≡ true) × (every (is_fine_port group c) w.ports ≡ true)
+
+-- what it says of the views: outsiders have views of outer sections alone, and c has none of these
+abbrev pub is_secluded_view : Group → ℕ → (Birth → Bool) → ViewRow → Bool
+is_secluded_view m c outer v = cond (m v.process) (is_inner_view c outer v) (outer v.section)
+
+abbrev pub Secluded : Group → ℕ → (Birth → Bool) → World → Type 0
+Secluded m c outer w = every (is_secluded_view m c outer) w.views ≡ true

@@ -16,7 +16,7 @@ use Rattle.lpc_model.specs.declared.entry.Field.{Field}
 use Rattle.lpc_model.specs.Message.{asks}
 use Rattle.lpc_model.specs.World.{Accepted, Birth, Connect, Listen, MessageRow, Receive, Request, WaitKind, WaitRow, World}
 use Rattle.lpc_model.specs.Found.{same_birth, waits_as, waits_at}
-use Rattle.lpc_model.specs.Basics.{Accepts, AddsHandle, AddsProcess, AddsThread, Awaits, Basic, Binds, Completes, Cuts, DrawsIdentifier, DrawsOrdinal, DropsHandle, Empties, Enters, Frees, Joins, Makes, Receives, Takes, TakesConnect, Tells, Unbinds, Wakes, Withdraws, basic, entries_of, received, told, world_after, Dies, Registers, Unregisters}
+use Rattle.lpc_model.specs.Basics.{Accepts, AddsHandle, AddsProcess, AddsSection, AddsThread, Awaits, Basic, Binds, Completes, Cuts, DrawsIdentifier, DrawsOrdinal, DropsHandle, DropsViewsOf, Empties, Enters, Frees, Joins, Makes, Maps, Receives, Takes, TakesConnect, Tells, Unbinds, Unmaps, Wakes, Withdraws, Writes, basic, entries_of, received, told, world_after, Dies, Registers, Unregisters}
 use Rattle.lpc_model.specs.Entering.{enter, given_steps, shown, takes, woken}
 use Rattle.lpc_model.specs.Circle.{Everyone, Group, Nobody, Of, Whose, entry_whose, is_seen, owned, owner, thread_whose}
 use Rattle.lpc_isolation.proofs.Views.Alone.{alone}
@@ -80,6 +80,11 @@ is_apart m c u d w (Empties q) = not (sees m w (Empties q))
 is_apart m c u d w (Cuts b) = not (sees m w (Cuts b))
 is_apart m c u d w (Unbinds b) = not (sees m w (Unbinds b))
 is_apart m c u d w (DropsHandle pid value) = not (sees m w (DropsHandle pid value))
+is_apart m c u d w (AddsSection s) = not (sees m w (AddsSection s))
+is_apart m c u d w (Writes b place new) = not (sees m w (Writes b place new))
+is_apart m c u d w (Maps v) = not (sees m w (Maps v))
+is_apart m c u d w (Unmaps pid base) = not (sees m w (Unmaps pid base))
+is_apart m c u d w (DropsViewsOf pid) = not (sees m w (DropsViewsOf pid))
 
 wakes-apart : (m : Group) (u w : World) (who : ℕ) (call : CallName) (status : Status) (fields : List Field) (b : Bool) → is_seen m (thread_whose u who) ≡ b → (b || not (sees_wait m w who)) ≡ true
     → view m (basic w (Wakes who call status fields)) ≡ absorb_all (view m w) (cond b (entry.Wakes who call status fields ∷ []) [])

@@ -9,12 +9,12 @@ use Rattle.lpc_base.proofs.Bools.{first-true, second-true}
 use Rattle.lpc_names.specs.Binding.{is_name}
 use Rattle.lpc_names.specs.Walk.{LinkTo, Stands}
 use Rattle.lpc_names.specs.declared.names.Found.TheVariants.{Directory, Item}
-use Rattle.lpc_model.specs.World.{Birth, HandleTable, MessageRow, Node, Path, PortRow, World}
-use Rattle.lpc_model.specs.Found.{is_own_of, is_the, same_birth, is_port, is_queued, is_queued_connect, is_table, is_thread, waits_as, waits_at}
-use Rattle.lpc_model.specs.Basics.{Accepts, AddsHandle, AddsProcess, AddsThread, Awaits, Basic, Binds, Completes, Cuts, DrawsIdentifier, DrawsOrdinal, DropsHandle, Empties, Enters, Frees, Joins, Makes, Receives, Takes, TakesConnect, Tells, Unbinds, Wakes, Withdraws, accepted, basic, completed, cut, is_end_of, joined, no_handles, past_identifier, past_ordinal, received, used, with_handle, without_handle, world_after, Dies, Registers, Unregisters, ended, registering, unregistering}
+use Rattle.lpc_model.specs.World.{Birth, HandleTable, MessageRow, Node, Path, PortRow, ViewRow, World}
+use Rattle.lpc_model.specs.Found.{is_own_of, is_the, same_birth, is_port, is_queued, is_queued_connect, is_table, is_thread, is_view, is_view_in, waits_as, waits_at}
+use Rattle.lpc_model.specs.Basics.{Accepts, AddsHandle, AddsProcess, AddsSection, AddsThread, Awaits, Basic, Binds, Completes, Cuts, DrawsIdentifier, DrawsOrdinal, DropsHandle, DropsViewsOf, Empties, Enters, Frees, Joins, Makes, Maps, Receives, Takes, TakesConnect, Tells, Unbinds, Unmaps, Wakes, Withdraws, Writes, accepted, basic, completed, cut, is_end_of, joined, no_handles, past_identifier, past_ordinal, received, used, with_handle, without_handle, world_after, Dies, Registers, Unregisters, ended, registering, unregistering}
 use Rattle.lpc_model.specs.Circle.{Group}
-use Rattle.lpc_isolation.proofs.Views.Filters.{kept-change, kept-push, kept-push_out, kept-without_out, kept-without_first, kept-without_first_out, shown, shown-change, shown-map, shown-push, shown-push_out, shown-change_out, shown-map_out, kept-change_out}
-use Rattle.lpc_isolation.proofs.Views.View.{of_birth, our_binding, our_message, our_node, our_port, our_process, our_table, our_thread, our_used, our_wait, seen_port, view}
+use Rattle.lpc_isolation.proofs.Views.Filters.{kept-change, kept-push, kept-push_out, kept-without_out, kept-without_first, kept-without_first_out, shown, shown-change, shown-map, shown-push, shown-push_out, shown-change_out, shown-map_out, shown-without, shown-without_out, kept-change_out}
+use Rattle.lpc_isolation.proofs.Views.View.{of_birth, our_binding, our_message, our_node, our_port, our_process, our_section, our_table, our_thread, our_used, our_view, our_wait, hidden_section, seen_port, seen_view, view}
 
 -- a thread's wait is in the view, and so is its row
 abbrev pub sees_wait : Group → World → ℕ → Bool
@@ -58,6 +58,11 @@ sees m w (Empties q) = m q.process
 sees m w (Cuts b) = m b.process
 sees m w (Unbinds b) = m b.process
 sees m w (DropsHandle pid value) = m pid
+sees m w (AddsSection s) = m s.birth.process
+sees m w (Writes b place new) = false
+sees m w (Maps v) = m v.process
+sees m w (Unmaps pid base) = m pid
+sees m w (DropsViewsOf pid) = m pid
 
 -- what is asked of the steps of every line
 abbrev pub is_regular : Group → World → Basic → Bool
@@ -87,6 +92,11 @@ is_regular m w (Empties q) = true
 is_regular m w (Cuts b) = true
 is_regular m w (Unbinds b) = true
 is_regular m w (DropsHandle pid value) = true
+is_regular m w (AddsSection s) = true
+is_regular m w (Writes b place new) = true
+is_regular m w (Maps v) = not (m v.process) || m v.section.process
+is_regular m w (Unmaps pid base) = true
+is_regular m w (DropsViewsOf pid) = true
 
 -- Ports
 new-port : (m : Group) (p : PortRow) → is_none p.pair ≡ true → seen_port m p ≡ p
@@ -149,6 +159,11 @@ is_ours m w (Empties q) = true
 is_ours m w (Cuts b) = m b.process
 is_ours m w (Unbinds b) = true
 is_ours m w (DropsHandle pid value) = true
+is_ours m w (AddsSection s) = m s.birth.process
+is_ours m w (Writes b place new) = true
+is_ours m w (Maps v) = m v.process
+is_ours m w (Unmaps pid base) = true
+is_ours m w (DropsViewsOf pid) = true
 
 -- a pair that is cut
 abbrev with_pair : Option Birth → PortRow → PortRow
@@ -185,6 +200,27 @@ cut-birth m b p = at (is_end_of b p)
 shown-cut : (m : Group) (b : Birth) → m b.process ≡ true → (ps : List PortRow) → shown (our_port m) (seen_port m) (change (is_end_of b) cut ps) ≡ change (is_end_of b) cut (shown (our_port m) (seen_port m) ps)
 shown-cut m b is ps = shown-map (our_port m) (seen_port m) (cut_if b) (cut_if b) (cut-birth m b) (λ p kept. cut-seen m b p is) ps
 
+-- Views
+own-view : (m : Group) (v : ViewRow) → m v.process ≡ true → (not (m v.process) || m v.section.process) ≡ true → seen_view m v ≡ v
+own-view m v is ok = let inside : m v.section.process ≡ true = grind arith in rw inside refl
+
+view-same : (m : Group) (pid base : ℕ) (v : ViewRow) → is_view pid base (seen_view m v) ≡ is_view pid base v
+view-same m pid base v = at (m v.section.process)
+  where
+    at : (e : Bool) → is_view pid base (cond e v (record v { section = hidden_section v.section; offset = 0 })) ≡ is_view pid base v
+    at true = refl
+    at false = refl
+
+home-same : (m : Group) (pid : ℕ) (v : ViewRow) → is_view_in pid (seen_view m v) ≡ is_view_in pid v
+home-same m pid v = at (m v.section.process)
+  where
+    at : (e : Bool) → is_view_in pid (cond e v (record v { section = hidden_section v.section; offset = 0 })) ≡ is_view_in pid v
+    at true = refl
+    at false = refl
+
+home-out : (m : Group) (pid : ℕ) → m pid ≡ false → (v : ViewRow) → is_view_in pid v ≡ true → our_view m v ≡ false
+home-out m pid out v is = ap m (eqb-true _ _ is) ∙ out
+
 -- such a step does to the view what it does to the world
 pub basic-ours : (m : Group) (w : World) (b : Basic) → is_ours m w b ≡ true → is_regular m w b ≡ true → view m (basic w b) ≡ basic (view m w) b
 basic-ours m w (Tells e) is ok = refl
@@ -213,6 +249,11 @@ basic-ours m w (Empties q) is ok = rw (which-without (our_message m) (is_queued 
 basic-ours m w (Cuts b) is ok = rw (shown-cut m b is w.ports) refl
 basic-ours m w (Unbinds b) is ok = rw (which-without (our_binding m) (is_name same_birth b) w.bindings) refl
 basic-ours m w (DropsHandle pid value) is ok = rw (kept-change (our_table m) (is_table pid) (without_handle value) (λ t. refl) w.handles) refl
+basic-ours m w (AddsSection s) is ok = rw (kept-push (our_section m) w.sections s is) refl
+basic-ours m w (Writes b place new) is ok = refl
+basic-ours m w (Maps v) is ok = rw (shown-push (our_view m) (seen_view m) w.views v is, own-view m v is ok) refl
+basic-ours m w (Unmaps pid base) is ok = rw (shown-without (our_view m) (is_view pid base) (seen_view m) (view-same m pid base) w.views) refl
+basic-ours m w (DropsViewsOf pid) is ok = rw (shown-without (our_view m) (is_view_in pid) (seen_view m) (home-same m pid) w.views) refl
 
 -- Unseen steps
 joined-out : (m : Group) (client server : Birth) (context : ℕ) → m client.process ≡ false → m server.process ≡ false → (p : PortRow) → our_port m p ≡ true → seen_port m (joined client server context p) ≡ seen_port m p
@@ -316,6 +357,11 @@ basic-unseen m w (Empties q) out ok = rw (kept-without_out (our_message m) (is_q
 basic-unseen m w (Cuts b) out ok = rw (shown-cut_out m b out w.ports) refl
 basic-unseen m w (Unbinds b) out ok = rw (kept-without_out (our_binding m) (is_name same_birth b) (name-out m b out) w.bindings) refl
 basic-unseen m w (DropsHandle pid value) out ok = rw (kept-change_out (our_table m) (is_table pid) (without_handle value) (λ t. refl) (table-out m pid out) w.handles) refl
+basic-unseen m w (AddsSection s) out ok = rw (kept-push_out (our_section m) w.sections s out) refl
+basic-unseen m w (Writes b place new) out ok = refl
+basic-unseen m w (Maps v) out ok = rw (shown-push_out (our_view m) (seen_view m) w.views v out) refl
+basic-unseen m w (Unmaps pid base) out ok = rw (shown-without_out (our_view m) (is_view pid base) (seen_view m) (λ v is. home-out m pid out v (first-true _ _ is)) w.views) refl
+basic-unseen m w (DropsViewsOf pid) out ok = rw (shown-without_out (our_view m) (is_view_in pid) (seen_view m) (home-out m pid out) w.views) refl
 
 -- Lists of steps
 -- steps that are all members'

@@ -5,7 +5,7 @@ use Rattle.std.proofs.lemmas.Bool.{eqb-true, false_from_ne_true}
 use Rattle.lpc_base.specs.Rows.{which}
 use Rattle.lpc_names.specs.Walk.{LinkTo, Stands}
 use Rattle.lpc_names.specs.declared.names.Found.TheVariants.{Directory, Item}
-use Rattle.lpc_model.specs.World.{Birth, HandleTable, MessageRow, Node, Path, PortRow, ProcessRow, ThreadRow, UsedThread, WaitRow, World}
+use Rattle.lpc_model.specs.World.{Birth, HandleTable, MessageRow, Node, Path, PortRow, ProcessRow, SectionRow, ThreadRow, Unknown, UsedThread, ViewRow, WaitRow, World}
 use Rattle.lpc_model.specs.Found.{same_birth}
 use Rattle.lpc_model.specs.Circle.{Group}
 use Rattle.lpc_isolation.proofs.Views.Filters.{shown}
@@ -49,6 +49,21 @@ our_node m (Stands (Item port)) = m port.process
 abbrev pub our_binding : Group → Path × Node Birth → Bool
 our_binding m b = our_node m b.1
 
+abbrev pub our_section : Group → SectionRow → Bool
+our_section m s = m s.birth.process
+
+abbrev pub our_view : Group → ViewRow → Bool
+our_view m v = m v.process
+
+-- Which section a view shows is seen where that is a member's, and so is where the view lies in it. Of an outsider's section
+-- its process is seen alone.
+abbrev pub hidden_section : Birth → Birth
+hidden_section b = record { maker = 0; ordinal = 0; process = b.process }
+
+abbrev pub seen_view : Group → ViewRow → ViewRow
+seen_view m v = cond (m v.section.process) v (record v { section = hidden_section v.section; offset = 0 })
+
+-- no bytes are seen
 abbrev pub view : Group → World → World
 view m w = record {
   processes = which (our_process m) w.processes;
@@ -60,6 +75,9 @@ view m w = record {
   messages = which (our_message m) w.messages;
   waits = which (our_wait m) w.waits;
   bindings = which (our_binding m) w.bindings;
+  sections = which (our_section m) w.sections;
+  contents = Unknown;
+  views = shown (our_view m) (seen_view m) w.views;
 }
 
 -- small facts
