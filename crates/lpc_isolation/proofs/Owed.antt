@@ -10,3 +10,4 @@ pub mod Leads
 pub mod Known
 pub mod Stands
 pub mod Fine
+pub mod Written

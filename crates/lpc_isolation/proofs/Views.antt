@@ -7,3 +7,4 @@ pub mod Seen
 pub mod Apart
 pub mod Callers
 pub mod Mine
+pub mod Bytes

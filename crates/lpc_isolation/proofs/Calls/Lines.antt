@@ -9,7 +9,7 @@ use Rattle.lpc_base.proofs.RowMaps.{every-both}
 use Rattle.lpc_base.proofs.Bools.{first-true, same-number, second-true}
 use Rattle.lpc_model.specs.declared.entry.Entry.{Entry}
 use Rattle.lpc_model.specs.declared.entry.Entry.TheVariants as entry
-use Rattle.lpc_model.specs.World.{ThreadRow, WaitRow, World}
+use Rattle.lpc_model.specs.World.{Contents, ThreadRow, WaitRow, World}
 use Rattle.lpc_model.specs.Found.{live_thread, wait_of, waits_as}
 use Rattle.lpc_model.specs.Basics.{Accepts, AddsHandle, AddsProcess, AddsSection, AddsThread, Awaits, Basic, Binds, Completes, Cuts, DrawsIdentifier, DrawsOrdinal, DropsHandle, DropsViewsOf, Empties, Enters, Frees, Joins, Makes, Maps, Receives, Takes, TakesConnect, Tells, Unbinds, Unmaps, Wakes, Withdraws, Writes, entries_of, world_after, told, Dies, Registers, Unregisters}
 use Rattle.lpc_model.specs.Lines.{ScriptCall, run}
@@ -27,7 +27,7 @@ use Rattle.lpc_isolation.proofs.Views.Apart.{Owned, are_apart, is_heard, is_owne
 use Rattle.lpc_isolation.proofs.Views.Callers.{Answered, Led, c-wait, led-same}
 use Rattle.lpc_isolation.proofs.Each.Listens.{own_entry}
 use Rattle.lpc_isolation.proofs.Plays.Play.{told_inputs, told_items}
-use Rattle.lpc_isolation.proofs.Plays.Lines.{Leads, Owes, accepts, is_done, led_line, next_entry}
+use Rattle.lpc_isolation.proofs.Plays.Lines.{Leads, Owes, accepts, is_done, led_line, next_entry, seeing}
 use Rattle.lpc_isolation.proofs.Calls.Serves.{is_call_of, is_orderly, orderly-done, orderly-used, tells_thread, same_owner}
 
 -- a call's list begins with an entry that tells its caller's process, and at its end no thread waits that it woke
@@ -42,10 +42,17 @@ pub record Begins (w : World) (tid : ℕ) (bs : List Basic) : Type 0 where
   pub accepted : accepts entry ≡ true
   pub done : every (is_done (world_after w bs)) (entries_of bs) ≡ true
 
+-- bytes are no matter for who lives and waits
+seeing-live : (k : Contents) (v : World) (tid : ℕ) (call : ScriptCall) → live_thread (seeing k v call) tid ≡ live_thread v tid
+seeing-live k v tid call = refl
+
+seeing-wait : (k : Contents) (v : World) (tid : ℕ) (call : ScriptCall) → wait_of (seeing k v call) tid ≡ wait_of v tid
+seeing-wait k v tid call = refl
+
 -- what a service owes to the call of a thread that waits for nothing
 pub record Serves (led : Leads) (m : Group) (c : ℕ) (w : World) (by : ThreadRow) (call : ScriptCall) : Type 0 where
   pub apart : (d : Whose) → m by.process ≡ false → Holds (λ bs. HasFineRows m c (world_after w bs) → are_apart m c (world_after w bs) d w bs ≡ true) (served w by call)
-  pub own : (d : Whose) → by.process ≡ c → Answered (λ bs led. HasFineRows m c (world_after w bs) → Led m c (world_after w bs) d w bs led) (served w by call) (served (view m w) by call)
+  pub own : (d : Whose) → by.process ≡ c → Answered (λ bs led. HasFineRows m c (world_after w bs) → Led m c (world_after w bs) d w bs led) (served w by call) (served (seeing led.bytes (view m w) call) by call)
   pub leads : (d : Whose) → m by.process ≡ true → (by.process == c) ≡ false → Holds (λ bs. HasFineRows m c (world_after w bs) → Led m c (world_after w bs) d w bs (led.lead (view m w) by call (own_entry bs))) (served w by call)
   pub begins : Holds (Begins w by.number) (served w by call)
   pub refuses : (s : Status) → served w by call ≡ Err s → (s.0 == SUCCESS.0) ≡ false
@@ -53,7 +60,7 @@ pub record Serves (led : Leads) (m : Group) (c : ℕ) (w : World) (by : ThreadRo
 -- what the list of a line owes
 record OwesAt (led : Leads) (m : Group) (c : ℕ) (w : World) (tid : ℕ) (call : ScriptCall) (bs : List Basic) : Type 0 where
   apart : is_seen m (thread_whose w tid) ≡ false → are_apart m c (world_after w bs) (thread_whose w tid) w bs ≡ true
-  own : is_seen (alone c) (thread_whose w tid) ≡ true → Led m c (world_after w bs) (thread_whose w tid) w bs (served_steps (run tid call) (view m w))
+  own : is_seen (alone c) (thread_whose w tid) ≡ true → Led m c (world_after w bs) (thread_whose w tid) w bs (served_steps (run tid call) (seeing led.bytes (view m w) call))
   leads : is_seen m (thread_whose w tid) ≡ true → is_seen (alone c) (thread_whose w tid) ≡ false → Led m c (world_after w bs) (thread_whose w tid) w bs (led_line led (view m w) tid call (own_entry bs))
   first : is_seen m (thread_whose w tid) ≡ true → is_seen (alone c) (thread_whose w tid) ≡ false → (is : List Item) → next_entry (told_items (told_inputs m c (world_after w bs) (thread_whose w tid) (entries_of bs)) ++ is) ≡ own_entry bs
   done : every (is_done (world_after w bs)) (entries_of bs) ≡ true
@@ -79,7 +86,7 @@ next-is m c u d e es is seen off =
     keeps a b one off = grind arith
 
 -- a line that tells one entry, which accepts nothing
-owes-lone : (led : Leads) (m : Group) (c : ℕ) (w : World) (tid : ℕ) (call : ScriptCall) (e : Entry) → entry_whose w (thread_whose w tid) e ≡ thread_whose w tid → accepts e ≡ false → is_done w e ≡ true → (is_seen (alone c) (thread_whose w tid) ≡ true → served_steps (run tid call) (view m w) ≡ Tells e ∷ []) → OwesAt led m c w tid call (Tells e ∷ [])
+owes-lone : (led : Leads) (m : Group) (c : ℕ) (w : World) (tid : ℕ) (call : ScriptCall) (e : Entry) → entry_whose w (thread_whose w tid) e ≡ thread_whose w tid → accepts e ≡ false → is_done w e ≡ true → (is_seen (alone c) (thread_whose w tid) ≡ true → served_steps (run tid call) (seeing led.bytes (view m w) call) ≡ Tells e ∷ []) → OwesAt led m c w tid call (Tells e ∷ [])
 owes-lone led m c w tid call e whose off done same = record {
   apart = λ out. let gone : is_heard m w (thread_whose w tid) e ≡ false = ap (is_seen m) whose ∙ out in rw gone refl;
   own = λ is. subst (Led m c w (thread_whose w tid) w (Tells e ∷ [])) (sym (same is)) (led-same m c w (thread_whose w tid) w (Tells e ∷ []) refl);
@@ -89,14 +96,14 @@ owes-lone led m c w tid call e whose off done same = record {
 }
 
 -- the threads of c are seen as they are
-c-idle : (m : Group) (c : ℕ) (w : World) (tid : ℕ) → m c ≡ true → Fair m c w → Owned w w → owner w tid ≡ Some c → wait_of (view m w) tid ≡ wait_of w tid
+pub c-idle : (m : Group) (c : ℕ) (w : World) (tid : ℕ) → m c ≡ true → Fair m c w → Owned w w → owner w tid ≡ Some c → wait_of (view m w) tid ≡ wait_of w tid
 c-idle m c w tid c_in f owned own = first-where (λ x. is_fair_wait m c x && is_owned w x) (our_wait m) (waits_as tid) (λ x ok is.
     let here : owner w x.thread ≡ Some c = ap (owner w) (eqb-true _ _ is) ∙ own in
     let process : c ≡ x.process = owned-by w x c here (second-true _ _ ok) in
     let mine : (x.process == c) ≡ true = rw (sym process) (same-number c) in
     c-wait m c x c_in (first-true _ _ ok) mine) w.waits (every-both (is_fair_wait m c) (is_owned w) _ (λ x a b. and_from _ _ a b) w.waits f.waits owned)
 
-owner-c : (c : ℕ) (w : World) (tid : ℕ) → is_seen (alone c) (thread_whose w tid) ≡ true → owner w tid ≡ Some c
+pub owner-c : (c : ℕ) (w : World) (tid : ℕ) → is_seen (alone c) (thread_whose w tid) ≡ true → owner w tid ≡ Some c
 owner-c c w tid is = at (owner w tid) is
   where
     at : (o : Option ℕ) → is_seen (alone c) (owned o) ≡ true → o ≡ Some c
@@ -208,7 +215,7 @@ begins-of w tid bs ok =
     let used : (world_after w bs).used_threads ≡ w.used_threads = orderly-used w bs h.orderly in
     record { step = h.step; rest = h.rest; entry = h.entry; is = h.is; told = h.told; own = h.own; whose = λ d. h.whose (world_after w bs) d used ∙ rw used refl; accepted = h.accepted; done = orderly-done w bs h.orderly }
 
-own-is : (w : World) (tid : ℕ) (bs : List Basic) (h : Begins w tid bs) → own_entry bs ≡ h.entry
+pub own-is : (w : World) (tid : ℕ) (bs : List Basic) (h : Begins w tid bs) → own_entry bs ≡ h.entry
 own-is w tid bs h = ap own_entry h.is ∙ h.own
 
 -- what holds in each world with the same used numbers holds in the one that an orderly list leaves
@@ -235,10 +242,10 @@ unfolding bare_steps
 called w tid call by live idle = rw (live, idle) refl
 
 -- c's call in the view
-c-called : (m : Group) (c : ℕ) (w : World) (tid : ℕ) (call : ScriptCall) (by : ThreadRow) → Ready m c w tid by → is_seen (alone c) (thread_whose w tid) ≡ true → served_steps (run tid call) (view m w) ≡ settled by (name_of_call call) (served (view m w) by call)
-c-called m c w tid call by r is =
+c-called : (led : Leads) (m : Group) (c : ℕ) (w : World) (tid : ℕ) (call : ScriptCall) (by : ThreadRow) → Ready m c w tid by → is_seen (alone c) (thread_whose w tid) ≡ true → served_steps (run tid call) (seeing led.bytes (view m w) call) ≡ settled by (name_of_call call) (served (seeing led.bytes (view m w) call) by call)
+c-called led m c w tid call by r is =
     let own : owner w tid ≡ Some c = owner-c c w tid is in
-    called (view m w) tid call by (live-view m c w tid c r.fair own r.c_in ∙ r.live) (c-idle m c w tid r.c_in r.fair r.owned own ∙ r.idle)
+    called (seeing led.bytes (view m w) call) tid call by (seeing-live led.bytes (view m w) tid call ∙ live-view m c w tid c r.fair own r.c_in ∙ r.live) (seeing-wait led.bytes (view m w) tid call ∙ c-idle m c w tid r.c_in r.fair r.owned own ∙ r.idle)
 
 c-calls : (m : Group) (c : ℕ) (w : World) (tid : ℕ) (by : ThreadRow) → Ready m c w tid by → is_seen (alone c) (thread_whose w tid) ≡ true → by.process ≡ c
 c-calls m c w tid by r is = let both_own : Some by.process ≡ Some c = sym (live-owner m c w tid by r.fair r.live) ∙ owner-c c w tid is in cc
@@ -255,8 +262,8 @@ owes-ok led m c w tid call by bs r s at fine =
       apart = λ out. holds_ok (λ bs. HasFineRows m c (world_after w bs) → are_apart m c (world_after w bs) d w bs ≡ true) (served w by call) bs (s.apart d (sym (owner-in m w tid by own) ∙ out)) at fine;
       own = λ is.
           let P : List Basic → List Basic → Type 0 = λ bs led. HasFineRows m c (world_after w bs) → Led m c (world_after w bs) d w bs led in
-          let answered : Answered P (Ok bs) (served (view m w) by call) = subst (λ r. Answered P r (served (view m w) by call)) at (s.own d (c-calls m c w tid by r is)) in
-          subst (Led m c u d w bs) (sym (c-called m c w tid call by r is)) (taken (served (view m w) by call) answered);
+          let answered : Answered P (Ok bs) (served (seeing led.bytes (view m w) call) by call) = subst (λ r. Answered P r (served (seeing led.bytes (view m w) call) by call)) at (s.own d (c-calls m c w tid by r is)) in
+          subst (Led m c u d w bs) (sym (c-called led m c w tid call by r is)) (taken (served (seeing led.bytes (view m w) call) by call) answered);
       leads = λ seen other.
           let by_in : m by.process ≡ true = sym (owner-in m w tid by own) ∙ seen in
           let by_other : (by.process == c) ≡ false = sym (owner-in (alone c) w tid by own) ∙ other in
@@ -280,8 +287,8 @@ owes-settled led m c w tid call by (Err e) r s at fine =
     let number : by.number ≡ tid = live-number w tid by r.live in
     owes-lone led m c w tid call (entry.Answer by.number (name_of_call call) e []) (ap (thread_whose w) number) (s.refuses e at) refl (λ is.
     let P : List Basic → List Basic → Type 0 = λ bs led. HasFineRows m c (world_after w bs) → Led m c (world_after w bs) (thread_whose w tid) w bs led in
-    let answered : Answered P (Err e) (served (view m w) by call) = subst (λ r. Answered P r (served (view m w) by call)) at (s.own (thread_whose w tid) (c-calls m c w tid by r is)) in
-    c-called m c w tid call by r is ∙ ap (settled by (name_of_call call)) (refused P (served (view m w) by call) answered))
+    let answered : Answered P (Err e) (served (seeing led.bytes (view m w) call) by call) = subst (λ r. Answered P r (served (seeing led.bytes (view m w) call) by call)) at (s.own (thread_whose w tid) (c-calls m c w tid by r is)) in
+    c-called led m c w tid call by r is ∙ ap (settled by (name_of_call call)) (refused P (served (seeing led.bytes (view m w) call) by call) answered))
   where
     refused : (P : List Basic → List Basic → Type 0) (t : Result (List Basic) Status) → Answered P (Err e) t → t ≡ Err e
     refused P (Ok led) is = absurd is
@@ -302,7 +309,7 @@ nobody w tid call none = rw none refl
 pub owes-none : (led : Leads) (m : Group) (c : ℕ) (w : World) (tid : ℕ) (call : ScriptCall) → m c ≡ true → Fair m c w → live_thread w tid ≡ None → Owes led m c w tid call
 owes-none led m c w tid call c_in f none =
     owes-of led m c w tid call (Tells (entry.NoThread tid) ∷ []) (nobody w tid call none)
-    (owes-lone led m c w tid call (entry.NoThread tid) refl refl refl (λ is. nobody (view m w) tid call (live-view m c w tid c f (owner-c c w tid is) c_in ∙ none)))
+    (owes-lone led m c w tid call (entry.NoThread tid) refl refl refl (λ is. nobody (seeing led.bytes (view m w) call) tid call (seeing-live led.bytes (view m w) tid call ∙ live-view m c w tid c f (owner-c c w tid is) c_in ∙ none)))
 
 pub busy : (w : World) (tid : ℕ) (call : ScriptCall) (by : ThreadRow) (x : WaitRow) → live_thread w tid ≡ Some by → wait_of w tid ≡ Some x → served_steps (run tid call) w ≡ Tells (entry.Busy by.number) ∷ []
 unfolding bare_steps
@@ -313,4 +320,4 @@ owes-busy led m c w tid call by x c_in f owned live waits =
     owes-of led m c w tid call (Tells (entry.Busy by.number) ∷ []) (busy w tid call by x live waits)
     (owes-lone led m c w tid call (entry.Busy by.number) (ap (thread_whose w) (live-number w tid by live)) refl refl (λ is.
     let own : owner w tid ≡ Some c = owner-c c w tid is in
-    busy (view m w) tid call by x (live-view m c w tid c f own c_in ∙ live) (c-idle m c w tid c_in f owned own ∙ waits)))
+    busy (seeing led.bytes (view m w) call) tid call by x (seeing-live led.bytes (view m w) tid call ∙ live-view m c w tid c f own c_in ∙ live) (seeing-wait led.bytes (view m w) tid call ∙ c-idle m c w tid c_in f owned own ∙ waits)))

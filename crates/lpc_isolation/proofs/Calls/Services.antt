@@ -15,7 +15,7 @@ use Rattle.lpc_isolation.proofs.Owed.Leads.{leads-call}
 use Rattle.std.specs.Prelude.{◌≡◌, ℕ, Bool, true, List, Option}
 use Rattle.std.proofs.Common.{refl, subst, sym, None, Some}
 use Rattle.lpc_base.specs.declared.status.Status.{Status}
-use Rattle.lpc_model.specs.World.{Birth, ThreadRow, World}
+use Rattle.lpc_model.specs.World.{Birth, Contents, ThreadRow, World}
 use Rattle.lpc_model.specs.Basics.{Basic, world_after}
 use Rattle.lpc_model.specs.Lines.{ScriptCall, accept_connect_port, close, complete_connect_port, connect_port, create_port, duplicate_object, listen_port, query_object, reply_port, reply_wait_receive_port, request_port, request_wait_reply_port, register_thread_terminate_port, create_process, create_thread, terminate_thread, terminate_process}
 use Rattle.lpc_model.specs.Death.{code_status}
@@ -25,13 +25,14 @@ use Rattle.lpc_model.proofs.Calls.Holding.{Holds, holds-more, holds_any}
 use Rattle.lpc_base.specs.Rows.{every}
 use Rattle.lpc_isolation.proofs.Views.Alone.{HasFineRows}
 use Rattle.lpc_isolation.proofs.Views.View.{view}
+use Rattle.lpc_isolation.proofs.Views.Bytes.{Right}
 use Rattle.lpc_isolation.proofs.Views.Apart.{are_apart}
 use Rattle.lpc_isolation.proofs.Calls.Serves.{is_call_of}
 use Rattle.lpc_isolation.proofs.Calls.Lines.{Begins, Serves, begins-of, settle, settle-own}
 use Rattle.lpc_isolation.proofs.Calls.Laws.{Lawful, same-used}
 use Rattle.lpc_isolation.proofs.Each.Creates.{process-lawful, thread-lawful}
 use Rattle.lpc_isolation.proofs.Views.Callers.{Led}
-use Rattle.lpc_isolation.proofs.Plays.Lines.{OnceUsed}
+use Rattle.lpc_isolation.proofs.Plays.Lines.{OnceUsed, seeing}
 use Rattle.lpc_isolation.proofs.Rows.Ids.{Numbered, of_number}
 use Rattle.lpc_isolation.proofs.Gone.ThinCalls.{create-thin, connect-thin, listen-thin, accept-thin, complete-thin, datagram-thin, request-thin, reply-thin, receive-thin}
 use Rattle.lpc_isolation.proofs.Owed.Fine.{fine-deeds}
@@ -59,7 +60,7 @@ use Rattle.lpc_isolation.proofs.Each.Registers.{register-calm}
 create-calm : (name : Option (List ℕ)) → Calm (create_port name)
 create-calm name = record {
   refuses = λ w by. refuses-create w by name;
-  members = answers_alike refl (λ m c w by known a mine fine. create-c m c w by name a.c_in mine a.fair (made m w by name a.names fine));
+  members = answers_alike refl (λ m c w by known k a mine fine right. create-c m c w by name a.c_in mine a.fair (made m w by name a.names fine));
   alike = λ k u by live c. create-thin k u by name;
 }
   where
@@ -70,56 +71,56 @@ create-calm name = record {
 connect-calm : (name bytes : List ℕ) → Calm (connect_port name bytes)
 connect-calm name bytes = record {
   refuses = λ w by. refuses-connect w by name bytes;
-  members = answers_alike refl (λ m c w by known a mine fine. c-connect m c w w by name bytes (caller m c w by known w a refl) mine fine);
+  members = answers_alike refl (λ m c w by known k a mine fine right. c-connect m c w w by name bytes (caller m c w by known w a refl) mine fine);
   alike = λ k u by live c. connect-thin k u by name bytes;
 }
 
 listen-calm : (handle : ℕ) → Calm (listen_port handle)
 listen-calm handle = record {
   refuses = λ w by. refuses-listen w by handle;
-  members = answers_alike refl (λ m c w by known a mine fine. c-listen m c w w by handle (caller m c w by known w a refl) mine);
+  members = answers_alike refl (λ m c w by known k a mine fine right. c-listen m c w w by handle (caller m c w by known w a refl) mine);
   alike = λ k u by live c. listen-thin k u by handle c;
 }
 
 accept-calm : (context : ℕ) (message : List ℕ) (accept : Bool) → Calm (accept_connect_port context message accept)
 accept-calm context message accept = record {
   refuses = λ w by. refuses-accept w by context message accept;
-  members = answers_alike refl (λ m c w by known a mine fine. c-answer m c w w by context message accept (caller m c w by known w a refl) mine fine);
+  members = answers_alike refl (λ m c w by known k a mine fine right. c-answer m c w w by context message accept (caller m c w by known w a refl) mine fine);
   alike = λ k u by live c. accept-thin k u by context message accept c;
 }
 
 complete-calm : (handle : ℕ) → Calm (complete_connect_port handle)
 complete-calm handle = record {
   refuses = λ w by. refuses-complete w by handle;
-  members = answers_alike refl (λ m c w by known a mine fine. c-complete m c w w by handle (caller m c w by known w a refl) mine);
+  members = answers_alike refl (λ m c w by known k a mine fine right. c-complete m c w w by handle (caller m c w by known w a refl) mine);
   alike = λ k u by live c. complete-thin k u by handle c;
 }
 
 datagram-calm : (handle : ℕ) (message : List ℕ) → Calm (request_port handle message)
 datagram-calm handle message = record {
   refuses = λ w by. refuses-datagram w by handle message;
-  members = answers_alike refl (λ m c w by known a mine fine. c-request_port m c w w by handle message (caller m c w by known w a refl) mine);
+  members = answers_alike refl (λ m c w by known k a mine fine right. c-request_port m c w w by handle message (caller m c w by known w a refl) mine);
   alike = λ k u by live c. datagram-thin k u by handle message c;
 }
 
 request-calm : (handle : ℕ) (message : List ℕ) → Calm (request_wait_reply_port handle message)
 request-calm handle message = record {
   refuses = λ w by. refuses-request w by handle message;
-  members = answers_alike refl (λ m c w by known a mine fine. c-request m c w w by handle message (caller m c w by known w a refl) mine);
+  members = answers_alike refl (λ m c w by known k a mine fine right. c-request m c w w by handle message (caller m c w by known w a refl) mine);
   alike = λ k u by live c. request-thin k u by handle message c;
 }
 
 reply-calm : (handle : ℕ) (message : List ℕ) → Calm (reply_port handle message)
 reply-calm handle message = record {
   refuses = λ w by. refuses-reply w by handle message;
-  members = answers_alike refl (λ m c w by known a mine fine. c-reply m c w by handle message a.c_in mine a.fair a.ways fine);
+  members = answers_alike refl (λ m c w by known k a mine fine right. c-reply m c w by handle message a.c_in mine a.fair a.ways fine);
   alike = λ k u by live c. reply-thin k u by handle message c;
 }
 
 receive-calm : (handle : ℕ) (message : Option (List ℕ)) → Calm (reply_wait_receive_port handle message)
 receive-calm handle message = record {
   refuses = λ w by. refuses-receive w by handle message;
-  members = answers_alike refl (λ m c w by known a mine fine. c-receive m c w w by handle message (caller m c w by known w a refl) mine a.ways (named m w message fine));
+  members = answers_alike refl (λ m c w by known k a mine fine right. c-receive m c w w by handle message (caller m c w by known w a refl) mine a.ways (named m w message fine));
   alike = λ k u by live c. receive-thin k u by handle message c;
 }
   where
@@ -130,14 +131,14 @@ receive-calm handle message = record {
 close-calm : (handle : ℕ) → Calm (close handle)
 close-calm handle = record {
   refuses = λ w by. refuses-close w by handle;
-  members = answers_alike refl (λ m c w by known a mine fine. same-close m c w by known handle a mine fine);
+  members = answers_alike refl (λ m c w by known k a mine fine right. same-close m c w by known handle a mine fine);
   alike = λ k u by live c. alike-close k u by handle c;
 }
 
 ends-calm : (call : ScriptCall) (code : Status) → EndsThreads call code → Calm call
 ends-calm call code e = record {
   refuses = λ w by. refuses-ends call code e w by;
-  members = ends_threads (λ m c u d w by known a used mine fine. own-ends call code e m c u d w by known a used mine) (λ m c u d w by known a used by_in other. leads-ends call code e m c u d w by known a used by_in other);
+  members = ends_threads (λ m c u d w by known k a used mine fine right. own-ends call code e m c u d w by known a used mine) (λ m c u d w by known a used by_in other. leads-ends call code e m c u d w by known a used by_in other);
   alike = λ k u by live c. alike-ends call code e k u by live c;
 }
 
@@ -153,7 +154,7 @@ calm {call} is s = record {
   asked = λ m c w by known a b. deeds-do w by _ (asked-deeds m c w by b (caller m c w by known w a refl)) call is;
   sent = λ u by sound live. deeds-do u by _ (sent-deeds u by sound live) call is;
   apart = λ m c d w by known a out. at-end m c w by known (λ u bs. HasFineRows m c (world_after w bs) → are_apart m c u d w bs ≡ true) a (λ u used. deeds-do w by _ (apart-deeds m c u d w by (caller m c w by known u a used) out) call is);
-  own = λ m c d w by known a mine fine. settle-own (λ u bs led. HasFineRows m c (world_after w bs) → Led m c u d w bs led) w by.number (served w by call) (served (view m w) by call) (order m c w by known a) (λ u used. own-call call is s.members m c u d w by known a used mine fine);
+  own = λ m c d w by known k a mine fine right. settle-own (λ u bs led. HasFineRows m c (world_after w bs) → Led m c u d w bs led) w by.number (served w by call) (served (seeing k (view m w) call) by call) (order m c w by known a) (λ u used. own-call call is s.members m c u d w by known k a used mine fine right);
   leads = λ m c d w by known a by_in other. at-end m c w by known (λ u bs. HasFineRows m c (world_after w bs) → Leading m c u d w by known call bs) a (λ u used. leads-call call is s.members m c u d w by known a used by_in other);
   hears = λ m c d w by known memo a owned n b all out. at-end m c w by known (λ u bs. HasFineRows m c (world_after w bs) → Hears m c u d w memo bs) a (λ u used. deeds-do w by _ (hears-deeds m c u w by d memo (caller m c w by known u a used) owned n b all out) call is);
   notes = λ m c w by known memo a owned n b all by_in. deeds-do w by _ (notes-deeds m c w w by memo (caller m c w by known w a refl) owned n b all by_in) call is;
@@ -189,10 +190,10 @@ lawful (terminate_thread target code) = calm refl (ends-calm (terminate_thread t
 lawful (terminate_process target code) = calm refl (ends-calm (terminate_process target code) (code_status code) (process-ends-it target code))
 
 -- all that a call owes
-pub serves : (m : Group) (c : ℕ) (w : World) (by : ThreadRow) (known : List ℕ → Birth) (call : ScriptCall) → At m c w by known → (by.process ≡ c → is_fine_call m w call ≡ true) → Serves (leading m known) m c w by call
-serves m c w by known call a fine = record {
+pub serves : (m : Group) (c : ℕ) (w : World) (by : ThreadRow) (known : List ℕ → Birth) (call : ScriptCall) (k : Contents) → At m c w by known → (by.process ≡ c → is_fine_call m w call ≡ true) → Right c k w → Serves (leading m known k) m c w by call
+serves m c w by known call k a fine right = record {
   apart = λ d out. (lawful call).apart m c d w by known a out;
-  own = λ d mine. (lawful call).own m c d w by known a mine (fine mine);
+  own = λ d mine. (lawful call).own m c d w by known k a mine (fine mine) right;
   leads = λ d by_in other. (lawful call).leads m c d w by known a by_in other;
   begins = (lawful call).begins m c w by known a;
   refuses = λ s is. subst Refuses is ((lawful call).refuses w by);

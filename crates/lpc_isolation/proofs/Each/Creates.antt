@@ -300,7 +300,7 @@ process-lawful pid tid = record {
   sent = λ u by s live. on-process (λ bs. are_sent u bs ≡ true) u by pid tid (λ _ _. refl);
   apart = λ m c d w by known a out. on-process (λ bs. HasFineRows m c (world_after w bs) → are_apart m c (world_after w bs) d w bs ≡ true) w by pid tid (λ _ _ fine.
       process-apart m c (world_after w (making_process w by pid tid)) d w by pid tid a.fair a.own (kept-owner w.used_threads (used (new_thread tid pid (second_birth by))) by.number by.process a.own) out (made-group m c by pid w.processes fine.0 ∙ out));
-  own = λ m c d w by known a mine fine. own-after m c d w by known a mine fine;
+  own = λ m c d w by known k a mine fine right. own-after m c d w by known a mine fine;
   leads = λ m c d w by known a by_in other. on-process (λ bs. HasFineRows m c (world_after w bs) → Leading m c (world_after w bs) d w by known (create_process pid tid) bs) w by pid tid (λ _ _ fine.
       subst (Led m c (world_after w (making_process w by pid tid)) d w (making_process w by pid tid)) (sym (steps-view m w by pid tid by_in)) (led-same m c (world_after w (making_process w by pid tid)) d w (making_process w by pid tid) (process-ours m w by pid tid (made-group m c by pid w.processes fine.0 ∙ by_in))));
   hears = λ m c d w by known memo a owned n b all out. on-process (λ bs. HasFineRows m c (world_after w bs) → Hears m c (world_after w bs) d w memo bs) w by pid tid (λ _ _ fine.
@@ -338,7 +338,7 @@ thread-lawful target tid = record {
   sent = λ u by s live. on-thread (λ bs. are_sent u bs ≡ true) u by target tid (λ _ _ _ _. refl);
   apart = λ m c d w by known a out. on-thread (λ bs. HasFineRows m c (world_after w bs) → are_apart m c (world_after w bs) d w bs ≡ true) w by target tid (λ pid at _ _ fine.
       thread-apart m c (world_after w (making_thread w by tid pid)) d w by tid pid a.fair a.own (kept-owner w.used_threads (used (new_thread tid pid (next_birth by))) by.number by.process a.own) out (target-group m c w by target pid a.fair at ∙ out));
-  own = λ m c d w by known a mine fine. own-after m c d w by known a mine fine;
+  own = λ m c d w by known k a mine fine right. own-after m c d w by known a mine fine;
   leads = λ m c d w by known a by_in other. on-thread (λ bs. HasFineRows m c (world_after w bs) → Leading m c (world_after w bs) d w by known (create_thread target tid) bs) w by target tid (λ pid at _ _ fine.
       rw (process-view m c w by target by_in a.fair, at, free-view m w by.process by_in) (led-same m c (world_after w (making_thread w by tid pid)) d w (making_thread w by tid pid) (thread-ours m w by tid pid (target-group m c w by target pid a.fair at ∙ by_in))));
   hears = λ m c d w by known memo a owned n b all out. on-thread (λ bs. HasFineRows m c (world_after w bs) → Hears m c (world_after w bs) d w memo bs) w by target tid (λ pid _ _ _ fine.

@@ -36,6 +36,6 @@ alike-duplicate k u by handle access c = refl
 pub duplicate-calm : (handle : ℕ) (access : Option ℕ) → Calm (duplicate_object handle access)
 duplicate-calm handle access = record {
   refuses = λ w by. refuses-duplicate w by handle access;
-  members = answers_alike refl (λ m c w by known a mine fine. same-duplicate m c w by known handle access a mine fine);
+  members = answers_alike refl (λ m c w by known k a mine fine right. same-duplicate m c w by known handle access a mine fine);
   alike = λ k u by live c. alike-duplicate k u by handle access c;
 }

@@ -2,7 +2,7 @@
 use Rattle.std.proofs.Common.{◌≡◌, ℕ, List, [], true, false, Option, Some, None}
 use Rattle.std.specs.Prelude.{Ok}
 use Rattle.lpc_base.specs.Rows.{every}
-use Rattle.lpc_model.specs.World.{Birth, ThreadRow, World}
+use Rattle.lpc_model.specs.World.{Birth, Contents, ThreadRow, World}
 use Rattle.lpc_model.specs.Found.{free_handle, live_thread, wait_of}
 use Rattle.lpc_model.specs.Basics.{Basic, world_after}
 use Rattle.lpc_model.specs.Connect.{ConnectAnswer, answer_test}
@@ -41,7 +41,7 @@ use Rattle.lpc_isolation.proofs.Each.Receive.{led_receive}
 use Rattle.lpc_isolation.proofs.Each.Connects.{led_connect}
 use Rattle.lpc_isolation.proofs.Each.Completes.{led_complete}
 use Rattle.lpc_isolation.proofs.Each.Accepts.{led_answer}
-use Rattle.lpc_isolation.proofs.Plays.Lines.{Leads}
+use Rattle.lpc_isolation.proofs.Plays.Lines.{Leads, seeing}
 use Rattle.lpc_model.specs.declared.entry.Entry.{Entry}
 
 -- by its answer alone
@@ -83,8 +83,8 @@ leads_by m known v by (create_thread target tid) e = led_thread v by target tid
 leads_by m known v by (terminate_thread target code) e = led_end v by target code
 leads_by m known v by (terminate_process target code) e = led_ends v by target code
 
-abbrev pub leading : Group → (List ℕ → Birth) → Leads
-leading m known = record { lead = leads_by m known }
+abbrev pub leading : Group → (List ℕ → Birth) → Contents → Leads
+leading m known k = record { lead = leads_by m known; bytes = k }
 
 -- what holds where a thread that waits for nothing calls
 pub record At (m : Group) (c : ℕ) (w : World) (by : ThreadRow) (known : List ℕ → Birth) : Type 0 where
@@ -127,9 +127,9 @@ caller m c w by known u a used = record {
 }
 
 -- of c: where the view answers as the world does, by members' steps, it changes as the world does
-pub own-same : (m : Group) (c : ℕ) (u : World) (d : Whose) (w : World) (by : ThreadRow) (call : ScriptCall) → served (view m w) by call ≡ served w by call → Holds (λ bs. HasFineRows m c (world_after w bs) → are_ours m w bs ≡ true) (served w by call) → Answered (λ bs led. HasFineRows m c (world_after w bs) → Led m c u d w bs led) (served w by call) (served (view m w) by call)
-own-same m c u d w by call same ours =
-    answered-same (λ bs led. HasFineRows m c (world_after w bs) → Led m c u d w bs led) (served w by call) (served (view m w) by call) same
+pub own-same : (m : Group) (c : ℕ) (u : World) (d : Whose) (w : World) (by : ThreadRow) (call : ScriptCall) (k : Contents) → served (seeing k (view m w) call) by call ≡ served w by call → Holds (λ bs. HasFineRows m c (world_after w bs) → are_ours m w bs ≡ true) (served w by call) → Answered (λ bs led. HasFineRows m c (world_after w bs) → Led m c u d w bs led) (served w by call) (served (seeing k (view m w) call) by call)
+own-same m c u d w by call k same ours =
+    answered-same (λ bs led. HasFineRows m c (world_after w bs) → Led m c u d w bs led) (served w by call) (served (seeing k (view m w) call) by call) same
     (holds-more (λ bs. HasFineRows m c (world_after w bs) → are_ours m w bs ≡ true) (λ bs. HasFineRows m c (world_after w bs) → Led m c u d w bs bs) (served w by call) (λ bs h fine. led-same m c u d w bs (h fine)) ours)
 
 abbrev pub Leading : Group → ℕ → World → Whose → World → ThreadRow → (List ℕ → Birth) → ScriptCall → List Basic → Type 0

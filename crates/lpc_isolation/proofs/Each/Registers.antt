@@ -32,6 +32,6 @@ alike-register k u by handle c = rw (port-thin k u by handle c) refl
 pub register-calm : (handle : ℕ) → Calm (register_thread_terminate_port handle)
 register-calm handle = record {
   refuses = λ w by. refuses-register w by handle;
-  members = answers_alike refl (λ m c w by known a mine fine. same-register m c w by known handle a mine fine);
+  members = answers_alike refl (λ m c w by known k a mine fine right. same-register m c w by known handle a mine fine);
   alike = λ k u by live c. alike-register k u by handle c;
 }

@@ -1,11 +1,11 @@
 -- The run of the machine whose rows never go, and the law on it.
-use Rattle.std.specs.Prelude.{◌≡◌, ℕ, true, List, [], ◌∷◌, ◌++◌, map, Option, Some, None}
-use Rattle.lpc_model.specs.World.{World, no_rows}
+use Rattle.std.specs.Prelude.{◌≡◌, ℕ, Bool, false, true, List, [], ◌∷◌, ◌++◌, map, Option, Some, None}
+use Rattle.lpc_model.specs.World.{Birth, World, no_rows}
 use Rattle.lpc_model.specs.Lines.{ScriptLine}
-use Rattle.lpc_isolation.proofs.Gone.Served.{served_step}
+use Rattle.lpc_isolation.proofs.Gone.Served.{served_step, served_steps}
 use Rattle.lpc_model.specs.Run.{said_in}
-use Rattle.lpc_model.specs.Circle.{Event, Group, Ran, inputs, is_fine_line, items, line_whose, told_event, members}
-use Rattle.lpc_isolation.proofs.Views.Alone.{HasFineRows, alone}
+use Rattle.lpc_model.specs.Circle.{Event, Group, Ran, inputs, is_fine_line, is_seen, items, line_whose, told_event, members}
+use Rattle.lpc_isolation.proofs.Views.Alone.{HasFineRows, Secluded, WritesOuter, alone}
 
 -- what happens at a line, before rows go
 abbrev pub bare_line_events : World → ScriptLine → List Event
@@ -19,25 +19,31 @@ bare_events w [] = []
 bare_events w (None ∷ later) = bare_events w later
 bare_events w (Some line ∷ later) = bare_line_events w line ++ bare_events (served_step w line).world later
 
--- the group is a circle of c in such a run
-abbrev pub IsBareCircle : Group → ℕ → World → List (Option ScriptLine) → Type 0
-IsBareCircle group c w [] = HasFineRows group c w
-IsBareCircle group c w (None ∷ later) = IsBareCircle group c w later
-IsBareCircle group c w (Some line ∷ later) =
-    HasFineRows group c w × (is_fine_line group c w line ≡ true) × IsBareCircle group c (served_step w line).world later
+-- what a line of an outsider writes is outer
+abbrev pub IsApartAt : Group → (Birth → Bool) → World → ScriptLine → Type 0
+IsApartAt group outer w line = is_seen group (line_whose w line) ≡ false → WritesOuter outer (served_steps line w)
+
+-- the group is a circle of c in such a run, with these sections as the outer ones
+abbrev pub IsBareCircle : Group → ℕ → (Birth → Bool) → World → List (Option ScriptLine) → Type 0
+IsBareCircle group c outer w [] = HasFineRows group c w × Secluded group c outer w
+IsBareCircle group c outer w (None ∷ later) = IsBareCircle group c outer w later
+IsBareCircle group c outer w (Some line ∷ later) =
+    HasFineRows group c w × Secluded group c outer w × (is_fine_line group c w line ≡ true) × IsApartAt group outer w line
+    × IsBareCircle group c outer (served_step w line).world later
 
 -- The law
 -- what happens in the run of a script
 abbrev pub bare_events_of : List ℕ → List Event
 bare_events_of script = bare_events no_rows (said_in script)
 
-abbrev pub IsBareCircleIn : Group → ℕ → List ℕ → Type 0
-IsBareCircleIn group c script = IsBareCircle group c no_rows (said_in script)
+abbrev pub IsBareCircleIn : Group → ℕ → (Birth → Bool) → List ℕ → Type 0
+IsBareCircleIn group c outer script = IsBareCircle group c outer no_rows (said_in script)
 
--- In two scripts that agree on a process's calls and on its circle's calls and answers, that process is answered alike.
+-- In two scripts that agree on a process's calls and on its circle's calls and answers, that process is answered alike. Each
+-- script has outer sections of its own.
 abbrev pub BareIsolation : Type 0
 BareIsolation =
-    (group : List ℕ) (c : ℕ) (one two : List ℕ) → members group c ≡ true →
-    IsBareCircleIn (members group) c one → IsBareCircleIn (members group) c two →
+    (group : List ℕ) (c : ℕ) (outer other : Birth → Bool) (one two : List ℕ) → members group c ≡ true →
+    IsBareCircleIn (members group) c outer one → IsBareCircleIn (members group) c other two →
     inputs (members group) c (bare_events_of one) ≡ inputs (members group) c (bare_events_of two) →
     items (alone c) (bare_events_of one) ≡ items (alone c) (bare_events_of two)

@@ -10,7 +10,7 @@ use Rattle.lpc_base.proofs.Births.{birth-self}
 use Rattle.lpc_model.specs.declared.entry.ObjectKind.{ObjectKind}
 use Rattle.lpc_model.specs.declared.entry.ObjectKind.TheVariants as kind
 use Rattle.lpc_model.specs.declared.entry.Word.TheVariants as word
-use Rattle.lpc_model.specs.World.{Birth, ContentRow, Contents, Known, PortRow, ProcessRow, SectionRow, ThreadRow, Unknown, World}
+use Rattle.lpc_model.specs.World.{Birth, Contents, Known, PortRow, ProcessRow, SectionRow, ThreadRow, Unknown, World}
 use Rattle.lpc_model.specs.Found.{all_registrations, is_live, live_thread, same_birth, was_process, was_thread}
 use Rattle.lpc_model.specs.Basics.{Basic, in_known}
 use Rattle.lpc_model.specs.Lines.{ScriptCall, boot, create_process, thread}

@@ -8,7 +8,7 @@ use Rattle.lpc_base.proofs.RowWords.{every-more, every-which}
 use Rattle.lpc_model.specs.declared.entry.Entry.{Entry}
 use Rattle.lpc_model.specs.declared.entry.Entry.TheVariants as entry
 use Rattle.lpc_model.specs.declared.entry.Word.TheVariants as word
-use Rattle.lpc_model.specs.World.{ThreadRow, WaitRow, World}
+use Rattle.lpc_model.specs.World.{Contents, ThreadRow, WaitRow, World}
 use Rattle.lpc_model.specs.Found.{live_thread, wait_of}
 use Rattle.lpc_model.specs.Basics.{Basic, Tells, world_after}
 use Rattle.lpc_model.specs.Named.{free_name, spelled_name}
@@ -33,14 +33,14 @@ use Rattle.lpc_isolation.proofs.Memory.Calls.{Hears, still-hears}
 use Rattle.lpc_isolation.proofs.Plays.Stands.{State, Stood, absorbed-memo, owes-line, played_view, player, ready-at}
 
 -- what a line that the group doesn't see leaves remembered, and one that it sees, is right
-pub record Known (m : Group) (c : ℕ) (w : World) (t : List Heard) (line : ScriptLine) : Type 0 where
-  pub hides : is_seen m (line_whose w line) ≡ false → AllKnown m (absorbed (player m c) (record { seen = view m w; memo = t }) (told_at m c w line)).memo (served_step w line).world
-  pub shows : is_seen m (line_whose w line) ≡ true → (is : List Item) → AllKnown m (absorbed (player m c) ((player m c).after (record { seen = view m w; memo = t }) line (told_items (told_at m c w line) ++ is)) (told_at m c w line)).memo (served_step w line).world
+pub record Known (m : Group) (c : ℕ) (w : World) (t : List Heard) (k : Contents) (line : ScriptLine) : Type 0 where
+  pub hides : is_seen m (line_whose w line) ≡ false → AllKnown m (absorbed (player m c) (record { seen = view m w; memo = t; bytes = k }) (told_at m c w line)).memo (served_step w line).world
+  pub shows : is_seen m (line_whose w line) ≡ true → (is : List Item) → AllKnown m (absorbed (player m c) ((player m c).after (record { seen = view m w; memo = t; bytes = k }) line (told_items (told_at m c w line) ++ is)) (told_at m c w line)).memo (served_step w line).world
 
 -- A call
-module _ (m : Group) (c : ℕ) (w : World) (t : List Heard) (tid : ℕ) (call : ScriptCall) (c_in : m c ≡ true) (st : Stood m c w (record { seen = view m w; memo = t })) (fine : HasFineRows m c w) (next : HasFineRows m c (served_step w (run tid call)).world) where
+module _ (m : Group) (c : ℕ) (w : World) (t : List Heard) (k : Contents) (tid : ℕ) (call : ScriptCall) (c_in : m c ≡ true) (st : Stood m c w (record { seen = view m w; memo = t; bytes = k })) (fine : HasFineRows m c w) (next : HasFineRows m c (served_step w (run tid call)).world) where
   abbrev s : State
-  s = record { seen = view m w; memo = t }
+  s = record { seen = view m w; memo = t; bytes = k }
 
   own : Owned w w
   own = owned-sound m c w st.kept.fair st.firm.sound.waits
@@ -99,7 +99,7 @@ module _ (m : Group) (c : ℕ) (w : World) (t : List Heard) (tid : ℕ) (call : 
       at (Some by) live = ready by live (wait_of w tid) refl
 
   -- the answer is the next of the inputs
-  noted-next : (is : List Item) → Owes (leading m (known_queue t)) m c w tid call → is_seen m (thread_whose w tid) ≡ true
+  noted-next : (is : List Item) → Owes (leading m (known_queue t) k) m c w tid call → is_seen m (thread_whose w tid) ≡ true
       → line_memo m c (view m w) t (run tid call) (told_items (told_at m c w (run tid call)) ++ is) ≡ caller_memo m c (view m w) call (own_entry (served_steps (run tid call) w)) t (live_thread w tid)
   noted-next is o seen = by_owner (owner w tid) refl
     where
@@ -120,20 +120,20 @@ module _ (m : Group) (c : ℕ) (w : World) (t : List Heard) (tid : ℕ) (call : 
           let inside : m pid ≡ true = rw here at seen in
           ap (caller_memo m c (view m w) call (next_entry items) t) (live-view m c w tid pid st.kept.fair here inside) ∙ by_live (live_thread w tid) refl
 
-  run-line_known : is_fine_line m c w (run tid call) ≡ true → OnceUsed (served_step w (run tid call)).world → Known m c w t (run tid call)
+  run-line_known : is_fine_line m c w (run tid call) ≡ true → OnceUsed (served_step w (run tid call)).world → Known m c w t k (run tid call)
   run-line_known ok once =
-      let o : Owes (leading m (known_queue t)) m c w tid call = owes-line m c w s tid call c_in st fine next ok in
+      let o : Owes (leading m (known_queue t) k) m c w tid call = owes-line m c w s tid call c_in st fine next ok in
       record {
         hides = λ out. subst (λ memo. AllKnown m memo (served_step w (run tid call)).world) (sym (absorbed-memo m c s (told_at m c w (run tid call)))) (hears-run out);
         shows = λ seen is. shown o seen is;
       }
     where
-      shown : Owes (leading m (known_queue t)) m c w tid call → is_seen m (thread_whose w tid) ≡ true → (is : List Item) → AllKnown m (absorbed (player m c) ((player m c).after s (run tid call) (told_items (told_at m c w (run tid call)) ++ is)) (told_at m c w (run tid call))).memo (served_step w (run tid call)).world
+      shown : Owes (leading m (known_queue t) k) m c w tid call → is_seen m (thread_whose w tid) ≡ true → (is : List Item) → AllKnown m (absorbed (player m c) ((player m c).after s (run tid call) (told_items (told_at m c w (run tid call)) ++ is)) (told_at m c w (run tid call))).memo (served_step w (run tid call)).world
       shown o seen is =
           let u : World = (served_step w (run tid call)).world in
           let items : List Item = told_items (told_at m c w (run tid call)) ++ is in
           let told : List Entry = told_at m c w (run tid call) in
-          let after : played_view m c s (run tid call) items ≡ view m u = (turned (leading m (known_queue t)) m c w tid call is o st.kept.once seen).world in
+          let after : played_view m c s (run tid call) items ≡ view m u = (turned (leading m (known_queue t) k) m c w tid call is o st.kept.once seen).world in
           let silent : every (is_silent (view m u)) told ≡ true = every-which (is_silent (view m u)) (is_told_input m c u (thread_whose w tid)) (served_step w (run tid call)).entries (every-more (is_done u) (is_silent (view m u)) (done-silent m u) (served_step w (run tid call)).entries o.done) in
           let noted : line_memo m c (view m w) t (run tid call) items ≡ caller_memo m c (view m w) call (own_entry (served_steps (run tid call) w)) t (live_thread w tid) = noted-next is o seen in
           subst (λ memo. AllKnown m memo u)
@@ -147,17 +147,17 @@ module _ (m : Group) (c : ℕ) (w : World) (t : List Heard) (tid : ℕ) (call : 
 abbrev Plain : Group → List Heard → World → List Basic → Type 0
 Plain m t w bs = (are_known m t w bs ≡ true) × ((v : World) → every (is_silent_step v) bs ≡ true)
 
-directive-known : (m : Group) (c : ℕ) (w : World) (t : List Heard) (line : ScriptLine) → ((is : List Item) → line_memo m c (view m w) t line is ≡ t) → AllKnown m t w → Plain m t w (served_steps line w) → Known m c w t line
-directive-known m c w t line none all plain =
+directive-known : (m : Group) (c : ℕ) (w : World) (t : List Heard) (k : Contents) (line : ScriptLine) → ((is : List Item) → line_memo m c (view m w) t line is ≡ t) → AllKnown m t w → Plain m t w (served_steps line w) → Known m c w t k line
+directive-known m c w t k line none all plain =
     let u : World = (served_step w line).world in
     let behind : AllKnown m t u = run-known m t w (served_steps line w) plain.0 all in
     let told : List Entry = told_at m c w line in
     let silent : (v : World) → every (is_silent v) told ≡ true = λ v. every-which (is_silent v) (is_told_input m c u (line_whose w line)) (served_step w line).entries (steps-silent v (served_steps line w) (plain.1 v)) in
     record {
-      hides = λ out. subst (λ memo. AllKnown m memo u) (sym (absorbed-memo m c (record { seen = view m w; memo = t }) told ∙ entries-silent m (view m w) t told (silent (view m w)))) behind;
+      hides = λ out. subst (λ memo. AllKnown m memo u) (sym (absorbed-memo m c (record { seen = view m w; memo = t; bytes = k }) told ∙ entries-silent m (view m w) t told (silent (view m w)))) behind;
       shows = λ seen is.
           let items : List Item = told_items told ++ is in
-          let after : State = (player m c).after (record { seen = view m w; memo = t }) line items in
+          let after : State = (player m c).after (record { seen = view m w; memo = t; bytes = k }) line items in
           subst (λ memo. AllKnown m memo u) (sym (absorbed-memo m c after told ∙ entries-silent m after.seen after.memo told (silent after.seen) ∙ none items)) behind;
     }
 
@@ -177,9 +177,9 @@ link-plain : (m : Group) (t : List Heard) (w : World) (path target : List ℕ) �
 unfolding bare_steps link_line
 link-plain m t w path target = directed_holds (Plain m t w) word.Link (link_line w path target) (bind_holds (spelled_name target) _ (Plain m t w) (λ _ _. bind_holds (free_name w path) _ (Plain m t w) (λ _ _. (refl, λ v. refl)))) (λ _. (refl, λ v. refl))
 
-pub line-known : (m : Group) (c : ℕ) (w : World) (t : List Heard) (line : ScriptLine) → m c ≡ true → Stood m c w (record { seen = view m w; memo = t }) → HasFineRows m c w → HasFineRows m c (served_step w line).world → OnceUsed (served_step w line).world → is_fine_line m c w line ≡ true → Known m c w t line
-line-known m c w t (run tid call) c_in st fine next once ok = run-line_known m c w t tid call c_in st fine next ok once
-line-known m c w t (boot pid tid) c_in st fine next once ok = directive-known m c w t (boot pid tid) (λ is. refl) st.known (boot-plain m t w pid tid)
-line-known m c w t (thread tid pid) c_in st fine next once ok = directive-known m c w t (thread tid pid) (λ is. refl) st.known (thread-plain m t w tid pid)
-line-known m c w t (dir path) c_in st fine next once ok = directive-known m c w t (dir path) (λ is. refl) st.known (dir-plain m t w path)
-line-known m c w t (link path target) c_in st fine next once ok = directive-known m c w t (link path target) (λ is. refl) st.known (link-plain m t w path target)
+pub line-known : (m : Group) (c : ℕ) (w : World) (t : List Heard) (k : Contents) (line : ScriptLine) → m c ≡ true → Stood m c w (record { seen = view m w; memo = t; bytes = k }) → HasFineRows m c w → HasFineRows m c (served_step w line).world → OnceUsed (served_step w line).world → is_fine_line m c w line ≡ true → Known m c w t k line
+line-known m c w t k (run tid call) c_in st fine next once ok = run-line_known m c w t k tid call c_in st fine next ok once
+line-known m c w t k (boot pid tid) c_in st fine next once ok = directive-known m c w t k (boot pid tid) (λ is. refl) st.known (boot-plain m t w pid tid)
+line-known m c w t k (thread tid pid) c_in st fine next once ok = directive-known m c w t k (thread tid pid) (λ is. refl) st.known (thread-plain m t w tid pid)
+line-known m c w t k (dir path) c_in st fine next once ok = directive-known m c w t k (dir path) (λ is. refl) st.known (dir-plain m t w path)
+line-known m c w t k (link path target) c_in st fine next once ok = directive-known m c w t k (link path target) (λ is. refl) st.known (link-plain m t w path target)

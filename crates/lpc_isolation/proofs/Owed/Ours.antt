@@ -72,9 +72,9 @@ ours-deeds m c w by k mine = record {
     queue-in handle bytes s is = routed-in m c w s.port s.queue is.named.right k.c_in (ap (λ b. b == c) (is.named.process ∙ mine) ∙ same-number c) is.to
 
 pub own-call : (call : ScriptCall) → is_calm call ≡ true → Members call → Own call
-own-call call is (answers_alike spared same) m c u d w by known a used mine fine =
+own-call call is (answers_alike spared same) m c u d w by known k a used mine fine right =
     let P : ScriptCall → List Basic → Type 0 = λ call bs. spares call ≡ true → HasFineRows m c (world_after w bs) → are_ours m w bs ≡ true in
-    own-same m c u d w by call (same m c w by known a mine fine)
+    own-same m c u d w by call k (same m c w by known k a mine fine right)
     (holds-more (P call) (λ bs. HasFineRows m c (world_after w bs) → are_ours m w bs ≡ true) (served w by call) (λ bs ours. ours spared)
     (deeds-do w by P (ours-deeds m c w by (caller m c w by known w a refl) mine) call is))
-own-call call is (ends_threads own leads) m c u d w by known a used mine fine = own m c u d w by known a used mine fine
+own-call call is (ends_threads own leads) m c u d w by known k a used mine fine right = own m c u d w by known k a used mine fine right

@@ -9,7 +9,7 @@ use Rattle.lpc_base.proofs.Bools.{first-true, second-true}
 use Rattle.lpc_base.specs.declared.status.TheConstants.{SUCCESS}
 use Rattle.lpc_model.specs.declared.entry.Entry.{Entry}
 use Rattle.lpc_model.specs.declared.entry.Entry.TheVariants as entry
-use Rattle.lpc_model.specs.World.{ThreadRow, UsedThread, WaitRow, World}
+use Rattle.lpc_model.specs.World.{Contents, ThreadRow, UsedThread, WaitRow, World}
 use Rattle.lpc_model.specs.Found.{is_used_thread, live_thread, waits_as}
 use Rattle.lpc_model.specs.Basics.{Basic, entries_of, world_after}
 use Rattle.lpc_model.specs.Lines.{ScriptCall, run}
@@ -152,15 +152,20 @@ accepts (entry.NoThread who) = false
 accepts (entry.Died who status) = true
 accepts (entry.Directive word status) = false
 
--- what the calls of members other than c do in a view, by what they are told
+-- what the calls of members other than c do in a view, by what they are told; the bytes that are known
 pub record Leads : Type 0 where
   pub lead : World → ThreadRow → ScriptCall → Entry → List Basic
+  pub bytes : Contents
+
+-- what a call of c's sees of bytes: the view has none, and no call so far reads any
+abbrev pub seeing : Contents → World → ScriptCall → World
+seeing k v call = v
 
 abbrev pub led_line : Leads → World → ℕ → ScriptCall → Entry → List Basic
 led_line led v tid call e = cond (accepts e) (given (live_thread v tid) (λ by. led.lead v by call e)) []
 
 abbrev pub turn : Leads → ℕ → World → ℕ → ScriptCall → List Item → List Basic
-turn led c v tid call is = cond (is_seen (alone c) (thread_whose v tid)) (served_steps (run tid call) v) (led_line led v tid call (next_entry is))
+turn led c v tid call is = cond (is_seen (alone c) (thread_whose v tid)) (served_steps (run tid call) (seeing led.bytes v call)) (led_line led v tid call (next_entry is))
 
 abbrev pub shown_run : Leads → ℕ → World → ℕ → ScriptCall → List Item → List Item
 shown_run led c v tid call is =
@@ -170,7 +175,7 @@ shown_run led c v tid call is =
 -- what a call's line owes: of an outsider, of c, of another member
 pub record Owes (led : Leads) (m : Group) (c : ℕ) (w : World) (tid : ℕ) (call : ScriptCall) : Type 0 where
   pub apart : is_seen m (thread_whose w tid) ≡ false → are_apart m c (served_step w (run tid call)).world (thread_whose w tid) w (served_steps (run tid call) w) ≡ true
-  pub own : is_seen (alone c) (thread_whose w tid) ≡ true → Led m c (served_step w (run tid call)).world (thread_whose w tid) w (served_steps (run tid call) w) (served_steps (run tid call) (view m w))
+  pub own : is_seen (alone c) (thread_whose w tid) ≡ true → Led m c (served_step w (run tid call)).world (thread_whose w tid) w (served_steps (run tid call) w) (served_steps (run tid call) (seeing led.bytes (view m w) call))
   pub leads : is_seen m (thread_whose w tid) ≡ true → is_seen (alone c) (thread_whose w tid) ≡ false
       → Led m c (served_step w (run tid call)).world (thread_whose w tid) w (served_steps (run tid call) w) (led_line led (view m w) tid call (own_entry (served_steps (run tid call) w)))
   pub first : is_seen m (thread_whose w tid) ≡ true → is_seen (alone c) (thread_whose w tid) ≡ false
@@ -211,7 +216,7 @@ whose-same : (m : Group) (o : Option ℕ) → is_seen m (owned o) ≡ true → o
 whose-same m None is = refl
 whose-same m (Some p) is = rw is refl
 
-thread-same : (m : Group) (w : World) (tid : ℕ) → OnceUsed w → is_seen m (thread_whose w tid) ≡ true → thread_whose (view m w) tid ≡ thread_whose w tid
+pub thread-same : (m : Group) (w : World) (tid : ℕ) → OnceUsed w → is_seen m (thread_whose w tid) ≡ true → thread_whose (view m w) tid ≡ thread_whose w tid
 thread-same m w tid once is = ap owned (owner-view m w tid once) ∙ whose-same m (owner w tid) is
 
 -- what a turn leaves, and tells c
@@ -220,12 +225,12 @@ pub record Turned (m : Group) (c : ℕ) (w : World) (tid : ℕ) (call : ScriptCa
   pub told : heard (alone c) (served_step w (run tid call)).world (thread_whose w tid) (entries_of taken) ≡ heard (alone c) (served_step w (run tid call)).world (thread_whose w tid) (served_step w (run tid call)).entries
 
 pub turned : (led : Leads) (m : Group) (c : ℕ) (w : World) (tid : ℕ) (call : ScriptCall) (is : List Item) → Owes led m c w tid call → OnceUsed w → is_seen m (thread_whose w tid) ≡ true → Turned m c w tid call (turn led c (view m w) tid call (told_items (told_at m c w (run tid call)) ++ is))
-turned led m c w tid call is o once seen = subst (λ b. Turned m c w tid call (cond b (served_steps (run tid call) (view m w)) (led_line led (view m w) tid call (next_entry (told_items (told_at m c w (run tid call)) ++ is))))) (sym mine) (at (is_seen (alone c) (thread_whose w tid)) refl)
+turned led m c w tid call is o once seen = subst (λ b. Turned m c w tid call (cond b (served_steps (run tid call) (seeing led.bytes (view m w) call)) (led_line led (view m w) tid call (next_entry (told_items (told_at m c w (run tid call)) ++ is))))) (sym mine) (at (is_seen (alone c) (thread_whose w tid)) refl)
   where
     mine : is_seen (alone c) (thread_whose (view m w) tid) ≡ is_seen (alone c) (thread_whose w tid)
     mine = ap (is_seen (alone c)) (thread-same m w tid once seen)
 
-    at : (b : Bool) → is_seen (alone c) (thread_whose w tid) ≡ b → Turned m c w tid call (cond b (served_steps (run tid call) (view m w)) (led_line led (view m w) tid call (next_entry (told_items (told_at m c w (run tid call)) ++ is))))
+    at : (b : Bool) → is_seen (alone c) (thread_whose w tid) ≡ b → Turned m c w tid call (cond b (served_steps (run tid call) (seeing led.bytes (view m w) call)) (led_line led (view m w) tid call (next_entry (told_items (told_at m c w (run tid call)) ++ is))))
     at true is_c = let l = o.own is_c in record { world = sym l.world; told = sym l.told }
     at false other =
         let l = o.leads seen other in

@@ -7,13 +7,13 @@ use Rattle.std.proofs.Math.Bool.{and-true}
 use Rattle.lpc_base.specs.Rows.{which}
 use Rattle.lpc_base.proofs.Bools.{first-true, second-true}
 use Rattle.lpc_model.specs.declared.entry.Entry.{Entry}
-use Rattle.lpc_model.specs.World.{World, no_rows}
+use Rattle.lpc_model.specs.World.{Birth, World, no_rows}
 use Rattle.lpc_model.specs.Lines.{ScriptLine}
 use Rattle.lpc_isolation.proofs.Gone.Served.{served_step}
 use Rattle.lpc_model.specs.Run.{said_in}
 use Rattle.lpc_model.specs.Circle.{Event, Everyone, Group, Item, Nobody, Of, Ran, Told, Whose, entry_whose, inputs, is_fine_line, is_input, is_item, is_seen, is_told_to, item_of, items, line_whose, members, told_event}
-use Rattle.lpc_isolation.proofs.Views.Alone.{HasFineRows, alone}
-use Rattle.lpc_isolation.proofs.Gone.Bare.{IsBareCircle, BareIsolation, bare_events, bare_line_events}
+use Rattle.lpc_isolation.proofs.Views.Alone.{HasFineRows, Secluded, alone}
+use Rattle.lpc_isolation.proofs.Gone.Bare.{IsApartAt, IsBareCircle, BareIsolation, bare_events, bare_line_events}
 
 -- How a group's lines are played: a state, what an entry and a line do to it, and what c sees of a line
 pub record Player (S : Type 0) : Type 0 where
@@ -99,8 +99,10 @@ line-inputs m c w line = subst (λ b. map item_of (cond b (record { whose = line
     at false rest = rest
 
 -- what each line of a circle's run owes
-abbrev pub Keeps : {S : Type 0} → Player S → (World → S → Type 0) → (ScriptLine → Bool) → Group → ℕ → Type 0
-Keeps {S} p Stands ok m c = (w : World) (v : S) (line : ScriptLine) → Stands w v → HasFineRows m c w → HasFineRows m c (served_step w line).world → is_fine_line m c w line ≡ true → ok line ≡ true → Played p Stands m c w v line
+abbrev pub Keeps : {S : Type 0} → Player S → (World → S → Type 0) → (ScriptLine → Bool) → Group → ℕ → (Birth → Bool) → Type 0
+Keeps {S} p Stands ok m c outer =
+    (w : World) (v : S) (line : ScriptLine) → Stands w v → HasFineRows m c w → HasFineRows m c (served_step w line).world → Secluded m c outer (served_step w line).world → is_fine_line m c w line ≡ true → IsApartAt m outer w line → ok line ≡ true
+    → Played p Stands m c w v line
 
 -- every line that says something is as it must be
 abbrev pub are_ok : (ScriptLine → Bool) → List (Option ScriptLine) → Bool
@@ -108,10 +110,10 @@ are_ok ok [] = true
 are_ok ok (None ∷ later) = are_ok ok later
 are_ok ok (Some line ∷ later) = ok line && are_ok ok later
 
-head-fine : (m : Group) (c : ℕ) (w : World) (lines : List (Option ScriptLine)) → IsBareCircle m c w lines → HasFineRows m c w
-head-fine m c w [] is = is
-head-fine m c w (None ∷ later) is = head-fine m c w later is
-head-fine m c w (Some line ∷ later) is = is.0
+head-fine : (m : Group) (c : ℕ) (outer : Birth → Bool) (w : World) (lines : List (Option ScriptLine)) → IsBareCircle m c outer w lines → HasFineRows m c w × Secluded m c outer w
+head-fine m c outer w [] is = is
+head-fine m c outer w (None ∷ later) is = head-fine m c outer w later is
+head-fine m c outer w (Some line ∷ later) is = (is.0, is.1)
 
 -- one line, and then the rest
 played-line : {S : Type 0} (p : Player S) (Stands : World → S → Type 0) (m : Group) (c : ℕ) (w : World) (v : S) (line : ScriptLine) (own rest : List Item) → Played p Stands m c w v line → ((v : S) → Stands (served_step w line).world v → own ≡ play p v rest)
@@ -128,20 +130,21 @@ played-line p Stands m c w v line own rest (visible h) later =
     ∙ ap (λ is. play p v (is ++ rest)) (sym ins)
 
 -- the theorem of one run: c's items are a function of the inputs
-pub plays : {S : Type 0} (p : Player S) (Stands : World → S → Type 0) (ok : ScriptLine → Bool) (m : Group) (c : ℕ) → Keeps p Stands ok m c → (w : World) (v : S) (lines : List (Option ScriptLine)) → Stands w v → IsBareCircle m c w lines → are_ok ok lines ≡ true → items (alone c) (bare_events w lines) ≡ play p v (inputs m c (bare_events w lines))
-plays p Stands ok m c k w v [] is circle fit = refl
-plays p Stands ok m c k w v (None ∷ later) is circle fit = plays p Stands ok m c k w v later is circle fit
-plays p Stands ok m c k w v (Some line ∷ later) is circle fit =
-    let next : HasFineRows m c (served_step w line).world = head-fine m c (served_step w line).world later circle.2 in
+pub plays : {S : Type 0} (p : Player S) (Stands : World → S → Type 0) (ok : ScriptLine → Bool) (m : Group) (c : ℕ) (outer : Birth → Bool) → Keeps p Stands ok m c outer → (w : World) (v : S) (lines : List (Option ScriptLine)) → Stands w v → IsBareCircle m c outer w lines → are_ok ok lines ≡ true → items (alone c) (bare_events w lines) ≡ play p v (inputs m c (bare_events w lines))
+plays p Stands ok m c outer k w v [] is circle fit = refl
+plays p Stands ok m c outer k w v (None ∷ later) is circle fit = plays p Stands ok m c outer k w v later is circle fit
+plays p Stands ok m c outer k w v (Some line ∷ later) is circle fit =
+    let next = head-fine m c outer (served_step w line).world later circle.4 in
     items-append (alone c) (bare_line_events w line) (bare_events (served_step w line).world later)
-    ∙ played-line p Stands m c w v line (items (alone c) (bare_events (served_step w line).world later)) (inputs m c (bare_events (served_step w line).world later)) (k w v line is circle.0 next circle.1 (first-true _ _ fit))
-    (λ v is. plays p Stands ok m c k (served_step w line).world v later is circle.2 (second-true _ _ fit))
+    ∙ played-line p Stands m c w v line (items (alone c) (bare_events (served_step w line).world later)) (inputs m c (bare_events (served_step w line).world later)) (k w v line is circle.0 next.0 next.1 circle.2 circle.3 (first-true _ _ fit))
+    (λ v is. plays p Stands ok m c outer k (served_step w line).world v later is circle.4 (second-true _ _ fit))
     ∙ ap (play p v) (sym (inputs-append m c (bare_line_events w line) (bare_events (served_step w line).world later)))
 
 -- the law on two scripts
-pub isolation : {S : Type 0} (p : Group → ℕ → Player S) (Stands : Group → ℕ → World → S → Type 0) (start : S) (ok : ScriptLine → Bool) → ((script : List ℕ) → are_ok ok (said_in script) ≡ true) → ((m : Group) (c : ℕ) → m c ≡ true → Keeps (p m c) (Stands m c) ok m c) → ((m : Group) (c : ℕ) → Stands m c no_rows start) → BareIsolation
-isolation p Stands start ok fit keeps none group c one two c_in circle_one circle_two same =
+pub isolation : {S : Type 0} (p : Group → ℕ → Player S) (Stands : Group → ℕ → (Birth → Bool) → World → S → Type 0) (start : S) (ok : ScriptLine → Bool) → ((script : List ℕ) → are_ok ok (said_in script) ≡ true) → ((m : Group) (c : ℕ) (outer : Birth → Bool) → m c ≡ true → Keeps (p m c) (Stands m c outer) ok m c outer)
+    → ((m : Group) (c : ℕ) (outer : Birth → Bool) → Stands m c outer no_rows start) → BareIsolation
+isolation p Stands start ok fit keeps none group c outer other one two c_in circle_one circle_two same =
     let m : Group = members group in
-    plays (p m c) (Stands m c) ok m c (keeps m c c_in) no_rows start (said_in one) (none m c) circle_one (fit one)
+    plays (p m c) (Stands m c outer) ok m c outer (keeps m c outer c_in) no_rows start (said_in one) (none m c outer) circle_one (fit one)
     ∙ ap (play (p m c) start) same
-    ∙ sym (plays (p m c) (Stands m c) ok m c (keeps m c c_in) no_rows start (said_in two) (none m c) circle_two (fit two))
+    ∙ sym (plays (p m c) (Stands m c other) ok m c other (keeps m c other c_in) no_rows start (said_in two) (none m c other) circle_two (fit two))

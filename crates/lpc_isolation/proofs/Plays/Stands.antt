@@ -5,7 +5,7 @@ use Rattle.std.specs.Prelude.{◌==◌, Ok}
 use Rattle.lpc_base.specs.Rows.{passes}
 use Rattle.lpc_base.proofs.Bools.{same-number}
 use Rattle.lpc_model.specs.declared.entry.Entry.{Entry}
-use Rattle.lpc_model.specs.World.{ThreadRow, WaitRow, World}
+use Rattle.lpc_model.specs.World.{Contents, ThreadRow, WaitRow, World}
 use Rattle.lpc_model.specs.Found.{live_thread, wait_of}
 use Rattle.lpc_model.specs.Basics.{world_after}
 use Rattle.lpc_model.specs.Connect.{ConnectAnswer, answer_test}
@@ -18,6 +18,7 @@ use Rattle.lpc_model.specs.Circle.{Everyone, Group, Item, Of, is_fine_call, is_f
 use Rattle.lpc_isolation.proofs.Views.Alone.{HasFineRows, alone}
 use Rattle.lpc_isolation.proofs.Gone.Bare.{bare_line_events}
 use Rattle.lpc_isolation.proofs.Views.View.{view}
+use Rattle.lpc_isolation.proofs.Views.Bytes.{Right, contents_after}
 use Rattle.lpc_isolation.proofs.Rows.Fair.{Fair}
 use Rattle.lpc_isolation.proofs.Views.Seen.{live-owner}
 use Rattle.lpc_isolation.proofs.Views.Apart.{Owned, absorb, absorb_all}
@@ -35,42 +36,55 @@ use Rattle.lpc_model.specs.Connect.{reaches}
 use Rattle.lpc_model.specs.Found.{is_offered, names_wait}
 use Rattle.lpc_isolation.proofs.Each.Accepts.{reached-of, reached-own}
 use Rattle.lpc_isolation.proofs.Memory.Heard.{Heard, entries_memo, entry_memo, line_memo}
+use Rattle.lpc_isolation.proofs.Memory.Bytes.{written_turn}
 use Rattle.lpc_isolation.proofs.Memory.Knows.{AllKnown, known_queue, knows-queue}
 use Rattle.lpc_isolation.proofs.Rows.Firm.{Firm, firm-shut}
 
--- a state: the view, and what is remembered of outsiders that asked
+-- a state: the view, what is remembered of outsiders that asked, and the bytes that are known
 pub record State : Type 0 where
   pub seen : World
   pub memo : List Heard
+  pub bytes : Contents
 
 abbrev pub played_view : Group → ℕ → State → ScriptLine → List Item → World
-played_view m c s (run tid call) is = world_after s.seen (turn (leading m (known_queue s.memo)) c s.seen tid call is)
+played_view m c s (run tid call) is = world_after s.seen (turn (leading m (known_queue s.memo) s.bytes) c s.seen tid call is)
 played_view m c s (boot pid tid) is = world_after s.seen (directive_turn s.seen (boot pid tid) is)
 played_view m c s (thread tid pid) is = world_after s.seen (directive_turn s.seen (thread tid pid) is)
 played_view m c s (dir path) is = world_after s.seen (directive_turn s.seen (dir path) is)
 played_view m c s (link path target) is = world_after s.seen (directive_turn s.seen (link path target) is)
 
 abbrev pub played_items : Group → ℕ → State → ScriptLine → List Item → List Item
-played_items m c s (run tid call) is = shown_run (leading m (known_queue s.memo)) c s.seen tid call is
+played_items m c s (run tid call) is = shown_run (leading m (known_queue s.memo) s.bytes) c s.seen tid call is
 played_items m c s (boot pid tid) is = directive_shown c s.seen (boot pid tid) is
 played_items m c s (thread tid pid) is = directive_shown c s.seen (thread tid pid) is
 played_items m c s (dir path) is = directive_shown c s.seen (dir path) is
 played_items m c s (link path target) is = directive_shown c s.seen (link path target) is
 
+abbrev pub played_bytes : Group → ℕ → State → ScriptLine → List Item → Contents
+played_bytes m c s (run tid call) is = contents_after s.bytes (written_turn (leading m (known_queue s.memo) s.bytes) c s.seen tid call is)
+played_bytes m c s (boot pid tid) is = s.bytes
+played_bytes m c s (thread tid pid) is = s.bytes
+played_bytes m c s (dir path) is = s.bytes
+played_bytes m c s (link path target) is = s.bytes
+
 abbrev pub player : Group → ℕ → Player (State)
 player m c = record {
-  absorb_at = λ s e. record { seen = absorb s.seen e; memo = entry_memo m s.seen s.memo e };
-  after = λ s line is. record { seen = played_view m c s line is; memo = line_memo m c s.seen s.memo line is };
+  absorb_at = λ s e. record { seen = absorb s.seen e; memo = entry_memo m s.seen s.memo e; bytes = s.bytes };
+  after = λ s line is. record { seen = played_view m c s line is; memo = line_memo m c s.seen s.memo line is; bytes = played_bytes m c s line is };
   shown_at = λ s line is. played_items m c s line is;
 }
 
 pub absorbed-view : (m : Group) (c : ℕ) (s : State) (es : List Entry) → (absorbed (player m c) s es).seen ≡ absorb_all s.seen es
 absorbed-view m c s [] = refl
-absorbed-view m c s (e ∷ es) = absorbed-view m c (record { seen = absorb s.seen e; memo = entry_memo m s.seen s.memo e }) es
+absorbed-view m c s (e ∷ es) = absorbed-view m c (record { seen = absorb s.seen e; memo = entry_memo m s.seen s.memo e; bytes = s.bytes }) es
+
+pub absorbed-bytes : (m : Group) (c : ℕ) (s : State) (es : List Entry) → (absorbed (player m c) s es).bytes ≡ s.bytes
+absorbed-bytes m c s [] = refl
+absorbed-bytes m c s (e ∷ es) = absorbed-bytes m c (record { seen = absorb s.seen e; memo = entry_memo m s.seen s.memo e; bytes = s.bytes }) es
 
 pub absorbed-memo : (m : Group) (c : ℕ) (s : State) (es : List Entry) → (absorbed (player m c) s es).memo ≡ entries_memo m s.seen s.memo es
 absorbed-memo m c s [] = refl
-absorbed-memo m c s (e ∷ es) = absorbed-memo m c (record { seen = absorb s.seen e; memo = entry_memo m s.seen s.memo e }) es
+absorbed-memo m c s (e ∷ es) = absorbed-memo m c (record { seen = absorb s.seen e; memo = entry_memo m s.seen s.memo e; bytes = s.bytes }) es
 
 -- what a line keeps by itself
 pub record Kept (m : Group) (c : ℕ) (w : World) : Type 0 where
@@ -87,6 +101,7 @@ pub record Stood (m : Group) (c : ℕ) (w : World) (s : State) : Type 0 where
   pub firm : Firm w
   pub kept : Kept m c w
   pub known : AllKnown m s.memo w
+  pub right : Right c s.bytes w
 
 -- where a thread that waits for nothing calls
 knows-at : (m : Group) (c : ℕ) (w : World) (by : ThreadRow) (memo : List Heard) → Fair m c w → AllKnown m memo w → (bytes : List ℕ) (a : ConnectAnswer) → m by.process ≡ true → answer_test w by bytes ≡ Ok a → m a.wait.process ≡ false → known_queue memo bytes ≡ a.wait.queue
@@ -117,26 +132,26 @@ ready-at m c w s tid by c_in st fine live idle =
     }
 
 -- The lines of calls
-line-call : (m : Group) (c : ℕ) (w : World) (tid : ℕ) (call : ScriptCall) → is_fine_line m c w (run tid call) ≡ true → (by : ThreadRow) → owner w tid ≡ Some by.process → by.process ≡ c → is_fine_call m w call ≡ true
+pub line-call : (m : Group) (c : ℕ) (w : World) (tid : ℕ) (call : ScriptCall) → is_fine_line m c w (run tid call) ≡ true → (by : ThreadRow) → owner w tid ≡ Some by.process → by.process ≡ c → is_fine_call m w call ≡ true
 line-call m c w tid call fine by own mine =
     let it : passes (owner w tid) (λ p. p == c) ≡ true = rw own (rw mine (same-number c)) in grind arith
 
-pub owes-line : (m : Group) (c : ℕ) (w : World) (s : State) (tid : ℕ) (call : ScriptCall) → m c ≡ true → Stood m c w s → HasFineRows m c w → HasFineRows m c (served_step w (run tid call)).world → is_fine_line m c w (run tid call) ≡ true → Owes (leading m (known_queue s.memo)) m c w tid call
+pub owes-line : (m : Group) (c : ℕ) (w : World) (s : State) (tid : ℕ) (call : ScriptCall) → m c ≡ true → Stood m c w s → HasFineRows m c w → HasFineRows m c (served_step w (run tid call)).world → is_fine_line m c w (run tid call) ≡ true → Owes (leading m (known_queue s.memo) s.bytes) m c w tid call
 owes-line m c w s tid call c_in st fine next line = at (live_thread w tid) refl
   where
     owned : Owned w w
     owned = owned-sound m c w st.kept.fair st.firm.sound.waits
 
-    ready : (by : ThreadRow) → live_thread w tid ≡ Some by → (o : Option WaitRow) → wait_of w tid ≡ o → Owes (leading m (known_queue s.memo)) m c w tid call
-    ready by live (Some x) waits = owes-busy (leading m (known_queue s.memo)) m c w tid call by x c_in st.kept.fair owned live waits
+    ready : (by : ThreadRow) → live_thread w tid ≡ Some by → (o : Option WaitRow) → wait_of w tid ≡ o → Owes (leading m (known_queue s.memo) s.bytes) m c w tid call
+    ready by live (Some x) waits = owes-busy (leading m (known_queue s.memo) s.bytes) m c w tid call by x c_in st.kept.fair owned live waits
     ready by live None idle =
         let number : by.number ≡ tid = live-number w tid by live in
         let own : owner w tid ≡ Some by.process = live-owner m c w tid by st.kept.fair live in
-        owes-call (leading m (known_queue s.memo)) m c w tid call by (record { c_in = c_in; fair = st.kept.fair; owned = owned; live = live; idle = idle })
-        (serves m c w by (known_queue s.memo) call (ready-at m c w s tid by c_in st fine live idle) (λ mine. line-call m c w tid call line by own mine)) next
+        owes-call (leading m (known_queue s.memo) s.bytes) m c w tid call by (record { c_in = c_in; fair = st.kept.fair; owned = owned; live = live; idle = idle })
+        (serves m c w by (known_queue s.memo) call s.bytes (ready-at m c w s tid by c_in st fine live idle) (λ mine. line-call m c w tid call line by own mine) st.right) next
 
-    at : (o : Option ThreadRow) → live_thread w tid ≡ o → Owes (leading m (known_queue s.memo)) m c w tid call
-    at None none = owes-none (leading m (known_queue s.memo)) m c w tid call c_in st.kept.fair none
+    at : (o : Option ThreadRow) → live_thread w tid ≡ o → Owes (leading m (known_queue s.memo) s.bytes) m c w tid call
+    at None none = owes-none (leading m (known_queue s.memo) s.bytes) m c w tid call c_in st.kept.fair none
     at (Some by) live = ready by live (wait_of w tid) refl
 
 -- What each line leaves of a view, and what c sees of it
@@ -145,19 +160,19 @@ pub record Line (m : Group) (c : ℕ) (w : World) (s : State) (line : ScriptLine
   pub shows : is_seen m (line_whose w line) ≡ true → (is : List Item) → (view m (served_step w line).world ≡ absorb_all (played_view m c s line (told_items (told_at m c w line) ++ is)) (told_at m c w line))
       × (items (alone c) (bare_line_events w line) ≡ played_items m c s line (told_items (told_at m c w line) ++ is))
 
-pub of-line : (m : Group) (c : ℕ) (w : World) (t : List Heard) (line : ScriptLine) → m c ≡ true → Stood m c w (record { seen = view m w; memo = t }) → HasFineRows m c w → HasFineRows m c (served_step w line).world → OnceUsed (served_step w line).world → is_fine_line m c w line ≡ true → Line m c w (record { seen = view m w; memo = t }) line
-of-line m c w t (run tid call) c_in st fine next once line =
-    let o = owes-line m c w (record { seen = view m w; memo = t }) tid call c_in st fine next line in
-    record { hides = λ out. run-hidden (leading m (known_queue t)) m c w tid call c_in o out; shows = λ seen is. run-visible (leading m (known_queue t)) m c w tid call is c_in o st.kept.once once seen }
-of-line m c w t (boot pid tid) c_in st fine next once line =
+pub of-line : (m : Group) (c : ℕ) (w : World) (t : List Heard) (k : Contents) (line : ScriptLine) → m c ≡ true → Stood m c w (record { seen = view m w; memo = t; bytes = k }) → HasFineRows m c w → HasFineRows m c (served_step w line).world → OnceUsed (served_step w line).world → is_fine_line m c w line ≡ true → Line m c w (record { seen = view m w; memo = t; bytes = k }) line
+of-line m c w t k (run tid call) c_in st fine next once line =
+    let o = owes-line m c w (record { seen = view m w; memo = t; bytes = k }) tid call c_in st fine next line in
+    record { hides = λ out. run-hidden (leading m (known_queue t) k) m c w tid call c_in o out; shows = λ seen is. run-visible (leading m (known_queue t) k) m c w tid call is c_in o st.kept.once once seen }
+of-line m c w t k (boot pid tid) c_in st fine next once line =
     let o = boot-directs m w pid tid in
     record { hides = λ out. directive-hidden m c w (boot pid tid) _ (Of pid) (boot_line w pid tid) c_in o out; shows = λ seen is. directive-visible m c w (boot pid tid) _ (Of pid) (boot_line w pid tid) is o seen }
-of-line m c w t (thread tid pid) c_in st fine next once line =
+of-line m c w t k (thread tid pid) c_in st fine next once line =
     let o = thread-directs m w tid pid in
     record { hides = λ out. directive-hidden m c w (thread tid pid) _ (Of pid) (thread_line w tid pid) c_in o out; shows = λ seen is. directive-visible m c w (thread tid pid) _ (Of pid) (thread_line w tid pid) is o seen }
-of-line m c w t (dir path) c_in st fine next once line =
+of-line m c w t k (dir path) c_in st fine next once line =
     let o = dir-directs m w path (seen-names m w.bindings st.kept.names) in
     record { hides = λ out. directive-hidden m c w (dir path) _ Everyone (dir_line w path) c_in o out; shows = λ seen is. directive-visible m c w (dir path) _ Everyone (dir_line w path) is o seen }
-of-line m c w t (link path target) c_in st fine next once line =
+of-line m c w t k (link path target) c_in st fine next once line =
     let o = link-directs m w path target (seen-names m w.bindings st.kept.names) in
     record { hides = λ out. directive-hidden m c w (link path target) _ Everyone (link_line w path target) c_in o out; shows = λ seen is. directive-visible m c w (link path target) _ Everyone (link_line w path target) is o seen }

@@ -1,8 +1,9 @@
 -- Short words for the law's proof: a process alone, and what the circle says of a world's processes, ports and views.
-use Rattle.std.specs.Prelude.{◌≡◌, ℕ, ◌==◌, Bool, cond, true}
-use Rattle.lpc_base.specs.Rows.{every}
+use Rattle.std.specs.Prelude.{◌≡◌, ℕ, ◌==◌, Bool, List, cond, true}
+use Rattle.lpc_base.specs.Rows.{every, has}
 use Rattle.lpc_model.specs.World.{Birth, ViewRow, World}
-use Rattle.lpc_model.specs.Circle.{Group, is_fine_port, is_fine_process, is_inner_view}
+use Rattle.lpc_model.specs.Basics.{Basic}
+use Rattle.lpc_model.specs.Circle.{Group, is_fine_port, is_fine_process, is_inner_view, is_write_of}
 
 -- the group of one process
 abbrev pub alone : ℕ → Group
@@ -18,3 +19,7 @@ is_secluded_view m c outer v = cond (m v.process) (is_inner_view c outer v) (out
 
 abbrev pub Secluded : Group → ℕ → (Birth → Bool) → World → Type 0
 Secluded m c outer w = every (is_secluded_view m c outer) w.views ≡ true
+
+-- and of what an outsider's steps write: it is outer
+abbrev pub WritesOuter : (Birth → Bool) → List Basic → Type 0
+WritesOuter outer bs = (b : Birth) → has (is_write_of b) bs ≡ true → outer b ≡ true

@@ -1,0 +1,84 @@
+-- What a call writes to sections is told by its words: the steps of it that change bytes are these.
+use Rattle.std.proofs.Common.{◌≡◌, List, [], ◌∷◌, Bool, true, not, Option, Some, None, refl, arith}
+use Rattle.std.specs.Prelude.{Ok}
+use Rattle.lpc_base.specs.Rows.{every, which}
+use Rattle.lpc_base.proofs.RowWords.{every-append, every-more}
+use Rattle.lpc_message.specs.declared.kind.TheConstants.{DATAGRAM, REQUEST}
+use Rattle.lpc_model.specs.declared.message.Message.{Message}
+use Rattle.lpc_model.specs.World.{MessageRow, PortRow, ThreadRow, World}
+use Rattle.lpc_model.specs.Basics.{AddsSection, Basic, Frees, Writes, world_after}
+use Rattle.lpc_model.specs.Close.{close_handle, close_steps}
+use Rattle.lpc_model.specs.Connect.{client_port, connect_start, connect_steps, connection_request, listen_steps}
+use Rattle.lpc_model.specs.Entering.{enter, received_steps, row_of}
+use Rattle.lpc_model.specs.Lines.{ScriptCall}
+use Rattle.lpc_model.specs.Request.{datagram_start, datagram_steps, given_reply, receive_steps, reply_test, request_start, request_steps, sent_by}
+use Rattle.lpc_model.proofs.Calls.Holding.{Holds, bind_holds, holds_ok}
+use Rattle.lpc_model.proofs.Calls.Outcomes.{Outcomes}
+use Rattle.lpc_model.proofs.Steps.Ending.{answered_end, ending-enter, ending-receipt, handle-ending, is_ending, steps-end}
+use Rattle.lpc_isolation.proofs.Calls.Deeds.{served-does}
+use Rattle.lpc_isolation.proofs.Gone.Served.{served}
+use Rattle.lpc_isolation.proofs.Views.Bytes.{is_byte_step}
+
+-- what a call writes where it is served
+abbrev pub written_by : World → ThreadRow → ScriptCall → List Basic
+written_by w by call = []
+
+-- Steps that change no bytes
+abbrev is_blank : Basic → Bool
+is_blank b = not (is_byte_step b)
+
+abbrev AreBlank : List Basic → Type 0
+AreBlank bs = every is_blank bs ≡ true
+
+blank-none : (bs : List Basic) → AreBlank bs → which is_byte_step bs ≡ []
+blank-none [] all = refl
+blank-none (b ∷ bs) all = grind (arith, blank-none bs)
+
+ending-blank : (b : Basic) → is_ending b ≡ true → is_blank b ≡ true
+ending-blank (AddsSection s) is = absurd (cc)
+ending-blank (Writes b place new) is = absurd (cc)
+ending-blank (Frees o) is = absurd (cc)
+ending-blank b is = refl
+
+enter-blank : (m : MessageRow) (v : World) → AreBlank (enter m v)
+enter-blank m v = every-more is_ending is_blank ending-blank (enter m v) (ending-enter m v)
+
+taken-blank : (m : MessageRow) → AreBlank (received_steps m)
+taken-blank m = every-more is_ending is_blank ending-blank (received_steps m) (ending-receipt m)
+
+given-blank : (w : World) (port : PortRow) (o : Option Message) → Holds AreBlank (given_reply w port o)
+given-blank w port None = refl
+given-blank w port (Some m) = bind_holds (reply_test w port m) _ AreBlank (λ x _. refl)
+
+-- Calls
+module _ (w : World) (by : ThreadRow) where
+  written-outcomes : Outcomes w by (λ call bs. which is_byte_step bs ≡ written_by w by call)
+  written-outcomes = record {
+    creates = refl;
+    founds = λ name path free. refl;
+    connects = λ name bytes q at. let y = connection_request by bytes in blank-none (connect_steps by q y w) (enter-blank (row_of q (client_port by q) y) (world_after w (connect_start by q y)));
+    listens = λ handle port m l at. blank-none (listen_steps by port.birth (Some m)) (taken-blank m);
+    awaits_connect = λ handle port l at. refl;
+    refuses = λ context bytes a at. refl;
+    accepts = λ context bytes a at. refl;
+    completes = λ handle r at. refl;
+    sends = λ handle bytes s at. let y = sent_by by DATAGRAM s.message in blank-none (datagram_steps by s.port s.queue y w) (enter-blank (row_of s.queue s.port y) (world_after w (datagram_start by)));
+    asks = λ handle bytes s at. let y = sent_by by REQUEST s.message in blank-none (request_steps by s.port s.queue y w) (enter-blank (row_of s.queue s.port y) (world_after w (request_start by s.port.birth s.queue y)));
+    replies = λ handle bytes port m x at read fits. refl;
+    receives = λ handle bytes a port queue replied m r at. blank-none (receive_steps by port queue replied (Some m)) (every-append is_blank replied _ (given port a replied r.reply_made) (taken-blank m));
+    awaits_message = λ handle bytes a port queue replied r at. blank-none (receive_steps by port queue replied None) (every-append is_blank replied _ (given port a replied r.reply_made) refl);
+    registers = λ handle port at new few. refl;
+    repeats = λ handle port at known. refl;
+    closes = λ handle r at. blank-none (close_steps by r w) (every-more is_ending is_blank ending-blank (close_handle by.process r w) (handle-ending by.process r w));
+    duplicates = λ handle access r at. refl;
+    queries = λ handle r at. refl;
+    spawns = λ pid tid new unused. refl;
+    starts = λ target tid pid at lives unused. refl;
+    ends = λ call name own pid code ts doomed. let bs = answered_end by name own pid code ts w in blank-none bs (every-more is_ending is_blank ending-blank bs (steps-end w by name own pid code ts));
+  }
+    where
+      given : (port : PortRow) (a : Option Message) (replied : List Basic) → given_reply w port a ≡ Ok replied → AreBlank replied
+      given port a replied at = holds_ok AreBlank (given_reply w port a) replied (given-blank w port a) at
+
+  pub writes : (call : ScriptCall) → Holds (λ bs. which is_byte_step bs ≡ written_by w by call) (served w by call)
+  writes call = served-does w by (λ call bs. which is_byte_step bs ≡ written_by w by call) written-outcomes (λ handle r fields at. refl) call
