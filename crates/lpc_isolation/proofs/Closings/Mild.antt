@@ -6,7 +6,7 @@ use Rattle.lpc_base.proofs.RowWords.{every-more, every-without, has_none-without
 use Rattle.lpc_base.proofs.Bools.{first-true, second-true}
 use Rattle.lpc_model.specs.World.{Birth, MessageRow, WaitRow, World}
 use Rattle.lpc_model.specs.Found.{is_own_of, is_queued, same_birth, waits_as}
-use Rattle.lpc_model.specs.Basics.{Basic, Cuts, DropsHandle, Empties, Enters, Takes, TakesConnect, Unbinds, Wakes, Withdraws, basic, world_after, Dies, Unregisters}
+use Rattle.lpc_model.specs.Basics.{Basic, Cuts, DropsHandle, DropsViewsOf, Empties, Enters, Takes, TakesConnect, Unbinds, Wakes, Withdraws, basic, world_after, Dies, Unregisters}
 use Rattle.lpc_model.specs.Entering.{takes}
 use Rattle.lpc_model.specs.Circle.{Group}
 use Rattle.lpc_model.proofs.Steps.Rows.{count-less}
@@ -37,6 +37,7 @@ is_mild (Takes q) = true
 is_mild (TakesConnect q) = true
 is_mild (Dies who status) = true
 is_mild (Unregisters who b) = true
+is_mild (DropsViewsOf pid) = true
 is_mild b = false
 
 abbrev pub AreMild : List Basic → Type 0
@@ -54,6 +55,7 @@ mild-calm who (Takes q) is = refl
 mild-calm who (TakesConnect q) is = refl
 mild-calm who (Dies a status) is = refl
 mild-calm who (Unregisters a b) is = refl
+mild-calm who (DropsViewsOf pid) is = refl
 mild-calm who b is = absurd (cc)
 
 pub mild-orderly : (bs : List Basic) → AreMild bs → is_orderly bs ≡ true
@@ -69,6 +71,7 @@ mild-orderly (Takes q ∷ bs) is = mild-orderly bs is
 mild-orderly (TakesConnect q ∷ bs) is = mild-orderly bs is
 mild-orderly (Dies a status ∷ bs) is = mild-orderly bs is
 mild-orderly (Unregisters a b ∷ bs) is = mild-orderly bs is
+mild-orderly (DropsViewsOf pid ∷ bs) is = mild-orderly bs is
 mild-orderly (b ∷ bs) is = absurd (cc)
 
 pub mild-fine : (m : Group) (c : ℕ) (b : Basic) → is_mild b ≡ true → makes_fine m c b ≡ true
@@ -83,6 +86,7 @@ mild-fine m c (Takes q) is = refl
 mild-fine m c (TakesConnect q) is = refl
 mild-fine m c (Dies a status) is = refl
 mild-fine m c (Unregisters a b) is = refl
+mild-fine m c (DropsViewsOf pid) is = refl
 mild-fine m c b is = absurd (cc)
 
 pub mild-paths : (w : World) (bs : List Basic) → AreMild bs → are_paths w bs ≡ true
@@ -98,6 +102,7 @@ mild-paths w (Takes q ∷ bs) is = mild-paths (basic w (Takes q)) bs is
 mild-paths w (TakesConnect q ∷ bs) is = mild-paths (basic w (TakesConnect q)) bs is
 mild-paths w (Dies a status ∷ bs) is = mild-paths (basic w (Dies a status)) bs is
 mild-paths w (Unregisters a b ∷ bs) is = mild-paths (basic w (Unregisters a b)) bs is
+mild-paths w (DropsViewsOf pid ∷ bs) is = mild-paths (basic w (DropsViewsOf pid)) bs is
 mild-paths w (b ∷ bs) is = absurd (cc)
 
 pub mild-known : (m : Group) (memo : List Heard) (w : World) (bs : List Basic) → AreMild bs → are_known m memo w bs ≡ true
@@ -113,6 +118,7 @@ mild-known m memo w (Takes q ∷ bs) is = mild-known m memo (basic w (Takes q)) 
 mild-known m memo w (TakesConnect q ∷ bs) is = mild-known m memo (basic w (TakesConnect q)) bs is
 mild-known m memo w (Dies a status ∷ bs) is = mild-known m memo (basic w (Dies a status)) bs is
 mild-known m memo w (Unregisters a b ∷ bs) is = mild-known m memo (basic w (Unregisters a b)) bs is
+mild-known m memo w (DropsViewsOf pid ∷ bs) is = mild-known m memo (basic w (DropsViewsOf pid)) bs is
 mild-known m memo w (b ∷ bs) is = absurd (cc)
 
 -- Steps by which rows go alone; of a port alone it is cut off

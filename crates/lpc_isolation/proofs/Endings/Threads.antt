@@ -9,10 +9,11 @@ use Rattle.lpc_base.proofs.Bools.{first-true, second-true}
 use Rattle.lpc_base.specs.declared.status.Status.{Status}
 use Rattle.lpc_model.specs.World.{Birth, HandleRow, ThreadRow, World, HandleTable}
 use Rattle.lpc_model.specs.Found.{handles_of, is_live, is_table, live_threads, lives_in, rows_in}
-use Rattle.lpc_model.specs.Basics.{Steps, in_turn, provided, world_after, ◌▹◌}
+use Rattle.lpc_model.specs.Basics.{DropsViewsOf, Steps, doing, in_turn, provided, world_after, ◌▹◌}
 use Rattle.lpc_model.specs.Close.{close_handle}
 use Rattle.lpc_model.specs.Death.{die, end_process, end_threads, post_death, post_deaths}
 use Rattle.lpc_model.specs.Circle.{Group, owner}
+use Rattle.lpc_model.proofs.Steps.Closing.{then-holds}
 use Rattle.lpc_model.proofs.Steps.Ending.{first-at, rows-left, turn-pass}
 use Rattle.lpc_model.proofs.Sound.Terminate.{handle-safe}
 use Rattle.lpc_isolation.proofs.Views.View.{our_thread, view}
@@ -26,7 +27,7 @@ use Rattle.lpc_isolation.proofs.Each.Closes.{handle-good, handle-mild, handle-se
 use Rattle.lpc_isolation.proofs.Rows.Sent.{append-sent, are_sent}
 use Rattle.lpc_isolation.proofs.Endings.Parts.{turn-steady, Part, Remains, Steady, good-part, known-part, none-part, provided-part, provided-remains, steady-after, steady-sure, then-part, then-remains, turn-part, turn-remains}
 use Rattle.lpc_isolation.proofs.Endings.Deaths.{die-mild, die-part, die-sent, post-mild, post-sent, die-remains, die-steady, post-part, post-remains, post-steady}
-use Rattle.lpc_isolation.proofs.Views.Callers.{Led}
+use Rattle.lpc_isolation.proofs.Views.Callers.{Led, led-same}
 
 -- The threads that end
 -- a thread of the process, which registered ports of its own
@@ -55,10 +56,10 @@ turn-sent f sent [] w = refl
 turn-sent f sent (x ∷ xs) w = let v : World = world_after w (f x w) in append-sent w (f x w) (in_turn f xs v) (sent x w) (turn-sent f sent xs v)
 
 process-mild : (pid : ℕ) (w : World) → AreMild (end_process pid w)
-process-mild pid w = turn-pass is_mild (close_handle pid) (λ r v. handle-mild v pid r) (handles_of w pid) w
+process-mild pid w = every-append is_mild (in_turn (close_handle pid) (handles_of w pid) w) (DropsViewsOf pid ∷ []) (turn-pass is_mild (close_handle pid) (λ r v. handle-mild v pid r) (handles_of w pid) w) refl
 
 process-sent : (pid : ℕ) (w : World) → are_sent w (end_process pid w) ≡ true
-process-sent pid w = turn-sent (close_handle pid) (λ r v. handle-sent v pid r) (handles_of w pid) w
+process-sent pid w = append-sent w (in_turn (close_handle pid) (handles_of w pid) w) (DropsViewsOf pid ∷ []) (turn-sent (close_handle pid) (λ r v. handle-sent v pid r) (handles_of w pid) w) refl
 
 pub ends-mild : (pid : ℕ) (code : Status) (ts : List ThreadRow) (w : World) → AreMild (end_threads pid code ts w)
 unfolding end_threads
@@ -145,11 +146,29 @@ module _ (m : Group) (c : ℕ) (u : World) (pid : ℕ) (c_in : m c ≡ true) whe
       at None none all = refl
       at (Some t) some all = subst (λ n. every (is_own n) t.rows ≡ true) (eqb-true t.process pid (first-passes (is_table pid) w.handles t some)) (every-first is_fair_table (is_table pid) w.handles t all some)
 
-  process-at : (w : World) → known w → Part m c u pid (has_rows (handles_of w pid)) (in_turn (close_handle pid) (handles_of w pid))
-  process-at w k = rows-part (handles_of w pid) (rows-own w k)
+  rows-steady : (rows : List HandleRow) → every (is_own pid) rows ≡ true → (w : World) → has_rows rows w → known (world_after w (in_turn (close_handle pid) rows w))
+  rows-steady [] own w k = k.0
+  rows-steady (r ∷ rows) own w k = then-holds known (close_handle pid r) (in_turn (close_handle pid) rows) w (rows-steady rows (second-true _ _ own) (world_after w (close_handle pid r w)) (row-left r rows (first-true _ _ own) w k))
 
-  process-view : (w : World) → m pid ≡ true → end_process pid (view m w) ≡ in_turn (close_handle pid) (handles_of w pid) (view m w)
-  process-view w inside = ap (λ rows. in_turn (close_handle pid) rows (view m w)) (handles-view m w pid inside)
+  -- and then its views
+  views-part : Part m c u pid known (doing (DropsViewsOf pid ∷ []))
+  views-part = record {
+    mild = λ w. refl;
+    sent = λ w. refl;
+    fair = λ w k. refl;
+    asked = λ w k. let s = k.sure in let a = s.asked in record { sorts = a.sorts; own = a.own; one = a.one };
+    apart = λ d w k out. rw out refl;
+    mute = λ d w memo k n out. refl;
+    led = λ d w k inside. led-same m c u d w (DropsViewsOf pid ∷ []) refl;
+  }
+
+  process-at : (w : World) → known w → Part m c u pid (has_rows (handles_of w pid)) (in_turn (close_handle pid) (handles_of w pid) ▹ doing (DropsViewsOf pid ∷ []))
+  process-at w k =
+      let rows = handles_of w pid in
+      then-part m c u pid c_in (has_rows rows) known (in_turn (close_handle pid) rows) (doing (DropsViewsOf pid ∷ [])) (rows-part rows (rows-own w k)) (rows-steady rows (rows-own w k)) views-part
+
+  process-view : (w : World) → m pid ≡ true → end_process pid (view m w) ≡ (in_turn (close_handle pid) (handles_of w pid) ▹ doing (DropsViewsOf pid ∷ [])) (view m w)
+  process-view w inside = ap (λ rows. (in_turn (close_handle pid) rows ▹ doing (DropsViewsOf pid ∷ [])) (view m w)) (handles-view m w pid inside)
 
   process-part : Part m c u pid known (end_process pid)
   process-part = record {
@@ -180,8 +199,11 @@ process-remains k pid = record {
     row : (r : HandleRow) → handle_closed k r ≡ true → Remains k (close_handle pid r)
     row r live = record { alike = λ u closed. thin-handle k u pid r closed live; stands = λ u closed. handle-stands k u pid r closed live }
 
-    at : (u : World) → Closed k u → Remains k (in_turn (close_handle pid) (handles_of u pid))
-    at u closed = turn-remains k (handle_closed k) (close_handle pid) row (handles_of u pid) (rows-closed k pid u.handles (first (is_table pid) u.handles) refl closed.tables)
+    views : Remains k (doing (DropsViewsOf pid ∷ []))
+    views = record { alike = λ u closed. refl; stands = λ u closed. refl }
+
+    at : (u : World) → Closed k u → Remains k (in_turn (close_handle pid) (handles_of u pid) ▹ doing (DropsViewsOf pid ∷ []))
+    at u closed = then-remains k (in_turn (close_handle pid) (handles_of u pid)) (doing (DropsViewsOf pid ∷ [])) (turn-remains k (handle_closed k) (close_handle pid) row (handles_of u pid) (rows-closed k pid u.handles (first (is_table pid) u.handles) refl closed.tables)) views
 
 -- ports that stand
 abbrev pub are_standing : Alive → ThreadRow → Bool
