@@ -4,3 +4,4 @@ pub mod Connections
 pub mod Closings
 pub mod Endings
 pub mod Creations
+pub mod Neighbours

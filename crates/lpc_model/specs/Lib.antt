@@ -49,3 +49,4 @@ pub mod WorkedConnections
 pub mod WorkedClosings
 pub mod WorkedEndings
 pub mod WorkedCreations
+pub mod WorkedNeighbours

@@ -5,6 +5,7 @@ ghost use Rattle.lpc_model.specs.WorkedConnections.{WorkedConnections};
 ghost use Rattle.lpc_model.specs.WorkedClosings.{WorkedClosings};
 ghost use Rattle.lpc_model.specs.WorkedCreations.{WorkedCreations};
 ghost use Rattle.lpc_model.specs.WorkedEndings.{WorkedEndings};
+ghost use Rattle.lpc_model.specs.WorkedNeighbours.{WorkedNeighbours};
 ghost use Rattle.lpc_replay.specs.Laws.{ConnectsReturn, MisfitsRefused, RefusalsIdle, RefusalsStay, RequestsReturn, WaitsEnd};
 
 /// Completion by a fitting reply, a connect's return by its answer, and the end of each wait, in every script.
@@ -33,11 +34,13 @@ pub fn law_completion()
     ensures ended { (script : List ℕ) → WaitsEnd script }
 {}
 
-/// The definitions compute transcripts that were worked by hand, from the bytes of a script to the bytes sent for it.
+/// The definitions compute transcripts that were worked by hand, from the bytes of a script to the bytes sent for it;
+/// and of two such scripts that differ in what a neighbour does, the same for the client beside it and for its server.
 pub fn law_worked_transcripts()
     ensures transcripts { WorkedTranscripts }
     ensures connections { WorkedConnections }
     ensures closings { WorkedClosings }
     ensures endings { WorkedEndings }
     ensures creations { WorkedCreations }
+    ensures neighbours { WorkedNeighbours }
 {}

@@ -2,6 +2,7 @@ use Rattle.lpc_model.proofs.Worked.Closings.{worked_closings}
 use Rattle.lpc_model.proofs.Worked.Connections.{worked_connections}
 use Rattle.lpc_model.proofs.Worked.Creations.{worked_creations}
 use Rattle.lpc_model.proofs.Worked.Endings.{worked_endings}
+use Rattle.lpc_model.proofs.Worked.Neighbours.{worked_neighbours}
 use Rattle.lpc_model.proofs.Worked.Transcripts.{worked_transcripts}
 use Rattle.lpc_replay.proofs.laws.law_worked_transcripts.Goals as goal
 
@@ -19,3 +20,6 @@ returns-clause-endings c = worked_endings
 
 pub returns-clause-creations : goal.returns-clause-creations
 returns-clause-creations c = worked_creations
+
+pub returns-clause-neighbours : goal.returns-clause-neighbours
+returns-clause-neighbours c = worked_neighbours
