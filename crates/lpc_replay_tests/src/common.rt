@@ -46,8 +46,20 @@ pub fn source(alloc: Global, script: &[u8], piece: usize, fails: &[u64]) -> Resu
 
 /// A sink that has room for so many bytes, takes 5 a call, and fails the calls of these numbers.
 pub fn sink(alloc: Global, room: usize, fails: &[u64]) -> Result<MemSink, Fail> {
+    sink_in_pieces(alloc, room, 5, fails)
+}
+
+/// The same for a sink that takes so many bytes a call.
+pub fn sink_in_pieces(
+    alloc: Global,
+    room: usize,
+    piece: usize,
+    fails: &[u64],
+) -> Result<MemSink, Fail>
+    requires { 0 < piece }
+{
     let fails = fails.to_vec(alloc)?;
-    let sink = MemSink::new(alloc, room, 5, fails)?;
+    let sink = MemSink::new(alloc, room, piece, fails)?;
     Ok(sink)
 }
 

@@ -11,6 +11,8 @@ mod connections;
 #[cfg(test)]
 mod creations;
 #[cfg(test)]
+mod devices;
+#[cfg(test)]
 mod endings;
 #[cfg(test)]
 mod lines;
