@@ -1,0 +1,4 @@
+pub mod Views
+pub mod Mapping
+pub mod Parts
+pub mod Lends

@@ -1,0 +1,10 @@
+//! The views of one process: which part of a section each shows, and at which addresses.
+#![tactic(auto)]
+
+mod bases;
+mod parts;
+mod space;
+mod view;
+
+pub use space::Space;
+pub use view::{Fault, MapFault, Place, View};

@@ -1,0 +1,47 @@
+// The bytes that views show, in the sections under their keys.
+ghost use Rattle.std.specs.Prelude.{◌≡◌, ◌+◌, length};
+ghost use Rattle.std.specs.Borrow.{sem};
+ghost use Rattle.lpc_base.specs.Rows.{every};
+ghost use Rattle.lpc_views.specs.Lends.{LendsTable, LendsView};
+ghost use Rattle.lpc_views.specs.Parts.{HoldsPart, AreMapped, part_at, seen, with_bytes};
+ghost use Rattle.lpc_views.specs.Views.{is_writable_at};
+
+use crate::Space;
+use lpc_sections::Section;
+use lpc_slots::{Key, Slots};
+
+/// A range of a section's bytes.
+pub(crate) fn part_of(sections: &Slots<Section>, key: Key, at: u32, len: u32) -> &[u8]
+    requires { HoldsPart sections.now key (at + len) }
+    ensures value { result.now ≡ part_at sections.now key at len }
+    ensures len { length result.now ≡ len }
+{
+    match sections.get(key) {
+        Some(section) => section.part(at, len),
+        None => unreachable!(),
+    }
+}
+
+/// A range of a section's bytes, to be written.
+pub(crate) fn part_of_mut(sections: &mut Slots<Section>, key: Key, at: u32, len: u32) -> &mut [u8]
+    requires { HoldsPart sections.old key (at + len) }
+    ensures* writes_back { sem 𝓛 (LendsTable sections.entry key at result) }
+    ensures value { result.now ≡ part_at sections.old key at len }
+    ensures len { length result.now ≡ len }
+{
+    match sections.get_mut(key) {
+        Some(section) => section.part_mut(at, len),
+        None => unreachable!(),
+    }
+}
+
+/// Writes bytes over a range of a section.
+pub(crate) fn write_in(sections: &mut Slots<Section>, key: Key, at: u32, bytes: &[u8])
+    requires within { HoldsPart sections.old key (at + length bytes.now) }
+    ensures { sections.new ≡ with_bytes sections.old key at bytes.now }
+{
+    match sections.get_mut(key) {
+        Some(section) => section.write(at, bytes),
+        None => unreachable!(),
+    }
+}
