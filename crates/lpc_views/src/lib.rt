@@ -6,5 +6,6 @@ mod parts;
 mod space;
 mod view;
 
+pub use parts::part_mut;
 pub use space::Space;
 pub use view::{Fault, MapFault, Place, View};

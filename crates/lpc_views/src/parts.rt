@@ -1,10 +1,9 @@
 // The bytes that views show, in the sections under their keys.
-ghost use Rattle.std.specs.Prelude.{◌≡◌, ◌+◌, length};
+ghost use Rattle.std.specs.Prelude.{◌≡◌, ◌+◌, IsSome, Some, length, option_map};
 ghost use Rattle.std.specs.Borrow.{sem};
-ghost use Rattle.lpc_base.specs.Rows.{every};
 ghost use Rattle.lpc_views.specs.Lends.{LendsTable, LendsView};
 ghost use Rattle.lpc_views.specs.Parts.{HoldsPart, AreMapped, part_at, seen, with_bytes};
-ghost use Rattle.lpc_views.specs.Views.{is_writable_at};
+ghost use Rattle.lpc_views.specs.Views.{view_of};
 
 use crate::Space;
 use lpc_sections::Section;
@@ -42,6 +41,29 @@ pub(crate) fn write_in(sections: &mut Slots<Section>, key: Key, at: u32, bytes: 
 {
     match sections.get_mut(key) {
         Some(section) => section.write(at, bytes),
+        None => unreachable!(),
+    }
+}
+
+/// The bytes at a range of addresses, which one view holds, to be written. Nothing else changes.
+///
+/// Each view's section is present, and has the bytes that the view shows.
+pub fn part_mut<'a, P: Copy + Eq>(
+    sections: &'a mut Slots<Section>,
+    space: &Space<P>,
+    address: u32,
+    len: u32,
+) -> &'a mut [u8]
+    requires mapped { AreMapped sections.old space.now.views }
+    requires held { IsSome (view_of space.now.views address len) }
+    ensures* writes_back { let view = view_of space.now.views address len in
+        sem 𝓛 (LendsView sections.entry address view result) }
+    ensures value { let view = view_of space.now.views address len in
+        option_map (seen sections.old address len) view ≡ Some result.now }
+    ensures len { length result.now ≡ len }
+{
+    match space.place(address, len) {
+        Some(place) => part_of_mut(sections, place.section, place.at, len),
         None => unreachable!(),
     }
 }

@@ -1,5 +1,5 @@
 // The views of one process, in the order of making.
-ghost use Rattle.std.specs.Prelude.{◌≡◌, ◌+◌, ◌++◌, ◌∷◌, ◌%◌, ◌<◌, ◌≤◌, ◌↔◌, [], true, None, Some, length, option_map, IfNone, IfOk, IfSome, IsErr, IsSome, OnErr, OnOk, OnSome, vec_capacity, vec_len};
+ghost use Rattle.std.specs.Prelude.{◌≡◌, ◌+◌, ◌++◌, ◌∷◌, ◌%◌, ◌^◌, ◌<◌, ◌≤◌, ◌↔◌, [], true, None, Some, length, option_map, IfNone, IfOk, IfSome, IsErr, IsSome, OnErr, OnOk, OnSome, vec_capacity, vec_len};
 ghost use Rattle.lpc_base.specs.Room.{grown_room};
 ghost use Rattle.lpc_base.specs.Rows.{passes, without, without_first};
 ghost use Rattle.lpc_base.specs.declared.limits.TheConstants.{PAGE_SIZE, SECTION_LIMIT, VIEW_LIMIT};
@@ -168,6 +168,44 @@ impl<P: Copy + Eq> Space<P> {
         match self.view_of(address, len) {
             Some(view) => view.writable,
             None => false,
+        }
+    }
+
+    /// The bytes at a range of addresses: Fault exactly where no one view holds the whole range. They are the section's
+    /// own.
+    ///
+    /// Each view's section is present, and has the bytes that the view shows.
+    pub fn slice<'a>(
+        &self,
+        sections: &'a Slots<Section>,
+        address: u32,
+        len: u32,
+    ) -> Result<&'a [u8], Fault>
+        requires mapped { AreMapped sections.now self.now.views }
+        ensures bytes { let view = view_of self.now.views address len in
+            IfOk result (λ bytes. option_map (seen sections.now address len) view ≡ Some bytes.now) }
+        ensures len { IfOk result (λ bytes. length bytes.now ≡ len) }
+        ensures fault { IsErr result ↔ (view_of self.now.views address len ≡ None) }
+    {
+        match self.place(address, len) {
+            Some(place) => Ok(part_of(sections, place.section, place.at, len)),
+            None => Err(Fault),
+        }
+    }
+
+    /// Writes bytes at a range of addresses, which one view holds that may be written. No other byte changes.
+    ///
+    /// Each view's section is present, and has the bytes that the view shows; so it is afterwards.
+    pub fn write(&self, sections: &mut Slots<Section>, address: u32, bytes: &[u8])
+        requires mapped { AreMapped sections.old self.now.views }
+        requires few { length bytes.now < 2 ^ 32 }
+        requires writable { is_writable_at self.now.views address (length bytes.now) ≡ true }
+        ensures sections { let view = view_of self.now.views address (length bytes.now) in
+            sections.new ≡ written sections.old address view bytes.now }
+    {
+        match self.place(address, bytes.len() as u32) {
+            Some(place) => write_in(sections, place.section, place.at, bytes),
+            None => unreachable!(),
         }
     }
 
