@@ -1,3 +1,5 @@
 mod Search
 mod Removal
 mod Mapped
+mod Lent
+mod Ends

@@ -2,7 +2,7 @@
 ghost use Rattle.std.specs.Prelude.{◌≡◌, ◌+◌, IsSome, Some, length, option_map};
 ghost use Rattle.std.specs.Borrow.{sem};
 ghost use Rattle.lpc_views.specs.Lends.{LendsTable, LendsView};
-ghost use Rattle.lpc_views.specs.Parts.{HoldsPart, AreMapped, part_at, seen, with_bytes};
+ghost use Rattle.lpc_views.specs.Parts.{HoldsPart, AreMapped, KeepsSizes, part_at, seen, with_bytes};
 ghost use Rattle.lpc_views.specs.Views.{view_of};
 
 use crate::Space;
@@ -37,7 +37,8 @@ pub(crate) fn part_of_mut(sections: &mut Slots<Section>, key: Key, at: u32, len:
 /// Writes bytes over a range of a section.
 pub(crate) fn write_in(sections: &mut Slots<Section>, key: Key, at: u32, bytes: &[u8])
     requires within { HoldsPart sections.old key (at + length bytes.now) }
-    ensures { sections.new ≡ with_bytes sections.old key at bytes.now }
+    ensures sections { sections.new ≡ with_bytes sections.old key at bytes.now }
+    ensures sizes { KeepsSizes sections.old sections.new }
 {
     match sections.get_mut(key) {
         Some(section) => section.write(at, bytes),

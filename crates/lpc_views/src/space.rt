@@ -1,15 +1,17 @@
 // The views of one process, in the order of making.
 ghost use Rattle.std.specs.Prelude.{◌≡◌, ◌+◌, ◌++◌, ◌∷◌, ◌%◌, ◌^◌, ◌<◌, ◌≤◌, ◌↔◌, [], true, None, Some, length, option_map, IfNone, IfOk, IfSome, IsErr, IsSome, OnErr, OnOk, OnSome, vec_capacity, vec_len};
+ghost use Rattle.std.specs.Borrow.{sem};
 ghost use Rattle.lpc_base.specs.Room.{grown_room};
 ghost use Rattle.lpc_base.specs.Rows.{passes, without, without_first};
 ghost use Rattle.lpc_base.specs.declared.limits.TheConstants.{PAGE_SIZE, SECTION_LIMIT, VIEW_LIMIT};
 ghost use Rattle.lpc_slots.specs.Table.{at as row_at};
+ghost use Rattle.lpc_views.specs.Lends.{LendsViewIf};
 ghost use Rattle.lpc_views.specs.Mapping.{mapped, mapped_size};
-ghost use Rattle.lpc_views.specs.Parts.{AreMapped, is_mapped, seen, written};
+ghost use Rattle.lpc_views.specs.Parts.{AreMapped, KeepsSizes, is_mapped, lent_bytes, seen, writable_bytes, written};
 ghost use Rattle.lpc_views.specs.Views.{holds, is_placed, is_writable_at, lies_at, offset_of, lower_of, lowest_owned, place_of, view_at, view_of};
 
 use crate::bases::free_base;
-use crate::parts::{part_of, write_in};
+use crate::parts::{part_mut, part_of, write_in};
 use crate::{Fault, MapFault, Place, View};
 use lpc_base::limits::{PAGE_SIZE, VIEW_LIMIT};
 use lpc_base::{OutOfMemory, reserve_rows};
@@ -193,15 +195,40 @@ impl<P: Copy + Eq> Space<P> {
         }
     }
 
+    /// The bytes at a range of addresses, to be written: Fault exactly where no one view that may be written holds the
+    /// whole range. They are the section's own, and no other byte changes.
+    ///
+    /// Each view's section is present, and has the bytes that the view shows. Callers that know that a view holds the
+    /// range use `part_mut` or `write`, whose contracts tell them what the sections become.
+    pub fn slice_mut<'a>(
+        &self,
+        sections: &'a mut Slots<Section>,
+        address: u32,
+        len: u32,
+    ) -> Result<&'a mut [u8], Fault>
+        requires mapped { AreMapped sections.old self.now.views }
+        ensures* writes_back { let view = view_of self.now.views address len in
+            sem 𝓛 (LendsViewIf sections.entry address view result) }
+        ensures bytes { lent_bytes result ≡ writable_bytes sections.old self.now.views address len }
+    {
+        if self.is_writable(address, len) {
+            Ok(part_mut(sections, self, address, len))
+        } else {
+            Err(Fault)
+        }
+    }
+
     /// Writes bytes at a range of addresses, which one view holds that may be written. No other byte changes.
     ///
-    /// Each view's section is present, and has the bytes that the view shows; so it is afterwards.
+    /// Each view's section is present, and has the bytes that the view shows; so it is afterwards, also with views of
+    /// other processes.
     pub fn write(&self, sections: &mut Slots<Section>, address: u32, bytes: &[u8])
         requires mapped { AreMapped sections.old self.now.views }
         requires few { length bytes.now < 2 ^ 32 }
         requires writable { is_writable_at self.now.views address (length bytes.now) ≡ true }
         ensures sections { let view = view_of self.now.views address (length bytes.now) in
             sections.new ≡ written sections.old address view bytes.now }
+        ensures sizes { KeepsSizes sections.old sections.new }
     {
         match self.place(address, bytes.len() as u32) {
             Some(place) => write_in(sections, place.section, place.at, bytes),
