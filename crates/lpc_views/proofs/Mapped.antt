@@ -1,8 +1,9 @@
 -- A range that a view holds lies inside its section.
-use Rattle.std.proofs.Common.{◌≡◌, ◌≢◌, ◌∙◌, ℕ, ◌+◌, ◌≤◌, Bool, List, true, length, inl, inr, refl, sym, ap, subst, arith}
+use Rattle.std.proofs.Common.{◌≡◌, ◌≢◌, ◌∙◌, ℕ, ◌+◌, ◌≤◌, ◌++◌, ◌∷◌, [], Bool, List, true, length, inl, inr, refl, sym, ap, subst, arith}
 use Rattle.std.specs.Prelude.{IsSomeAnd, Option, Some, None, leb, option_map, ◌⊎◌}
 use Rattle.lpc_base.specs.Rows.{first, passes}
 use Rattle.lpc_base.proofs.RowMaps.{every-first}
+use Rattle.lpc_base.proofs.RowWords.{every-more, every-push}
 use Rattle.lpc_sections.specs.Sections.{SectionRow}
 use Rattle.lpc_slots.specs.Table.{Table, at as row_at, with_value}
 use Rattle.lpc_slots.specs.declared.Key.{Key}
@@ -43,3 +44,10 @@ size-at sections key other end s t is size (inr apart) = ap (is_long end) (at_ot
 
 pub sizes-kept : (sections : Table SectionRow) (key : Key) (s t : SectionRow) → row_at sections key ≡ Some s → length t.bytes ≡ length s.bytes → KeepsSizes sections (with_value sections key t)
 sizes-kept sections key s t is size other end = size-at sections key other end s t is size (key_cases other key)
+
+module _ {P : Type 0} where
+  pub still-mapped : (old new : Table SectionRow) (views : List (View P)) → KeepsSizes old new → AreMapped old views → AreMapped new views
+  still-mapped old new views keeps mapped = every-more (is_mapped old) (is_mapped new) (λ view is. keeps view.section (view.offset + view.size) ∙ is) views mapped
+
+  pub mapped-push : (sections : Table SectionRow) (views : List (View P)) (view : View P) → is_mapped sections view ≡ true → AreMapped sections views → AreMapped sections (views ++ view ∷ [])
+  mapped-push sections views view is mapped = every-push (is_mapped sections) views view mapped is

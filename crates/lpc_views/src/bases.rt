@@ -32,10 +32,7 @@ pub(crate) fn free_base<P: Copy>(views: &[View<P>], size: u32) -> Option<u32>
 fn met_view<P: Copy>(views: &[View<P>], base: u32, size: u32) -> Option<View<P>>
     ensures { result ≡ first (λ view. meets base size (range_of view)) views.now }
 {
-    views
-        .iter()
-        .copied()
-        .find(|view| view.meets(base, size))
+    views.iter().copied().find(|view| view.meets(base, size))
 }
 
 // The least multiple of 65536 that isn't below an address.

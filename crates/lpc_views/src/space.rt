@@ -88,9 +88,10 @@ impl<P: Copy + Eq> Space<P> {
         requires room { length self.old.views < VIEW_LIMIT → 0 < self.old.spare }
         ensures answer { let views = self.old.views in
             option_map (λ s. mapped views section offset writable owner s size)
-                (row_at sections.now section) ≡ Some result }
+            (row_at sections.now section) ≡ Some result }
         ensures views { IfOk result (λ view. self.new.views ≡ self.old.views ++ view ∷ []) }
         ensures inside { IfOk result (λ view. is_mapped sections.now view ≡ true) }
+        ensures mapped { AreMapped sections.now self.old.views → AreMapped sections.now self.new.views }
         ensures spare { OnOk result (self.new.spare + 1 ≡ self.old.spare) }
         ensures same { OnErr result (self.new ≡ self.old) }
     {
@@ -229,6 +230,7 @@ impl<P: Copy + Eq> Space<P> {
         ensures sections { let view = view_of self.now.views address (length bytes.now) in
             sections.new ≡ written sections.old address view bytes.now }
         ensures sizes { KeepsSizes sections.old sections.new }
+        ensures mapped { AreMapped sections.new self.now.views }
     {
         match self.place(address, bytes.len() as u32) {
             Some(place) => write_in(sections, place.section, place.at, bytes),
