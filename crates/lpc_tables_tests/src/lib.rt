@@ -19,6 +19,10 @@ mod ports;
 #[cfg(test)]
 mod procs;
 #[cfg(test)]
+mod sections;
+#[cfg(test)]
 mod slots;
+#[cfg(test)]
+mod views;
 #[cfg(test)]
 mod waits;
