@@ -188,7 +188,8 @@ impl Section {
         ensures* writes_back { sem 𝓛
             (LendsTested self.entry (if is_within self.old at len then at else 0) result) }
         ensures within { result.0 ≡ is_within self.old at len }
-        ensures value { result.1.now ≡ (if is_within self.old at len then part self.old at len else []) }
+        ensures value { let inside = is_within self.old at len in
+            result.1.now ≡ (if inside then part self.old at len else []) }
     {
         let within = self.is_within(at, len);
         let from = if within { at } else { 0 };
