@@ -1,5 +1,4 @@
 """The scripts of the suite and their transcripts, and what its commands have in common."""
-import argparse
 import fnmatch
 import os
 import pathlib
@@ -9,19 +8,14 @@ import sys
 ROOT = pathlib.Path(__file__).resolve().parent
 # The package of the companion tools: that of the checkout, or the one installed beside the suite.
 sys.path[:0] = [str(it) for it in (ROOT.parent / "tools", ROOT.parent) if (it / "ntlpc_tool").is_dir()]
+from ntlpc_tool import inputs
 from ntlpc_tool.inputs import shown
 
 USAGE_STATUS, INTERRUPTED = 64, 130
 
 
-class Parser(argparse.ArgumentParser):
-    """A parser that ends with status 64 where the words are wrong, and whose help isn't lost without a word."""
-
-    def _print_message(self, message, file=None):
-        if file is sys.stdout:
-            file.write(message)
-        else:
-            super()._print_message(message, file)
+class Parser(inputs.Parser):
+    """A parser that ends with status 64 where the words are wrong."""
 
     def error(self, message):
         self.print_usage(sys.stderr)

@@ -14,12 +14,10 @@ out, with a line. The exit status is 0 where every check passed, 1 where not, an
 """
 import pathlib
 import re
-import shutil
 import sys
 
 sys.dont_write_bytecode = True
-from failing import compiler, failing
-from tally import tally
+from failing import tried
 
 ROOT = pathlib.Path(__file__).resolve().parent.parent
 SMALLEST = ROOT / "examples" / "first-request.script"
@@ -80,16 +78,5 @@ def checks(program):
         yield f"other words, {words}, {count} allocations", wrong
 
 
-def main(command):
-    if len(command) != 1 or not shutil.which(command[0]):
-        print("usage: tests/allocations.py PROGRAM", file=sys.stderr)
-        return 64
-    if not compiler():
-        print("left out: there is no C compiler here")
-        return tally(())
-    with failing(command) as program:
-        return tally(checks(program))
-
-
 if __name__ == "__main__":
-    sys.exit(main(sys.argv[1:]))
+    sys.exit(tried("tests/allocations.py", checks, sys.argv[1:]))

@@ -17,12 +17,10 @@ import errno
 import itertools
 import pathlib
 import re
-import shutil
 import sys
 
 sys.dont_write_bytecode = True
-from failing import compiler, failing
-from tally import tally
+from failing import tried
 
 ROOT = pathlib.Path(__file__).resolve().parent.parent
 SMALLEST, FAULTY = "first-request", "faulty-line"
@@ -165,16 +163,5 @@ def checks(program):
     yield from errors(program, smallest)
 
 
-def main(command):
-    if len(command) != 1 or not shutil.which(command[0]):
-        print("usage: tests/edge.py PROGRAM", file=sys.stderr)
-        return 64
-    if not compiler():
-        print("left out: there is no C compiler here")
-        return tally(())
-    with failing(command) as program:
-        return tally(checks(program))
-
-
 if __name__ == "__main__":
-    sys.exit(main(sys.argv[1:]))
+    sys.exit(tried("tests/edge.py", checks, sys.argv[1:]))

@@ -5,7 +5,10 @@ import pathlib
 import shutil
 import struct
 import subprocess
+import sys
 import tempfile
+
+from tally import tally
 
 SOURCE = pathlib.Path(__file__).resolve().parent / "failing.c"
 COUNTS = struct.Struct("=3Q")
@@ -54,3 +57,16 @@ def failing(command):
     """The library and a program, for as long as a test takes."""
     with tempfile.TemporaryDirectory() as folder:
         yield Failing(folder, command)
+
+
+def tried(name, checks, words):
+    """Makes the checks of a test over the program that its words name, and answers the test's status. `name` is the
+    test, and `checks` gives each check with its name and what it found wrong."""
+    if len(words) != 1 or not shutil.which(words[0]):
+        print(f"usage: {name} PROGRAM", file=sys.stderr)
+        return 64
+    if not compiler():
+        print("left out: there is no C compiler here")
+        return tally(())
+    with failing(words) as program:
+        return tally(checks(program))

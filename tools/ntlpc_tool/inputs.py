@@ -1,9 +1,20 @@
-"""How the tools read files, and how they show bytes that may be anything."""
+"""How the tools read their words and files, and how they show bytes that may be anything."""
+import argparse
 import sys
 
 
 class Misuse(Exception):
     """Why a tool can't do what it was asked for: its words are wrong, or what it has to read can't be read."""
+
+
+class Parser(argparse.ArgumentParser):
+    """A parser whose help isn't lost without a word where it can't be written."""
+
+    def _print_message(self, message, file=None):
+        if file is sys.stdout:
+            file.write(message)
+        else:
+            super()._print_message(message, file)
 
 
 def read(path):

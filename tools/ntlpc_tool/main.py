@@ -21,20 +21,10 @@ def all_words():
     return {module.NAME: module for module in found}
 
 
-class Parser(argparse.ArgumentParser):
-    """A parser whose help isn't lost without a word where it can't be written."""
-
-    def _print_message(self, message, file=None):
-        if file is sys.stdout:
-            file.write(message)
-        else:
-            super()._print_message(message, file)
-
-
 def parser_of(modules):
     """The parser of all words."""
     how = {"formatter_class": lambda prog: argparse.RawDescriptionHelpFormatter(prog, max_help_position=16, width=120)}
-    parser = Parser(prog="ntlpc-tool", description=__doc__, **how)
+    parser = inputs.Parser(prog="ntlpc-tool", description=__doc__, **how)
     parser.add_argument("--version", action="version", version=f"ntlpc-tool {ntlpc_tool.VERSION}")
     group = parser.add_subparsers(dest="word", metavar="WORD", required=True, title="words")
     for name, module in sorted(modules.items()):
