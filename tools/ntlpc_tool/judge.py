@@ -10,7 +10,7 @@ import textwrap
 import threading
 from typing import Optional, Tuple
 
-from ntlpc_tool import differences, faults, forms, message, needs, own_names, reasons, renaming, script_lines
+from ntlpc_tool import differences, ending, faults, forms, message, needs, own_names, reasons, renaming, script_lines
 from ntlpc_tool import talk, transcript
 from ntlpc_tool.inputs import cut, shown
 
@@ -28,11 +28,10 @@ FORMS = "Each line of a transcript has one of these forms."
 NO_TRANSCRIPT = "what it prints has not the form of a transcript"
 
 
-class Ran:
+class Ran(ending.Ending):
     """One run of the program over a script. It is ended where it takes too long, or prints far more than is wanted."""
 
     def __init__(self, command, script, most, timeout):
-        self.late = False
         with tempfile.TemporaryFile() as source, tempfile.TemporaryFile() as said:
             source.write(script)
             source.seek(0)
@@ -95,22 +94,23 @@ def of_told(told):
     return Failure(Cause(told), (told,))
 
 
-def of_run(script, wanted, command, timeout):
-    """Runs the program over a script; a Failure, or None where it passes."""
+def of_run(script, wanted, command, timeout, run=Ran):
+    """Runs the program over a script; a Failure, or None where it passes. `run` is how it is run: a start for each
+    script, or in a session."""
     try:
-        ran = Ran(command, script, len(wanted) + MUCH, timeout)
+        ran = run(command, script, len(wanted) + MUCH, timeout)
     except OSError as error:
         return of_told(f"it could not be started: {error.strerror}")
     return with_ending(of_printed(script, wanted, ran.printed), ran, wanted, timeout)
 
 
-def of_names(script, wanted, command, timeout):
+def of_names(script, wanted, command, timeout, run=Ran):
     """As `of_run`, with handles and identifiers of the program's own, which may differ as long as they differ alike."""
     right, source = transcript.read(wanted), script
     names = own_names.Names(script, right)
     for _ in range(MOST_RUNS):
         try:
-            ran = Ran(command, source, len(wanted) + MUCH, timeout)
+            ran = run(command, source, len(wanted) + MUCH, timeout)
         except OSError as error:
             return of_told(f"it could not be started: {error.strerror}")
         got, wrong = as_far_as_formed(ran.printed)
@@ -188,10 +188,10 @@ def of_difference(script, source, right, got, first):
 
 def with_ending(failure, ran, wanted, timeout):
     """What failed in what was printed, if anything, with what is wrong with how the program ended."""
-    ended = how_it_ended(ran, 2 if needs.stop_of(wanted) else 0, timeout)
+    ended = ran.wrong(2 if needs.stop_of(wanted) else 0, timeout)
     if not failure and not ended:
         return None
-    if ended and (ran.late or ran.talks or ran.status < 0):
+    if ended and ran.broke_down():
         # It was ended, or broke down, and is told apart by that; what it printed last is chance.
         rule = failure.cause.lines() if failure else []
         told = [it for it in failure.told if it not in rule] if failure else []
@@ -207,24 +207,12 @@ def with_ending(failure, ran, wanted, timeout):
     return failure
 
 
-def printed_by(command, script, timeout):
+def printed_by(command, script, timeout, run=Ran):
     """What the program prints for a script of one line; nothing where it can't be started."""
     try:
-        return Ran(command, script, MUCH, timeout).printed
+        return run(command, script, MUCH, timeout).printed
     except OSError:
         return b""
-
-
-def how_it_ended(ran, status, timeout):
-    """What is wrong with how a run ended; nothing where it is as it should be."""
-    if ran.late:
-        return f"it did not end within {timeout:g} seconds"
-    if ran.talks:
-        return "it printed more and more, and was ended"
-    if ran.status == status:
-        return ""
-    ended = f"status {ran.status}" if ran.status >= 0 else f"signal {-ran.status}"
-    return f"it ended with {ended}, status {status} is wanted"
 
 
 def of_printed(script, wanted, printed):

@@ -9,11 +9,13 @@ import tempfile
 import threading
 import time
 
+from ntlpc_tool import ending
+
 MUCH = 1 << 20
 NUMBER = re.compile(rb"(?:stop )?(\d{1,9}) ")
 
 
-class Talk:
+class Talk(ending.Ending):
     """A run of a program, line by line. It is ended where it takes too long in all, or prints far more than is wanted.
 
     `printed`, `said`, `status`, `late` and `talks` tell of it what they tell of a run over a whole script.
@@ -21,8 +23,7 @@ class Talk:
 
     def __init__(self, command, most, timeout):
         self.most, self.end = most, time.monotonic() + timeout
-        self.printed, self.said, self.status = bytearray(), b"", None
-        self.late = self.talks = self.over = False
+        self.printed, self.said, self.over = bytearray(), b"", False
         self.errors = tempfile.TemporaryFile()
         how = {"stdin": subprocess.PIPE, "stdout": subprocess.PIPE, "stderr": self.errors, "start_new_session": True}
         try:
