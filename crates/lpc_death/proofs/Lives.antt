@@ -1,7 +1,8 @@
 -- What is told of threads that have ended, and what a process ends by, makes no thread live.
 use Rattle.std.proofs.Common.{◌≡◌, ℕ, ◌≤◌, List, [], ◌∷◌, true, Option, Some, None, refl, ap, subst, sym, arith}
 use Rattle.lpc_base.specs.Rows.{count, every, given}
-use Rattle.lpc_model.specs.Basics.{Accepts, AddsHandle, AddsProcess, AddsThread, Awaits, Basic, Binds, Completes, Dies, DrawsIdentifier, DrawsOrdinal, Frees, Joins, Makes, Registers, Unregisters, basic, unregistering, world_after}
+use Rattle.lpc_base.proofs.RowWords.{every-append}
+use Rattle.lpc_model.specs.Basics.{Accepts, AddsHandle, AddsProcess, AddsThread, Awaits, Basic, Binds, Completes, Dies, DrawsIdentifier, DrawsOrdinal, Frees, Joins, Makes, Registers, Unregisters, basic, in_turn, unregistering, world_after}
 use Rattle.lpc_model.specs.Close.{close_handle}
 use Rattle.lpc_model.specs.Death.{end_process}
 use Rattle.lpc_model.specs.Entering.{enter}
@@ -57,4 +58,6 @@ pub told-lives : (pid : ℕ) (old new : Kept) (before after : Listed) → Took (
 told-lives pid old new before after took = took-lives (telling_all pid old.rows) old new before after (turn-pass is_ending telling_one (λ u v. told-ending u v) (untold_of old.rows pid) old.rows) took
 
 pub closed-lives : (pid : ℕ) (old new : Kept) (before after : Listed) → Took (end_process pid old.rows) old new before after → count is_alive new.rows.threads ≤ count is_alive old.rows.threads
-closed-lives pid old new before after took = took-lives (end_process pid old.rows) old new before after (turn-pass is_ending (close_handle pid) (λ r v. handle-ending pid r v) (handles_of old.rows pid) old.rows) took
+closed-lives pid old new before after took =
+    took-lives (end_process pid old.rows) old new before after
+    (every-append is_ending (in_turn (close_handle pid) (handles_of old.rows pid) old.rows) _ (turn-pass is_ending (close_handle pid) (λ r v. handle-ending pid r v) (handles_of old.rows pid) old.rows) refl) took

@@ -94,7 +94,7 @@ mute-end pid code ts w =
     (at (not (is_live two pid)) two))
   where
     at : (last : Bool) (v : World) → AreMute (when last (end_process pid v))
-    at true v = turn-pass is_mute (close_handle pid) (λ r u. mute-handle pid r u) (handles_of v pid) v
+    at true v = every-append is_mute (in_turn (close_handle pid) (handles_of v pid) v) _ (turn-pass is_mute (close_handle pid) (λ r u. mute-handle pid r u) (handles_of v pid) v) refl
     at false v = refl
 
 pub ends-gone : (pid : ℕ) (code : Status) (ts : List ThreadRow) (w : World) → outcome.Gone ≡ outcome_of (end_threads pid code ts w)
