@@ -8,3 +8,4 @@ mod words;
 
 pub use laws::law_text_is_unique;
 pub use text::{print, print_end, print_stop};
+pub use words::{put, put_digits, put_long_number, put_number};

@@ -9,8 +9,10 @@ ghost use Rattle.lpc_transcript.specs.Printing.{BeginsWith, LacksRoom, Puts, die
 use lpc_base::{OutOfMemory, Status};
 use lpc_model::{CallName, FieldName, ObjectKind, Word};
 
-/// Bytes as they stand.
-pub(crate) fn put(into: &mut Vec<u8>, bytes: &[u8]) -> Result<(), OutOfMemory>
+/// Appends bytes as they stand.
+///
+/// OutOfMemory comes only where there was no room for them; the text begins as it was then.
+pub fn put(into: &mut Vec<u8>, bytes: &[u8]) -> Result<(), OutOfMemory>
     ensures ok { Puts into.old.items into.new.items bytes.now result }
     ensures err { OnErr result (BeginsWith into.new.items into.old.items) }
     ensures capacity { vec_capacity into.old ≤ vec_capacity into.new }
@@ -22,8 +24,10 @@ pub(crate) fn put(into: &mut Vec<u8>, bytes: &[u8]) -> Result<(), OutOfMemory>
     Ok(())
 }
 
-/// A number in decimal.
-pub(crate) fn put_number(into: &mut Vec<u8>, number: u64) -> Result<(), OutOfMemory>
+/// Appends a number in decimal.
+///
+/// OutOfMemory comes only where there was no room for it; the text begins as it was then.
+pub fn put_number(into: &mut Vec<u8>, number: u64) -> Result<(), OutOfMemory>
     ensures ok { Puts into.old.items into.new.items (decimal number) result }
     ensures err { OnErr result (BeginsWith into.new.items into.old.items) }
     ensures capacity { vec_capacity into.old ≤ vec_capacity into.new }
@@ -32,8 +36,10 @@ pub(crate) fn put_number(into: &mut Vec<u8>, number: u64) -> Result<(), OutOfMem
     put(into, itoa::Buffer::new().format(number).as_bytes())
 }
 
-/// A number of up to 128 bits in decimal.
-pub(crate) fn put_long_number(into: &mut Vec<u8>, number: u128) -> Result<(), OutOfMemory>
+/// Appends a number of up to 128 bits in decimal.
+///
+/// OutOfMemory comes only where there was no room for it; the text begins as it was then.
+pub fn put_long_number(into: &mut Vec<u8>, number: u128) -> Result<(), OutOfMemory>
     ensures ok { Puts into.old.items into.new.items (decimal number) result }
     ensures err { OnErr result (BeginsWith into.new.items into.old.items) }
     ensures capacity { vec_capacity into.old ≤ vec_capacity into.new }
@@ -42,8 +48,10 @@ pub(crate) fn put_long_number(into: &mut Vec<u8>, number: u128) -> Result<(), Ou
     put(into, itoa::Buffer::new().format(number).as_bytes())
 }
 
-/// A number as eight hexadecimal digits.
-pub(crate) fn put_digits(into: &mut Vec<u8>, number: u32) -> Result<(), OutOfMemory>
+/// Appends a number as eight hexadecimal digits.
+///
+/// OutOfMemory comes only where there was no room for it; the text begins as it was then.
+pub fn put_digits(into: &mut Vec<u8>, number: u32) -> Result<(), OutOfMemory>
     ensures ok { Puts into.old.items into.new.items (eight_digits number) result }
     ensures err { OnErr result (BeginsWith into.new.items into.old.items) }
     ensures capacity { vec_capacity into.old ≤ vec_capacity into.new }
