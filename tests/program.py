@@ -19,11 +19,14 @@ import threading
 import tty
 
 sys.dont_write_bytecode = True
+import storms
 import worlds
 
 ROOT = pathlib.Path(__file__).resolve().parent.parent
 SECONDS = 60
 USAGE = b"usage: ntlpc COMMAND [WORDS]\n"
+# The line of a storm without a round: its transcript was worked out by hand, and the sum of its bytes taken from it.
+NO_ROUND = b"storm lines=52 entries=60 objects=0 replies=0 mismatches=0 sum=000263b8\n"
 FIRST, FIRST_TOLD = b"boot 20 24\n", b"1 - boot 00000000\n"
 LINES, TOLD = FIRST + b"24 NtCreatePort -\n", FIRST_TOLD + b"2 24 NtCreatePort 00000000 h=4\n"
 EXAMPLE = (ROOT / "examples" / "first-request.script").read_bytes()
@@ -180,6 +183,17 @@ def words():
         "a word that is not UTF-8": [b"\xff"],
         "a further word that is not UTF-8": ["replay", b"\xff"],
         "it with a byte that is not UTF-8": [b"replay\xff"],
+        "a storm without its numbers": ["storm"],
+        "a storm without its seed": ["storm", "2"],
+        "a storm with a further word": ["storm", "2", "0", "0"],
+        "a storm of too many rounds": ["storm", "200001", "0"],
+        "a storm of too many rounds, in hexadecimal": ["storm", "0x30d41", "0"],
+        "a storm with a leading zero": ["storm", "02", "0"],
+        "a storm with a sign": ["storm", "2", "-1"],
+        "a storm with a seed past 32 bits": ["storm", "2", "4294967296"],
+        "a storm with a seed without digits": ["storm", "2", "0x"],
+        "a storm with a seed of nine digits": ["storm", "2", "0x000000001"],
+        "a storm with a capital letter": ["Storm", "2", "0"],
     }
     for name, given in others.items():
 
@@ -192,6 +206,41 @@ def words():
                     raise Wrong("it read its input")
 
         yield f"words: {name}", check
+
+
+def storms_as_replayed():
+    """A storm's line is the sum of what a replay of its script tells. The script is made from the rules, not by the
+    program, so a wrong line of either side shows; a wrong transcript of both doesn't."""
+    for count, seed, given in ((0, 7, ()), (2, 0, ("0x2", "0x0")), (64, 2**32 - 1, ()), (2_000, 1, ())):
+
+        def check(program, count=count, seed=seed, given=given):
+            replayed = program.replay(storms.script(count, seed))
+            wanted = storms.summary(replayed.printed)
+            replayed.should(0, replayed.printed)
+            program.run("storm", *(given or (str(count), str(seed)))).should(0, wanted)
+            if b" objects=0 " not in wanted:
+                raise Wrong(f"objects are left: {brief(wanted)}")
+
+        yield f"a storm of {count} rounds from {seed}", check
+
+    def most(program):
+        ended = program.run("storm", "200000", "4294967295")
+        ended.should(0, ended.printed)
+        if b" objects=0 " not in ended.printed:
+            raise Wrong(f"objects are left: {brief(ended.printed)}")
+
+    def unread(program):
+        with tempfile.TemporaryFile() as source:
+            source.write(EXAMPLE)
+            source.seek(0)
+            program.run("storm", "0", "7", source=source).should(0, NO_ROUND)
+            if os.lseek(source.fileno(), 0, os.SEEK_CUR):
+                raise Wrong("it read its input")
+
+    yield "a storm of the most rounds", most
+    yield "a storm reads nothing", unread
+    without = {"closed": "<&-"}
+    yield "a storm without input", lambda program: program.run("storm", "0", "7", **without).should(0, NO_ROUND)
 
 
 def ends_of_input():
@@ -306,6 +355,8 @@ def outputs_that_fail():
 
     yield "the output is closed", lambda program: program.replay(EXAMPLE, closed=">&-").should(4)
     yield "the output is closed: other words", lambda program: program.run(closed=">&-").should(4)
+    yield "the output is closed: a storm", lambda program: program.run("storm", "2", "0", closed=">&-").should(4)
+    yield "the disk is full: a storm", full("storm", "2", "0")
     yield "the disk is full", full("replay")
     yield "the disk is full: the last line alone", full("replay", source=b"")
     yield "the disk is full: a faulty line alone", full("replay", source=b"unknown\n")
@@ -449,7 +500,8 @@ def main(command):
     program = Program(command)
     passed = failed = 0
     for group in (
-        examples, words, ends_of_input, inputs_that_fail, outputs_that_fail, conversations, limits, large_worlds,
+        examples, words, storms_as_replayed, ends_of_input, inputs_that_fail, outputs_that_fail, conversations, limits,
+        large_worlds,
     ):
         for name, check in group():
             try:

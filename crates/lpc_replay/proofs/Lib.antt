@@ -38,6 +38,7 @@ pub mod Ended
 pub mod Cut
 pub mod Formed
 pub mod Played
+pub mod Storming
 pub mod Stopping
 pub mod Resting
 pub mod Coming

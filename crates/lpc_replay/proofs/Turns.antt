@@ -2,6 +2,7 @@
 use Rattle.std.proofs.Common.{◌≡◌, ℕ, ◌+◌, ◌<◌, false, List, [], ◌∷◌, ◌++◌, length, refl, sym, ap, ◌∙◌, arith, append_assoc, length-append}
 use Rattle.std.specs.Prelude.{Option, Some, None, Result, Ok, Err, is_none}
 use Rattle.lpc_base.specs.declared.limits.TheConstants.{LINES_LIMIT}
+use Rattle.lpc_model.specs.declared.entry.Entry.{Entry}
 use Rattle.lpc_model.specs.declared.fault.LineFault.{LineFault}
 use Rattle.lpc_model.specs.Machine.{step}
 use Rattle.lpc_model.specs.Grammar.{read_line}
@@ -13,7 +14,7 @@ use Rattle.lpc_model.specs.Script.{kind_number, script_lines}
 use Rattle.lpc_model.specs.Text.{end_text, entries_text, stop_text}
 use Rattle.lpc_model.specs.Run.{FaultyLine, all_entries, faulty_or, first_fault, first_state, line_step, numbered_line, said_from, trace, unless_faulty, world_behind}
 use Rattle.lpc_model.specs.Transcript.{body_from, last_line, transcript}
-use Rattle.lpc_replay.specs.Playing.{Progress, RunsLine, begin, behind_line, body_text, last_text, line_text, text_from}
+use Rattle.lpc_replay.specs.Playing.{Progress, RunsLine, begin, behind_line, body_text, entries_told, last_text, line_text, text_from}
 
 pub text_goes : (p : Progress) (line : List ℕ) (lines : List (List ℕ)) (said : Option ScriptLine) → numbered_line (p.lines + 1) line ≡ Ok said → text_from p (line ∷ lines) ≡ line_text p said ++ text_from (behind_line p said) lines
 unfolding text_from
@@ -125,6 +126,10 @@ unfolding entries_text
 runs_nothing p line text few reads prints =
     let a : p.told + 0 ≡ p.told = omega arith in
     (None, numbered_reads (p.lines + 1) line (omega arith) ∙ reads, rw a refl, prints)
+
+-- what it tells
+pub tells_said : (p : Progress) (line : List ℕ) (said : Option ScriptLine) (told : List Entry) → p.lines < LINES_LIMIT → read_line line ≡ Ok said → told ≡ (line_step p.rows said).entries → told ≡ entries_told p (numbered_line (p.lines + 1) line)
+tells_said p line said told few reads is = rw (numbered_reads (p.lines + 1) line (omega arith), reads) is
 
 -- behind a line that was run
 pub run_goes : (p q : Progress) (lines : List (List ℕ)) (line : List ℕ) (more : List (List ℕ)) (text : List ℕ) → lines ≡ line ∷ more → RunsLine line None p q text → text_from p lines ≡ text ++ text_from q more

@@ -4,4 +4,5 @@ pub mod Laws
 pub mod Sending
 pub mod Reading
 pub mod Playing
+pub mod Storming
 pub mod TopCall

@@ -1,6 +1,7 @@
 -- What is sent for lines, one after the other.
 use Rattle.std.specs.Prelude.{◌≡◌, ℕ, ◌+◌, ◌*◌, ◌^◌, ◌≤◌, List, [], ◌∷◌, ◌++◌, length, Bool, true, false, Option, Some, None, Result, Ok, Err}
 use Rattle.lpc_base.specs.declared.limits.TheConstants.{LINES_LIMIT}
+use Rattle.lpc_model.specs.declared.entry.Entry.{Entry}
 use Rattle.lpc_model.specs.declared.fault.LineFault.{LineFault}
 use Rattle.lpc_model.specs.World.{World}
 use Rattle.lpc_model.specs.Found.{objects}
@@ -28,9 +29,10 @@ pub record Progress : Type 0 where
 abbrev pub begin : Progress
 begin = record { rows = first_state; lines = 0; told = 0 }
 
--- how far a script has run, and the text of what is to be sent next
+-- how far a script has run, what the line that was run last told, and the text of what is to be sent next
 pub record Played : Type 0 where
   pub at : Progress
+  pub entries : List Entry
   pub text : List ℕ
 
 -- behind one line more
@@ -40,6 +42,11 @@ behind_line p said = record {
   lines = p.lines + 1;
   told = p.told + length (line_step p.rows said).entries;
 }
+
+-- what a line tells; a faulty one tells nothing
+abbrev pub entries_told : Progress → Result (Option ScriptLine) LineFault → List Entry
+entries_told p (Err fault) = []
+entries_told p (Ok said) = (line_step p.rows said).entries
 
 -- the text of a line
 abbrev pub line_text : Progress → Option ScriptLine → List ℕ

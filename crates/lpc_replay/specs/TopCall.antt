@@ -1,12 +1,17 @@
 -- What the top call promises.
-use Rattle.std.specs.Prelude.{◌≡◌, ◌<◌, ◌≤◌, ◌+◌, length, ℕ, ◌==◌, Bool, true, false, List, [], ◌∷◌, ◌++◌, Option, IfSome, codes, string_bytes}
+use Rattle.std.specs.Prelude.{◌≡◌, ◌<◌, ◌≤◌, ◌+◌, length, ℕ, nat_le, ◌==◌, ◌||◌, Bool, true, false, List, [], ◌∷◌, ◌++◌, Option, Some, None, IfSome, is_some, Result, Ok, Err, codes, string_bytes, if◌then◌else◌}
 use Rattle.std.specs.List.{list_any}
 use Rattle.std.specs.Str.{bytes_eq}
 use Rattle.std.specs.declared.string.String.{String}
 use Rattle.lpc_base.specs.Streams.{Adds, Rose, Told}
+use Rattle.lpc_model.specs.declared.fault.LineFault.{LineFault}
 use Rattle.lpc_model.specs.Script.{script_lines}
+use Rattle.lpc_model.specs.Words.{number_word}
 use Rattle.lpc_model.specs.Run.{is_well_formed, run_of}
 use Rattle.lpc_model.specs.Transcript.{body, transcript}
+use Rattle.lpc_storm.specs.declared.rounds.TheConstants.{ROUNDS_LIMIT}
+use Rattle.lpc_storm.specs.Generated.{generated}
+use Rattle.lpc_storm.specs.Summary.{summary}
 use Rattle.lpc_replay.specs.Reading.{ended_lines, ended_part, has_fault, passes_limit}
 use Rattle.lpc_replay.specs.Sending.{AddsFront, TellsFirst}
 
@@ -14,6 +19,25 @@ use Rattle.lpc_replay.specs.Sending.{AddsFront, TellsFirst}
 abbrev pub is_replay : {A : Type 0} → List (String A) → Bool
 is_replay (word ∷ []) = bytes_eq (string_bytes word) (codes "replay")
 is_replay words = false
+
+-- The words are `storm N SEED`, with N a Number from 0 to 200000 and SEED a Number: so many rounds, and the seed.
+abbrev pub storm_numbers : Result ℕ LineFault → Result ℕ LineFault → Option (ℕ × ℕ)
+storm_numbers (Ok count) (Ok seed) = if nat_le count ROUNDS_LIMIT then Some (count, seed) else None
+storm_numbers count seed = None
+
+abbrev pub storm_of : {A : Type 0} → List (String A) → Option (ℕ × ℕ)
+storm_of (word ∷ count ∷ seed ∷ []) =
+    if bytes_eq (string_bytes word) (codes "storm") then storm_numbers (number_word (string_bytes count)) (number_word (string_bytes seed))
+    else None
+storm_of words = None
+
+-- the words are one of the forms
+abbrev pub is_form : {A : Type 0} → List (String A) → Bool
+is_form words = is_replay words || is_some (storm_of words)
+
+-- the script of a storm, and what is sent for it
+abbrev pub storm_text : ℕ × ℕ → List ℕ
+storm_text storm = summary (generated storm.0 storm.1)
 
 -- what is sent where the words are none of the forms
 abbrev pub usage : List ℕ

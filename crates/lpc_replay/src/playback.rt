@@ -5,7 +5,9 @@ ghost use Rattle.lpc_model.specs.Grammar.{has_ids};
 ghost use Rattle.lpc_model.specs.Lines.{line_of};
 ghost use Rattle.lpc_model.specs.Machine as model;
 ghost use Rattle.lpc_model.specs.Text.{entries_text};
-ghost use Rattle.lpc_replay.specs.Playing.{RunsLine, begin, last_text};
+ghost use Rattle.lpc_model.specs.Found as found;
+ghost use Rattle.lpc_model.specs.Run.{numbered_line};
+ghost use Rattle.lpc_replay.specs.Playing.{RunsLine, begin, entries_told, last_text};
 
 use lpc_base::OutOfMemory;
 use lpc_base::limits::LINES_LIMIT;
@@ -33,6 +35,7 @@ impl Model for Playback {
 
     ghost view = { λ p. record {
       at = record { rows = p.machine.rows; lines = p.lines; told = p.told };
+      entries = p.out.list;
       text = p.text.items;
     } };
 
@@ -44,7 +47,7 @@ impl Playback {
     ///
     /// OutOfMemory comes where memory for the entries' buffer is wanting; no clause tells more of when it does.
     pub fn new(alloc: Global) -> Result<Playback, OutOfMemory>
-        ensures { IfOk result (λ p. p ≡ record { at = begin; text = [] }) }
+        ensures { IfOk result (λ p. p ≡ record { at = begin; entries = []; text = [] }) }
     {
         let out = Entries::new(alloc)?;
         Ok(Playback {
@@ -61,6 +64,34 @@ impl Playback {
         ensures { result ≡ nat_le LINES_LIMIT self.now.at.lines }
     {
         self.lines >= LINES_LIMIT
+    }
+
+    /// How many lines were run.
+    pub fn lines(&self) -> u32
+        ensures { result ≡ self.now.at.lines }
+    {
+        self.lines
+    }
+
+    /// How many entries they told.
+    pub fn told(&self) -> u128
+        ensures { result ≡ self.now.at.told }
+    {
+        self.told
+    }
+
+    /// How many object rows they left.
+    pub fn objects(&self) -> usize
+        ensures { result ≡ found.objects self.now.at.rows }
+    {
+        self.machine.objects()
+    }
+
+    /// What the line that was run last told.
+    pub fn entries(&self) -> &Entries
+        ensures { (result.now).list ≡ self.now.entries }
+    {
+        &self.out
     }
 
     /// What is to be sent next.
@@ -80,9 +111,15 @@ impl Playback {
         scratch: &mut Scratch,
         line: &[u8],
     ) -> Result<Option<LineFault>, OutOfMemory>
-        ensures { IfOk result (λ f. RunsLine line.now f self.old.at self.new.at self.new.text) }
+        ensures runs { IfOk result
+            (λ f. RunsLine line.now f self.old.at self.new.at self.new.text) }
+        ensures entries { let read = numbered_line (self.old.at.lines + 1) line.now in
+            OnOk result (self.new.entries ≡ entries_told self.old.at read) }
+        ensures few { self.new.at.lines ≤ LINES_LIMIT }
+        ensures more { self.old.at.lines ≤ self.new.at.lines }
     {
         self.text.clear();
+        self.out.clear();
         if self.lines >= LINES_LIMIT {
             return Ok(Some(LineFault::Lines));
         }
@@ -140,6 +177,8 @@ fn tell(
         (model.step machine.old.rows (line_of said.now)).world) }
     ensures text { OnOk result (text.new.items ≡ text.old.items
         ++ entries_text number (model.step machine.old.rows (line_of said.now)).entries) }
+    ensures entries { OnOk result (out.new.list ≡
+        (model.step machine.old.rows (line_of said.now)).entries) }
     ensures told { IfOk result (λ told. told ≡
         length (model.step machine.old.rows (line_of said.now)).entries) }
     ensures calls { machine.new.calls ≤ machine.old.calls + 1 }

@@ -1,5 +1,5 @@
 // The top call.
-ghost use Rattle.std.specs.Prelude.{◌≡◌, ◌≤◌, [], ◌∷◌, true, false, IfSome};
+ghost use Rattle.std.specs.Prelude.{◌≡◌, ◌≤◌, [], ◌∷◌, true, false, IfSome, IsErrOf, OnOk, is_some};
 ghost use Rattle.lpc_base.specs.Streams.{Adds, Rose};
 ghost use Rattle.lpc_model.specs.Accounts.{RunAccountsForDeaths};
 ghost use Rattle.lpc_model.specs.Deaths.{RunTellsDeaths};
@@ -11,15 +11,18 @@ ghost use Rattle.lpc_model.specs.SoundWaits.{RunStaysSound};
 ghost use Rattle.lpc_replay.specs.Laws.{ClientsApart, ConnectsReturn, MisfitsRefused, RefusalsIdle, RefusalsStay, RequestsReturn, WaitsEnd};
 ghost use Rattle.lpc_replay.specs.Reading.{IsAskedForPieces};
 ghost use Rattle.lpc_replay.specs.Sending.{AddsFront};
-ghost use Rattle.lpc_replay.specs.TopCall.{Begins, BreaksOff, CutsShort, EndsAsFormed, IsFormed, ReadsInTime, Replays, Still, Stops, StopsAtFault, StopsUnfailing, is_one_of, is_replay, usage};
+ghost use Rattle.lpc_replay.specs.TopCall.{Begins, BreaksOff, CutsShort, EndsAsFormed, IsFormed, ReadsInTime, Replays, Still, Stops, StopsAtFault, StopsUnfailing, is_form, is_one_of, is_replay, storm_of as storm_in, storm_text, usage};
 
 use crate::play::{Ending, PlayError, play};
 use crate::sending::send_all;
+use crate::storm::run_storm;
 use lpc_base::{Sink, Source};
+use lpc_storm::{ROUNDS_LIMIT, print_summary};
+use lpc_words::number;
 use std::alloc::Global;
 
-/// The source answered its end, every line was well formed, and all was written.
-const REPLAYED: u8 = 0;
+/// All was written: of a script whose every line was well formed and whose source answered its end, or of a storm.
+const DONE: u8 = 0;
 
 /// A line was faulty.
 const STOPPED: u8 = 2;
@@ -43,6 +46,26 @@ fn is_replay(words: &[String]) -> bool
         [word] => word.as_str() == "replay",
         _ => false,
     }
+}
+
+/// The rounds and the seed of a storm, where the words are `storm N SEED`.
+fn storm_of(words: &[String]) -> Option<(u32, u32)>
+    ensures value { result ≡ storm_in words.now }
+    ensures limit { IfSome result (λ storm. storm.0 ≤ 200000) }
+{
+    let [word, count, seed] = words else {
+        return None;
+    };
+    if word.as_str() != "storm" {
+        return None;
+    }
+    let (Ok(count), Ok(seed)) = (number(count.as_bytes()), number(seed.as_bytes())) else {
+        return None;
+    };
+    if count > ROUNDS_LIMIT {
+        return None;
+    }
+    Some((count, seed))
 }
 
 /// Says how the program is called.
@@ -91,9 +114,51 @@ fn replay<S: Source, K: Sink>(alloc: Global, source: &mut S, sink: &mut K) -> u8
     ensures sink_later { K.faults sink.old ≤ K.faults sink.new }
 {
     match play(alloc, source, sink) {
-        Ok(Ending::Replayed) => REPLAYED,
+        Ok(Ending::Replayed) => DONE,
         Ok(Ending::Stopped) => STOPPED,
         Ok(Ending::SourceFailed) => SOURCE_FAILED,
+        Err(PlayError::OutOfMemory) => OUT_OF_MEMORY,
+        Err(PlayError::SinkFailed) => SINK_FAILED,
+    }
+}
+
+/// Runs a storm, and sends its summary.
+fn send_storm<K: Sink>(alloc: Global, count: u32, seed: u32, sink: &mut K) -> Result<(), PlayError>
+    requires { count ≤ 200000 }
+    ensures summed { OnOk result (Adds (K.sent sink.old) (K.sent sink.new)
+        (storm_text (count, seed))) }
+    ensures front { AddsFront (K.sent sink.old) (K.sent sink.new) (storm_text (count, seed)) }
+    ensures unsent { IsErrOf result PlayError.OutOfMemory →
+        K.sent sink.new ≡ K.sent sink.old }
+    ensures failed { IsErrOf result PlayError.SinkFailed →
+        Rose (K.faults sink.old) (K.faults sink.new) }
+    ensures still { OnOk result (K.faults sink.new ≡ K.faults sink.old) }
+    ensures out_of_memory { IsErrOf result PlayError.OutOfMemory →
+        K.faults sink.new ≡ K.faults sink.old }
+    ensures later { K.faults sink.old ≤ K.faults sink.new }
+{
+    let summary = run_storm(alloc, count, seed)?;
+    let mut text = Vec::new(alloc);
+    print_summary(&mut text, summary)?;
+    send_all(sink, &text)?;
+    Ok(())
+}
+
+/// Runs a storm, sends its summary, and answers the program's status.
+fn storm<K: Sink>(alloc: Global, count: u32, seed: u32, sink: &mut K) -> u8
+    requires { count ≤ 200000 }
+    ensures statuses { is_one_of (0 ∷ 4 ∷ 5 ∷ []) result ≡ true }
+    ensures summed { result ≡ 0 → Adds (K.sent sink.old) (K.sent sink.new)
+        (storm_text (count, seed)) }
+    ensures front { AddsFront (K.sent sink.old) (K.sent sink.new) (storm_text (count, seed)) }
+    ensures unsent { result ≡ 5 → K.sent sink.new ≡ K.sent sink.old }
+    ensures sink_failed { result ≡ 4 → Rose (K.faults sink.old) (K.faults sink.new) }
+    ensures sink_still { is_one_of (0 ∷ 5 ∷ []) result ≡ true →
+        K.faults sink.new ≡ K.faults sink.old }
+    ensures sink_later { K.faults sink.old ≤ K.faults sink.new }
+{
+    match send_storm(alloc, count, seed, sink) {
+        Ok(()) => DONE,
         Err(PlayError::OutOfMemory) => OUT_OF_MEMORY,
         Err(PlayError::SinkFailed) => SINK_FAILED,
     }
@@ -130,18 +195,32 @@ pub fn run_words<S: Source, K: Sink>(
 
     // The words are none of the forms: the usage line is sent, or a front of it where the sink fails, nothing is read,
     // and want of memory is no answer.
-    ensures words { result ≡ 64 → is_replay words.now ≡ false }
-    ensures no_form { is_replay words.now ≡ false →
-        is_one_of (64 ∷ 4 ∷ []) result ≡ true }
+    ensures words { result ≡ 64 → is_form words.now ≡ false }
+    ensures no_form { is_form words.now ≡ false → is_one_of (64 ∷ 4 ∷ []) result ≡ true }
     ensures unread { is_replay words.now ≡ false → source.new ≡ source.old }
     ensures usage { result ≡ 64 → Adds (K.sent sink.old) (K.sent sink.new) usage }
-    ensures usage_begun { is_replay words.now ≡ false →
+    ensures usage_begun { is_form words.now ≡ false →
         AddsFront (K.sent sink.old) (K.sent sink.new) usage }
 
+    // The words are those of a storm: the summary of its script's run is sent, or a front of it where the sink fails,
+    // and nothing where memory runs out.
+    ensures storm { is_some (storm_in words.now) ≡ true →
+        is_one_of (0 ∷ 4 ∷ 5 ∷ []) result ≡ true }
+    ensures summed { IfSome (storm_in words.now) (λ storm. result ≡ 0 →
+        Adds (K.sent sink.old) (K.sent sink.new) (storm_text storm)) }
+    ensures summed_begun { IfSome (storm_in words.now) (λ storm.
+        AddsFront (K.sent sink.old) (K.sent sink.new) (storm_text storm)) }
+    ensures unsummed { is_some (storm_in words.now) ≡ true → result ≡ 5 →
+        K.sent sink.new ≡ K.sent sink.old }
+    ensures storm_unfailing { is_some (storm_in words.now) ≡ true →
+        Still (K.faults sink.old) (K.faults sink.new) →
+        is_one_of (0 ∷ 5 ∷ []) result ≡ true }
+
     // The script is read to its end, is well formed, and its transcript is sent.
-    ensures transcript { result ≡ 0 →
+    ensures transcript { is_replay words.now ≡ true → result ≡ 0 →
         Replays (S.left source.old) (S.left source.new) (K.sent sink.old) (K.sent sink.new) }
-    ensures whole { result ≡ 0 → IsFormed true (S.left source.old) }
+    ensures whole { is_replay words.now ≡ true → result ≡ 0 →
+        IsFormed true (S.left source.old) }
 
     // The script is read up to a faulty line, and its transcript is sent. A rest without byte 10 is such a line only
     // where the source answered its end, or where the rest passes a limit.
@@ -224,7 +303,10 @@ pub fn run_words<S: Source, K: Sink>(
     ensures apart { result ≡ 0 → IfSome (S.left source.old) ClientsApart }
 {
     if !is_replay(words) {
-        return tell_usage(sink);
+        return match storm_of(words) {
+            Some((count, seed)) => storm(alloc, count, seed, sink),
+            None => tell_usage(sink),
+        };
     }
     replay(alloc, source, sink)
 }

@@ -18,3 +18,5 @@ mod endings;
 mod lines;
 #[cfg(test)]
 mod replay;
+#[cfg(test)]
+mod storms;

@@ -89,7 +89,7 @@ returns-in-Some-clause-stops g c =
     let p = l.playback.at in
     let now = c.next_line.new.self in
     let h = come_whole (left c.args.source.now) (left l.source) (left c.next_line.new.source) (sent c.args.sink.now) (sent l.sink) p l.reader.piece now.line.line now.piece l.invariant.played c.in-Whole.ensures.read c.next_line.ensures.lacks c.next_line.ensures.ahead in
-    let runs = rw (c.in-Some.is, c.line.ensures.line) at c.in_ok-fault.ensures in
+    let runs = rw (c.in-Some.is, c.line.ensures.line) at c.in_ok-fault.ensures.runs in
     come_fault (left c.args.source.now) (left c.next_line.new.source) (sent c.args.sink.now) (sent l.sink) p c.run_line.new.self.at now.line.line now.piece c.run_line.new.self.text c.in-Some.fault h c.next_line.ensures.lacks runs
 
 pub loop-playback-preserved : goal.loop-playback-preserved
@@ -102,7 +102,7 @@ loop-playback-preserved g c =
     let h = come_whole (left c.args.source.now) (left l.source) (left c.next_line.new.source) (sent c.args.sink.now) (sent l.sink) p l.reader.piece now.line.line now.piece l.invariant.played c.in-Whole.ensures.read c.next_line.ensures.lacks c.next_line.ensures.ahead in
     let asked = g.S.Source.asked in
     let v = l.invariant in
-    let runs = rw (c.in_default.is, c.line.ensures.line) at c.in_ok-fault.ensures in
+    let runs = rw (c.in_default.is, c.line.ensures.line) at c.in_ok-fault.ensures.runs in
     let told = rw c.text.ensures at c.in_ok-send_all.ensures.sent in
     let few = few_lines p.lines (sym c.is_full.ensures ∙ c.in-Whole.ensures.room refl) in
     record {
@@ -121,7 +121,7 @@ returns-in_err-send_all-clause-begun g c =
     let p = l.playback.at in
     let now = c.next_line.new.self in
     let h = come_whole (left c.args.source.now) (left l.source) (left c.next_line.new.source) (sent c.args.sink.now) (sent l.sink) p l.reader.piece now.line.line now.piece l.invariant.played c.in-Whole.ensures.read c.next_line.ensures.lacks c.next_line.ensures.ahead in
-    let runs = rw (c.in_default.is, c.line.ensures.line) at c.in_ok-fault.ensures in
+    let runs = rw (c.in_default.is, c.line.ensures.line) at c.in_ok-fault.ensures.runs in
     let told = rw c.text.ensures at c.send_all.ensures.front in
     on_err c.from_residual-in_err-send_all.result _ (come_begun (left c.args.source.now) (left c.next_line.new.source) (sent c.args.sink.now) (sent l.sink) (sent c.send_all.new.sink) p c.run_line.new.self.at now.line.line now.piece c.run_line.new.self.text h c.next_line.ensures.lacks runs told)
 

@@ -20,7 +20,7 @@ returns-in_err-fault-clause-front g c = front_none (g.K.Sink.sent c.args.sink.no
 pub returns-in-Some-clause-ends : goal.returns-in-Some-clause-ends
 returns-in-Some-clause-ends g c =
     let some : 0 < length c.args.rest.now = grind (arith, nat_tests) in
-    let runs = rw c.in-Some.is at c.in_ok-fault.ensures in
+    let runs = rw c.in-Some.is at c.in_ok-fault.ensures.runs in
     rest_faulty c.args.playback.now.at c.run_line.new.self.at c.args.rest.now c.run_line.new.self.text c.in-Some.fault (g.K.Sink.sent c.args.sink.now) c.requires.lacks some runs
 
 pub returns-in-Some-clause-front : goal.returns-in-Some-clause-front
@@ -29,17 +29,17 @@ returns-in-Some-clause-front g c = front_none (g.K.Sink.sent c.args.sink.now) (b
 pub returns-in_err-send_all-clause-front : goal.returns-in_err-send_all-clause-front
 returns-in_err-send_all-clause-front g c =
     let some : 0 < length c.args.rest.now = grind (arith, nat_tests) in
-    let runs = rw c.in_default.is at c.in_ok-fault.ensures in
+    let runs = rw c.in_default.is at c.in_ok-fault.ensures.runs in
     rest_front c.args.playback.now.at c.run_line.new.self.at c.args.rest.now c.run_line.new.self.text (g.K.Sink.sent c.args.sink.now) (g.K.Sink.sent c.send_all.new.sink) c.requires.lacks some runs (rw c.text.ensures at c.send_all.ensures.front)
 
 pub returns-clause-ends : goal.returns-clause-ends
 returns-clause-ends g c =
     let some : 0 < length c.args.rest.now = grind (arith, nat_tests) in
-    let runs = rw c.in_default.is at c.in_ok-fault.ensures in
+    let runs = rw c.in_default.is at c.in_ok-fault.ensures.runs in
     rest_run c.args.playback.now.at c.run_line.new.self.at c.args.rest.now c.run_line.new.self.text (g.K.Sink.sent c.args.sink.now) (g.K.Sink.sent c.send_all.new.sink) c.requires.lacks some runs (rw c.text.ensures at c.in_ok-send_all.ensures.sent)
 
 pub returns-clause-front : goal.returns-clause-front
 returns-clause-front g c =
     let some : 0 < length c.args.rest.now = grind (arith, nat_tests) in
-    let runs = rw c.in_default.is at c.in_ok-fault.ensures in
+    let runs = rw c.in_default.is at c.in_ok-fault.ensures.runs in
     rest_front c.args.playback.now.at c.run_line.new.self.at c.args.rest.now c.run_line.new.self.text (g.K.Sink.sent c.args.sink.now) (g.K.Sink.sent c.send_all.new.sink) c.requires.lacks some runs (rw c.text.ensures at c.send_all.ensures.front)

@@ -1,0 +1,10 @@
+use Rattle.std.proofs.Common.{◌≡◌, ◌≤◌, take}
+use Rattle.std.specs.Prelude.{count_by}
+use Rattle.lpc_storm.specs.Summary.{is_mismatch}
+use Rattle.lpc_replay.proofs.storm.mismatches_in.Given as goal
+
+abbrev pub invariant-loop-entry : goal.invariant-loop-entry
+invariant-loop-entry l = record {
+  is : l.count ≡ count_by is_mismatch (take l.entry-index l.entries);
+  few : l.count ≤ l.entry-index;
+}
