@@ -16,7 +16,6 @@ use Rattle.lpc_model.specs.Script.{script_lines}
 use Rattle.lpc_model.specs.Run.{all_entries, first_state, line_step, numbered_line, run_of, said_from, said_in, trace, world_behind}
 use Rattle.lpc_model.specs.Transcript.{transcript}
 use Rattle.lpc_storm.specs.declared.line.StormLine.{StormLine}
-use Rattle.lpc_storm.specs.declared.summary.Summary.{Summary}
 use Rattle.lpc_storm.specs.Generated.{Course, behind_round, clients, connecting, ending, generated, line_text, next_round, opening, rounds, start, storm_lines}
 use Rattle.lpc_storm.specs.Summary.{is_mismatch, is_replied, summary_of}
 use Rattle.lpc_storm.proofs.Printable.{HadFew, lines_are, small_storm}

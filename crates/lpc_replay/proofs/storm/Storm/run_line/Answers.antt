@@ -1,4 +1,4 @@
-use Rattle.std.proofs.Common.{◌≡◌, true, false, sym, ◌∙◌, arith}
+use Rattle.std.proofs.Common.{◌≡◌, true, false, sym, ◌∙◌}
 use Rattle.std.specs.Prelude.{is_some}
 use Rattle.lpc_replay.specs.Storming.{Tally}
 use Rattle.lpc_replay.proofs.Storming.{line_idle, line_runs, line_stops}
