@@ -1,5 +1,5 @@
 // The top call.
-ghost use Rattle.std.specs.Prelude.{◌≡◌, ◌≤◌, [], ◌∷◌, true, false, IfSome, IsErrOf, OnOk, is_some};
+ghost use Rattle.std.specs.Prelude.{◌≡◌, ◌≤◌, [], ◌∷◌, true, false, IfSome, IsErrOf, OnOk, is_some, length};
 ghost use Rattle.lpc_base.specs.Streams.{Adds, Rose};
 ghost use Rattle.lpc_model.specs.Accounts.{RunAccountsForDeaths};
 ghost use Rattle.lpc_model.specs.Deaths.{RunTellsDeaths};
@@ -76,6 +76,7 @@ fn tell_usage<K: Sink>(sink: &mut K) -> u8
     ensures sink_failed { result ≡ 4 → Rose (K.faults sink.old) (K.faults sink.new) }
     ensures sink_still { result ≡ 64 → K.faults sink.new ≡ K.faults sink.old }
     ensures sink_later { K.faults sink.old ≤ K.faults sink.new }
+    ensures sure { length usage ≤ K.sure sink.old → result ≡ 64 }
 {
     match send_all(sink, b"usage: ntlpc COMMAND [WORDS]\n") {
         Ok(()) => NO_FORM,
@@ -136,6 +137,8 @@ fn send_storm<K: Sink>(alloc: Global, count: u32, seed: u32, sink: &mut K) -> Re
     ensures out_of_memory { IsErrOf result PlayError.OutOfMemory →
         K.faults sink.new ≡ K.faults sink.old }
     ensures later { K.faults sink.old ≤ K.faults sink.new }
+    ensures sure { length (storm_text (count, seed)) ≤ K.sure sink.old →
+        IsErrOf result PlayError.SinkFailed → ⊥ }
 {
     let summary = run_storm(alloc, count, seed)?;
     let mut text = Vec::new(alloc);
@@ -156,6 +159,8 @@ fn storm<K: Sink>(alloc: Global, count: u32, seed: u32, sink: &mut K) -> u8
     ensures sink_still { is_one_of (0 ∷ 5 ∷ []) result ≡ true →
         K.faults sink.new ≡ K.faults sink.old }
     ensures sink_later { K.faults sink.old ≤ K.faults sink.new }
+    ensures sure { length (storm_text (count, seed)) ≤ K.sure sink.old →
+        is_one_of (0 ∷ 5 ∷ []) result ≡ true }
 {
     match send_storm(alloc, count, seed, sink) {
         Ok(()) => DONE,
@@ -172,11 +177,17 @@ fn storm<K: Sink>(alloc: Global, count: u32, seed: u32, sink: &mut K) -> u8
 /// formed, and all was sent. 2: a line was faulty; the lines before it were run, and `stop` with its number and its
 /// fault was sent. 3: the source failed, and no line read before was faulty; what the lines tell that are ended by byte
 /// 10 was sent, and no last line. 4: the sink failed. 5: memory ran out; what some first lines tell was sent, each
-/// whole, and no last line. Other words answer 64, send the usage line and read nothing.
+/// whole, and no last line.
 ///
-/// Whatever the status, what was sent is a front of the transcript of what was read, or of the usage line: nothing else
-/// is sent, and nothing twice. What is said here of bytes that were read or sent holds of a source and a sink that tell
-/// theirs.
+/// The words `storm N SEED`, with N a number from 0 to 200000 and SEED a number, both spelled as a script's numbers,
+/// read nothing. They run the script that is made of the two, line after line as a replay would, and send one line that
+/// sums up its transcript. Status 0: it was sent. 4: the sink failed. 5: memory ran out, and nothing was sent.
+///
+/// Other words answer 64, send the usage line and read nothing.
+///
+/// Whatever the status, what was sent is a front of the transcript of what was read, of the storm's line, or of the
+/// usage line: nothing else is sent, and nothing twice. What is said here of bytes that were read or sent holds of a
+/// source and a sink that tell theirs.
 ///
 /// Where the sink's count of failures changed the status is 4, and where the source's did it isn't 0. A failure that
 /// finds the count at its last value leaves it there, so of such a one this says nothing.
@@ -215,6 +226,12 @@ pub fn run_words<S: Source, K: Sink>(
     ensures storm_unfailing { is_some (storm_in words.now) ≡ true →
         Still (K.faults sink.old) (K.faults sink.new) →
         is_one_of (0 ∷ 5 ∷ []) result ≡ true }
+
+    // A sink that is sure of the whole text fails neither of the two.
+    ensures usage_sure { is_form words.now ≡ false →
+        length usage ≤ K.sure sink.old → result ≡ 64 }
+    ensures storm_sure { IfSome (storm_in words.now) (λ storm.
+        length (storm_text storm) ≤ K.sure sink.old → is_one_of (0 ∷ 5 ∷ []) result ≡ true) }
 
     // The script is read to its end, is well formed, and its transcript is sent.
     ensures transcript { is_replay words.now ≡ true → result ≡ 0 →
