@@ -13,7 +13,7 @@ use Rattle.lpc_procs.specs.Kept.{counting, is_peopled, has_name, has_number, is_
 use Rattle.lpc_procs.specs.Procs.{is_life, is_live_child, is_made_by, is_process, is_process_born, is_thread_born, lives_in, process_life}
 
 -- rows of a place that are written over by one that passes as they did
-count-set : {X : Type 0} (p : X → Bool) (xs : List X) (i : ℕ) (x y : X) → slice_get xs i ≡ Some x → p y ≡ p x → count p (set xs i y) ≡ count p xs
+pub count-set : {X : Type 0} (p : X → Bool) (xs : List X) (i : ℕ) (x y : X) → slice_get xs i ≡ Some x → p y ≡ p x → count p (set xs i y) ≡ count p xs
 count-set p [] i x y here same = refl
 count-set p (z ∷ xs) zero x y here same =
     let is : z ≡ x = cc in
@@ -76,7 +76,7 @@ pub rows-less : (b : Birth) (ps : List Counted) → process_rows (without (has_n
 rows-less b ps = without-map (λ (p : Counted). p.row) (λ p. true) (has_name b) (is_process_born b) (λ p _. refl) ps (all-true ps)
 
 -- a count tells whether there is one
-counts-one : (pid : ℕ) (ts : List ThreadRow) → nat_lt 0 (count (lives_in pid) ts) ≡ has (lives_in pid) ts
+pub counts-one : (pid : ℕ) (ts : List ThreadRow) → nat_lt 0 (count (lives_in pid) ts) ≡ has (lives_in pid) ts
 counts-one pid [] = refl
 counts-one pid (t ∷ ts) = grind (arith, nat_tests, counts-one pid ts)
 

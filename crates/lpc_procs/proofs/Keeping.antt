@@ -18,7 +18,7 @@ noted-push : (used : List UsedThread) (u : UsedThread) (t : ThreadRow) (o : Opti
 noted-push used u t None is of = cc
 noted-push used u t (Some v) is of = rw (first-kept (is_used_thread t.number) used u v is) of
 
-unused-absent : (tid : ℕ) (used : List UsedThread) (ts : List ThreadRow) → has (is_used_thread tid) used ≡ false → every (is_noted used) ts ≡ true → has (is_thread tid) ts ≡ false
+pub unused-absent : (tid : ℕ) (used : List UsedThread) (ts : List ThreadRow) → has (is_used_thread tid) used ≡ false → every (is_noted used) ts ≡ true → has (is_thread tid) ts ≡ false
 unused-absent tid used [] new noted = refl
 unused-absent tid used (t ∷ ts) new noted = step (t.number == tid) t refl (grind arith) (unused-absent tid used ts new (grind arith))
   where

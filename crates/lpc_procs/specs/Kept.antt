@@ -1,12 +1,13 @@
 -- What the table keeps of its rows and numbers.
-use Rattle.std.specs.Prelude.{ℕ, ◌≡◌, ◌==◌, ◌&&◌, Bool, true, false, map, nat_lt, List, Option, Some, None}
+use Rattle.std.specs.Prelude.{ℕ, ◌≡◌, ◌==◌, ◌&&◌, Bool, true, false, length, map, nat_le, nat_lt, List, Option, Some, None}
 use Rattle.lpc_base.specs.declared.birth.Birth.{Birth}
-use Rattle.lpc_base.specs.Rows.{change, count, differ_by, every, first}
+use Rattle.lpc_base.specs.Rows.{change, count, differ_by, every, first, has}
+use Rattle.lpc_base.specs.declared.limits.TheConstants.{REGISTRATION_LIMIT}
 use Rattle.lpc_procs.specs.declared.rows.Counted.{Counted}
 use Rattle.lpc_procs.specs.declared.rows.ProcessRow.{ProcessRow}
 use Rattle.lpc_procs.specs.declared.rows.ThreadRow.{ThreadRow}
 use Rattle.lpc_procs.specs.declared.rows.UsedThread.{UsedThread}
-use Rattle.lpc_procs.specs.Procs.{is_made_by, is_process, is_process_born, is_used_thread, lives_in}
+use Rattle.lpc_procs.specs.Procs.{all_registrations, is_made_by, is_process, is_process_born, is_used_thread, lives_in}
 
 -- a used number is of a process
 abbrev pub is_of : ℕ → Option UsedThread → Bool
@@ -66,7 +67,43 @@ pub record IsKept (threads : List ThreadRow) (used : List UsedThread) : Type 0 w
   pub single : are_single threads ≡ true
   pub low : every (is_below 2147483648) threads ≡ true
 
--- what the table keeps: that, and the counts beside the processes
-pub record AreKept (processes : List Counted) (threads : List ThreadRow) (used : List UsedThread) : Type 0 where
+-- a row with its name, under its number
+abbrev pub process_name : Counted → ℕ × Birth
+process_name p = (p.row.number, p.row.birth)
+
+abbrev pub thread_name : ThreadRow → ℕ × Birth
+thread_name t = (t.number, t.birth)
+
+-- the used thread numbers, with their processes
+abbrev pub used_rows : List (ℕ × ℕ) → List UsedThread
+used_rows entries = map (λ e. record { number = e.0; process = e.1 }) entries
+
+-- a thread's process, and a process, has a number that was used
+abbrev pub is_of_used : List ℕ → ThreadRow → Bool
+is_of_used used t = has (λ n. n == t.process) used
+
+abbrev pub is_used_row : List ℕ → Counted → Bool
+is_used_row used p = has (λ n. n == p.row.number) used
+
+-- no two processes have one number
+abbrev pub are_apart : List Counted → Bool
+are_apart processes = differ_by (λ p. p.row.number) processes
+
+-- a thread has no more registrations than it may have
+abbrev pub is_limited : ThreadRow → Bool
+is_limited t = nat_le (length t.registered.items) REGISTRATION_LIMIT
+
+-- What the table keeps: that; the counts beside the processes; that no two processes have one number, and that each
+-- number of one, and each thread's process, was used; the names under their numbers, in the order of the rows; how many
+-- threads are live, and how many registrations there are.
+pub record AreKept (processes : List Counted) (threads : List ThreadRow) (numbers : List ℕ) (used : List UsedThread) (process_names thread_names : List (ℕ × Birth)) (alive registered : ℕ) : Type 0 where
   pub rows : IsKept threads used
   pub counts : every (is_counted threads) processes ≡ true
+  pub apart : are_apart processes ≡ true
+  pub owners : every (is_of_used numbers) threads ≡ true
+  pub processes_used : every (is_used_row numbers) processes ≡ true
+  pub processes_named : process_names ≡ map process_name processes
+  pub threads_named : thread_names ≡ map thread_name threads
+  pub limited : every is_limited threads ≡ true
+  pub living : alive ≡ count (λ t. t.live) threads
+  pub told : registered ≡ length (all_registrations threads)

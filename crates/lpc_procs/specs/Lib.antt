@@ -1,3 +1,4 @@
 pub mod Callers
 pub mod Kept
+pub mod Numbered
 pub mod Procs

@@ -3,6 +3,7 @@
 
 mod births;
 mod lists;
+mod numbered;
 mod procs;
 mod registrations;
 mod rows;

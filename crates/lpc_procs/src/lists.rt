@@ -1,92 +1,16 @@
 // Searches and changes of plain lists of rows.
-ghost use Rattle.std.specs.Prelude.{◌≡◌, ◌==◌, option_map, vec_len, vec_capacity};
-ghost use Rattle.lpc_base.specs.Rows.{count, first, has};
+ghost use Rattle.std.specs.Prelude.{◌≡◌, true, None, Some, if◌then◌else◌, map, option_map, vec_len, vec_capacity};
+ghost use Rattle.lpc_base.specs.Rows.{change, count, first};
 ghost use Rattle.lpc_procs.specs.Callers as callers;
-ghost use Rattle.lpc_procs.specs.Kept.{process_rows, recounted};
+ghost use Rattle.lpc_procs.specs.Kept.{are_apart, counting, has_number, process_name};
 ghost use Rattle.lpc_procs.specs.Procs as procs;
-ghost use Rattle.lpc_procs.specs.Procs.{is_live_client, is_live_thread, is_process, is_used_thread, lives_in, used_process};
+ghost use Rattle.lpc_procs.specs.Procs.{is_live_client, lives_in};
 
+use crate::numbered::Numbered;
 use crate::rows::Counted;
-use crate::{Caller, ProcessRow, ThreadRow, UsedThread};
+use crate::{Caller, ThreadRow};
 use lpc_base::Birth;
 use lpc_message::ClientId;
-
-/// The process that has the number.
-pub fn process_at(rows: &[Counted], pid: u32) -> Option<ProcessRow>
-    ensures { result ≡ first (is_process pid) (process_rows rows.now) }
-{
-    for p in rows {
-        if p.row.number == pid {
-            return Some(p.row);
-        }
-    }
-    None
-}
-
-/// The thread number, where it was ever used.
-pub fn used_thread(used: &[UsedThread], tid: u32) -> Option<UsedThread>
-    ensures { result ≡ first (is_used_thread tid) used.now }
-{
-    for u in used {
-        if u.number == tid {
-            return Some(*u);
-        }
-    }
-    None
-}
-
-/// The process of a thread number that was ever used.
-pub fn process_of(used: &[UsedThread], tid: u32) -> Option<u32>
-    ensures { result ≡ used_process used.now tid }
-{
-    match used_thread(used, tid) {
-        Some(u) => Some(u.process),
-        None => None,
-    }
-}
-
-/// The number was ever used for a thread.
-pub fn is_used_by_thread(used: &[UsedThread], tid: u32) -> bool
-    ensures { result ≡ has (is_used_thread tid) used.now }
-{
-    used_thread(used, tid).is_some()
-}
-
-/// The number is one of these.
-pub fn is_used(numbers: &[u32], number: u32) -> bool
-    ensures { result ≡ has (λ n. n == number) numbers.now }
-{
-    for n in numbers {
-        if *n == number {
-            return true;
-        }
-    }
-    false
-}
-
-/// The numbers are those of a live thread and of its process.
-pub fn is_live(threads: &[ThreadRow], client: ClientId) -> bool
-    ensures { result ≡ has (is_live_client client) threads.now }
-{
-    for t in threads {
-        if t.number == client.thread && t.process == client.process && t.live {
-            return true;
-        }
-    }
-    false
-}
-
-/// A live thread is of the process.
-pub fn has_live(threads: &[ThreadRow], pid: u32) -> bool
-    ensures { result ≡ has (lives_in pid) threads.now }
-{
-    for t in threads {
-        if t.process == pid && t.live {
-            return true;
-        }
-    }
-    false
-}
 
 /// How many live threads are of the process.
 pub fn live_in(threads: &[ThreadRow], pid: u32) -> usize
@@ -96,13 +20,6 @@ pub fn live_in(threads: &[ThreadRow], pid: u32) -> usize
         .iter()
         .filter(|t| t.process == pid && t.live)
         .count()
-}
-
-/// How many threads are live.
-pub fn alive(threads: &[ThreadRow]) -> usize
-    ensures { result ≡ count (λ t. t.live) threads.now }
-{
-    threads.iter().filter(|t| t.live).count()
 }
 
 // The thread as a caller.
@@ -118,16 +35,18 @@ fn caller_of(t: &ThreadRow) -> Caller
     }
 }
 
-/// The live thread that has the number, as a caller.
-pub fn live_at(threads: &[ThreadRow], tid: u32) -> Option<Caller>
-    ensures { result ≡ option_map callers.caller_of (first (is_live_thread tid) threads.now) }
+/// The thread as a caller, if it is live.
+pub fn live_caller(t: &ThreadRow) -> Option<Caller>
+    ensures { result ≡ (if t.now.live then Some (callers.caller_of t.now) else None) }
 {
-    for t in threads {
-        if t.number == tid && t.live {
-            return Some(caller_of(t));
-        }
-    }
-    None
+    if t.live { Some(caller_of(t)) } else { None }
+}
+
+/// The thread is live and has the numbers of the client.
+pub fn is_client(t: &ThreadRow, client: ClientId) -> bool
+    ensures { result ≡ is_live_client client t.now }
+{
+    t.number == client.thread && t.process == client.process && t.live
 }
 
 /// The number of the first live thread of the process.
@@ -142,17 +61,18 @@ pub fn first_live(threads: &[ThreadRow], pid: u32) -> Option<u32>
     None
 }
 
-/// Counts the live threads of a process anew.
-pub fn recount(rows: &mut Vec<Counted>, threads: &[ThreadRow], pid: u32)
-    ensures rows { rows.new.items ≡ recounted threads.now pid rows.old.items }
+/// Writes the count of live threads beside the process of the number, where it has a row. The names stand under the
+/// numbers of the rows, in their order.
+pub fn recount(rows: &mut Vec<Counted>, names: &Numbered<Birth>, pid: u32, live: usize)
+    requires named { names.now.entries ≡ map process_name rows.old.items }
+    requires apart { are_apart rows.old.items ≡ true }
+    ensures rows { rows.new.items ≡ change (has_number pid) (counting live) rows.old.items }
     ensures len { vec_len rows.new ≡ vec_len rows.old }
     ensures room { vec_capacity rows.new ≡ vec_capacity rows.old }
 {
-    let live = live_in(threads, pid);
-    for p in rows.iter_mut() {
-        if p.row.number == pid {
-            p.live = live;
-        }
+    match names.place(pid) {
+        Some(place) => rows[place].live = live,
+        None => {}
     }
 }
 

@@ -8,6 +8,7 @@ ghost use Rattle.lpc_procs.specs.Callers.{caller_of};
 ghost use Rattle.lpc_procs.specs.Procs as procs;
 ghost use Rattle.lpc_procs.specs.Procs.{HasIdentifierLeft, HasOrdinalLeft, HasRegistrationLeft, IsNumber, all_registrations, birth_of, ended, first_process, first_thread, first_untold, has_registered, is_life, is_live_child, is_live_client, is_live_thread, is_of_birth, is_process_born, is_thread, live_registrations, lives_by, lives_in, most_rows, nothing, past_birth, past_identifier, process_at, process_life, registering, registration, thread_at, thread_born, thread_life, unregistering, used_process, with_room, with_thread, without_process_born, without_thread_born};
 
+use crate::numbered::Numbered;
 use crate::rows::Counted;
 use crate::{
     BornThread, Caller, Life, Number, ProcessRow, Registration, ThreadRow, UsedThread, births,
@@ -23,33 +24,54 @@ use std::marker::Model;
 /// The processes and threads of a machine, and every number that was ever used for one.
 ///
 /// A number is used once. It stays used when the row of its process or thread goes, so no number names two things in
-/// a run. Contracts see the rows in order of making, the used numbers, and the room; they don't see the count of live
-/// threads that stands beside each process, which tells at once whether the process is live.
-#[derive(Drop)]
+/// a run. Contracts see the rows in order of making, the used numbers, and the room; they don't see the maps by which a
+/// number leads to its row, nor the counts that are kept: of live threads, of those of each process, and of
+/// registrations.
 pub struct Procs {
     processes: Vec<Counted>,
     threads: Vec<ThreadRow>,
-    used_processes: Vec<u32>,
-    used_threads: Vec<UsedThread>,
+    process_names: Numbered<Birth>,
+    thread_names: Numbered<Birth>,
+    used_processes: Numbered<()>,
+    used_threads: Numbered<u32>,
+    alive: usize,
+    registered: usize,
 }
 
 impl Model for Procs {
     ghost use Rattle.std.specs.Prelude.{◌-◌, min, vec_len, vec_capacity};
     ghost use Rattle.lpc_procs.specs.Procs.{Table};
-    ghost use Rattle.lpc_procs.specs.Kept.{AreKept, process_rows};
+    ghost use Rattle.lpc_procs.specs.Kept.{AreKept, process_rows, used_rows};
+    ghost use Rattle.lpc_procs.specs.Numbered.{numbers};
 
     ghost Value = { Table };
 
     ghost view = { λ s. record {
       processes = process_rows s.processes.items;
       threads = s.threads.items;
-      used_processes = s.used_processes.items;
-      used_threads = s.used_threads.items;
-      process_room = min (vec_capacity s.processes - vec_len s.processes) (vec_capacity s.used_processes - vec_len s.used_processes);
-      thread_room = min (vec_capacity s.threads - vec_len s.threads) (vec_capacity s.used_threads - vec_len s.used_threads);
+      used_processes = numbers s.used_processes.entries;
+      used_threads = used_rows s.used_threads.entries;
+      process_room = min (vec_capacity s.processes - vec_len s.processes) (min s.process_names.room s.used_processes.room);
+      thread_room = min (vec_capacity s.threads - vec_len s.threads) (min s.thread_names.room s.used_threads.room);
     } };
 
-    ghost invariant = { λ s. AreKept s.processes.items s.threads.items s.used_threads.items };
+    ghost invariant = { λ s. AreKept s.processes.items s.threads.items (numbers s.used_processes.entries) (used_rows s.used_threads.entries) s.process_names.entries s.thread_names.entries s.alive s.registered };
+}
+
+// Written out, so that a proof about what holds these tables lets them go in one step, and not map by map.
+impl Drop for Procs {
+    fn drop(self) {
+        let Procs {
+            processes: _,
+            threads: _,
+            process_names: _,
+            thread_names: _,
+            used_processes: _,
+            used_threads: _,
+            alive: _,
+            registered: _,
+        } = self;
+    }
 }
 
 impl Procs {
@@ -60,8 +82,12 @@ impl Procs {
         Procs {
             processes: Vec::new(alloc),
             threads: Vec::new(alloc),
-            used_processes: Vec::new(alloc),
-            used_threads: Vec::new(alloc),
+            process_names: Numbered::new(alloc),
+            thread_names: Numbered::new(alloc),
+            used_processes: Numbered::new(alloc),
+            used_threads: Numbered::new(alloc),
+            alive: 0,
+            registered: 0,
         }
     }
 
@@ -87,9 +113,11 @@ impl Procs {
             self.new.thread_room ≡ self.old.thread_room }
     {
         reserve_rows(&mut self.processes, processes)?;
-        reserve_rows(&mut self.used_processes, processes)?;
+        self.process_names.reserve(processes)?;
+        self.used_processes.reserve(processes)?;
         reserve_rows(&mut self.threads, threads)?;
-        reserve_rows(&mut self.used_threads, threads)
+        self.thread_names.reserve(threads)?;
+        self.used_threads.reserve(threads)
     }
 
     /// Adds a process under a number that no process ever had, made by the process `maker` or by a directive. There is
@@ -110,9 +138,9 @@ impl Procs {
             maker,
             birth,
         };
-        let live = lists::live_in(&self.threads, pid);
-        self.processes.push_reserved(Counted { row, live });
-        self.used_processes.push_reserved(pid);
+        self.processes.push_reserved(Counted { row, live: 0 });
+        self.process_names.add(pid, birth);
+        self.used_processes.add(pid, ());
     }
 
     /// Adds a live thread to a process that has a row, under a number that no thread ever had. Its identifiers and
@@ -137,6 +165,8 @@ impl Procs {
           thread_room = self.old.thread_room - 1;
         } }
     {
+        let live = self.live_count(pid) + 1;
+        lists::recount(&mut self.processes, &self.process_names, pid, live);
         self.threads.push_reserved(ThreadRow {
             number: tid,
             process: pid,
@@ -146,11 +176,9 @@ impl Procs {
             next_ordinal: 1,
             registered: ArrayVec::new(),
         });
-        self.used_threads.push_reserved(UsedThread {
-            number: tid,
-            process: pid,
-        });
-        lists::recount(&mut self.processes, &self.threads, pid);
+        self.thread_names.add(tid, birth);
+        self.used_threads.add(tid, pid);
+        self.alive += 1;
     }
 
     /// The number was ever used for a process, or for a thread; its row may have gone.
@@ -158,8 +186,8 @@ impl Procs {
         ensures used { result ≡ procs.was_used self.now number }
     {
         match number {
-            Number::Process(pid) => lists::is_used(&self.used_processes, pid),
-            Number::Thread(tid) => lists::is_used_by_thread(&self.used_threads, tid),
+            Number::Process(pid) => self.used_processes.has(pid),
+            Number::Thread(tid) => self.used_threads.has(tid),
         }
     }
 
@@ -169,14 +197,17 @@ impl Procs {
         ensures process { result ≡ used_process self.now.used_threads tid }
         ensures row { IfSome (thread_at self.now tid) (λ t. result ≡ Some t.process) }
     {
-        lists::process_of(&self.used_threads, tid)
+        self.used_threads.get(tid)
     }
 
     /// The numbers are those of a live thread and of its process.
     pub fn live_thread(&self, client: ClientId) -> bool
         ensures live { result ≡ has (is_live_client client) self.now.threads }
     {
-        lists::is_live(&self.threads, client)
+        match self.position(client.thread) {
+            Some(place) => lists::is_client(&self.threads[place], client),
+            None => false,
+        }
     }
 
     /// The live thread that has the number, as a caller; None exactly where there is none.
@@ -184,21 +215,27 @@ impl Procs {
         ensures row { result
             ≡ option_map caller_of (first (is_live_thread tid) self.now.threads) }
     {
-        lists::live_at(&self.threads, tid)
+        match self.position(tid) {
+            Some(place) => lists::live_caller(&self.threads[place]),
+            None => None,
+        }
     }
 
     /// The process has a live thread.
     pub fn is_live(&self, pid: u32) -> bool
         ensures live { result ≡ has (lives_in pid) self.now.threads }
     {
-        lists::has_live(&self.threads, pid)
+        self.live_count(pid) > 0
     }
 
     /// How many live threads the process has.
     pub fn live_count(&self, pid: u32) -> usize
         ensures count { result ≡ count (lives_in pid) self.now.threads }
     {
-        lists::live_in(&self.threads, pid)
+        match self.process_names.place(pid) {
+            Some(place) => self.processes[place].live,
+            None => lists::live_in(&self.threads, pid),
+        }
     }
 
     /// How many threads are live, of all processes.
@@ -206,7 +243,7 @@ impl Procs {
         ensures count { result ≡ count (λ t. t.live) self.now.threads }
         ensures bound { result ≤ length self.now.threads }
     {
-        lists::alive(&self.threads)
+        self.alive
     }
 
     /// How many processes have a row.
@@ -266,10 +303,15 @@ impl Procs {
         ensures table { self.new ≡ with_thread self.old tid ended }
     {
         let place = self.place(tid);
-        let row = &mut self.threads[place];
+        let row = &self.threads[place];
+        if !row.live {
+            return;
+        }
         let pid = row.process;
-        row.live = false;
-        lists::recount(&mut self.processes, &self.threads, pid);
+        let live = self.live_count(pid) - 1;
+        lists::recount(&mut self.processes, &self.process_names, pid, live);
+        self.threads[place].live = false;
+        self.alive -= 1;
     }
 
     /// Registers a port with the thread, which has a row and registered fewer than 16, behind those that it had.
@@ -282,6 +324,7 @@ impl Procs {
         self.threads[place]
             .registered
             .push(Registration { port, birth });
+        self.registered += 1;
     }
 
     /// Takes the registrations of the port with a birth from the thread, which has a row. The others keep their order.
@@ -290,7 +333,10 @@ impl Procs {
         ensures table { self.new ≡ with_thread self.old tid (unregistering birth) }
     {
         let place = self.place(tid);
-        registrations::forget(&mut self.threads[place].registered, birth);
+        let row = &mut self.threads[place];
+        let before = row.registered.len();
+        registrations::forget(&mut row.registered, birth);
+        self.registered -= before - row.registered.len();
     }
 
     /// The thread, which has a row, registered the port with a birth.
@@ -317,7 +363,7 @@ impl Procs {
         ensures count { result ≡ length (all_registrations self.now.threads) }
         ensures bound { result ≤ REGISTRATION_LIMIT * length self.now.threads }
     {
-        registrations::total(&self.threads)
+        self.registered
     }
 
     /// A thread registered the port with a birth, be it live or ended.
@@ -449,6 +495,7 @@ impl Procs {
             new.process_room + length new.processes ≤ old.process_room + length old.processes }
     {
         births::remove_processes(&mut self.processes, birth);
+        self.process_names.remove_name(birth);
     }
 
     /// Removes the rows of the threads that were made under the name, of which none is live. Their numbers stay used,
@@ -461,6 +508,8 @@ impl Procs {
             new.thread_room + length new.threads ≤ old.thread_room + length old.threads }
     {
         births::remove_threads(&mut self.threads, birth);
+        self.thread_names.remove_name(birth);
+        self.registered = registrations::total(&self.threads);
     }
 
     // The row of a process that is present.
@@ -468,8 +517,8 @@ impl Procs {
         requires { is_some (process_at self.now pid) ≡ true }
         ensures { process_at self.now pid ≡ Some result }
     {
-        match lists::process_at(&self.processes, pid) {
-            Some(row) => row,
+        match self.process_names.place(pid) {
+            Some(place) => self.processes[place].row,
             None => unreachable!(),
         }
     }
@@ -478,7 +527,7 @@ impl Procs {
     fn position(&self, tid: u32) -> Option<usize>
         ensures { result ≡ position (is_thread tid) self.now.threads }
     {
-        self.threads.iter().position(|t| t.number == tid)
+        self.thread_names.place(tid)
     }
 
     // Where the row of a thread that is present stands.

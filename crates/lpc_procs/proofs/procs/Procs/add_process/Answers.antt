@@ -1,11 +1,24 @@
+use Rattle.std.proofs.Common.{refl, sym, ◌∙◌}
+use Rattle.lpc_base.proofs.RowMaps.{push-map}
 use Rattle.lpc_procs.specs.declared.rows.ProcessRow.{ProcessRow}
-use Rattle.lpc_procs.proofs.Counts.{counts-process}
+use Rattle.lpc_procs.specs.Kept.{has_number, process_name, used_rows}
+use Rattle.lpc_procs.specs.Numbered.{numbers}
+use Rattle.lpc_procs.proofs.Placed.{names-new, numbers-has}
+use Rattle.lpc_procs.proofs.Stored.{kept-process, process-unused}
 use Rattle.lpc_procs.proofs.procs.Procs.add_process.Goals as goal
+
+pub add-requires-clause-new : goal.add-requires-clause-new
+add-requires-clause-new c =
+    let new = rw (← c.self.view_is) at c.requires.new in
+    names-new process_name (has_number c.args.pid) c.args.pid (λ p. refl) c.self.inside.processes.items c.self.inside.process_names.entries c.self.invariant.processes_named (process-unused c.args.pid (numbers c.self.inside.used_processes.entries) c.self.inside.processes.items new c.self.invariant.processes_used)
+
+pub add-requires-2-clause-new : goal.add-requires-2-clause-new
+add-requires-2-clause-new c =
+    let new = rw (← c.self.view_is) at c.requires.new in
+    sym (numbers-has c.args.pid c.self.inside.used_processes.entries) ∙ new
 
 pub invariant_of-self : goal.invariant_of-self
 invariant_of-self c =
     let row : ProcessRow = record { number = c.args.pid; maker = c.args.maker; birth = c.args.birth } in
-    rw c.push_reserved.ensures.items (record {
-      rows = c.self.invariant.rows;
-      counts = counts-process c.self.inside.threads.items row c.live_in-live.result (rw c.deref.ensures.value at c.live_in-live.ensures) c.self.inside.processes.items c.self.invariant.counts;
-    })
+    let new = rw (← c.self.view_is) at c.requires.new in
+    rw (c.push_reserved.ensures.items, c.add.ensures.entries, c.add-2.ensures.entries, push-map) (kept-process c.self.inside.processes.items c.self.inside.threads.items (numbers c.self.inside.used_processes.entries) (used_rows c.self.inside.used_threads.entries) c.self.inside.process_names.entries c.self.inside.thread_names.entries c.self.inside.alive c.self.inside.registered c.self.invariant row new)

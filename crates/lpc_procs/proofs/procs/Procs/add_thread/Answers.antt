@@ -1,16 +1,40 @@
-use Rattle.std.proofs.Common.{rules, true}
+use Rattle.std.proofs.Common.{◌+◌, rules, true, refl, ap, sym, ◌∙◌, arith}
+use Rattle.lpc_base.proofs.RowMaps.{push-map}
+use Rattle.lpc_base.proofs.RowWords.{count-bound}
 use Rattle.lpc_procs.specs.declared.rows.ThreadRow.{ThreadRow}
-use Rattle.lpc_procs.proofs.Counts.{counts-thread, rows-again}
-use Rattle.lpc_procs.proofs.Keeping.{kept-push}
+use Rattle.lpc_procs.specs.Kept.{thread_name, used_rows}
+use Rattle.lpc_procs.specs.Numbered.{numbers}
+use Rattle.lpc_procs.specs.Procs.{is_thread, lives_in}
+use Rattle.lpc_procs.proofs.Keeping.{unused-absent}
+use Rattle.lpc_procs.proofs.Placed.{names-new, used-has}
+use Rattle.lpc_procs.proofs.Stored.{alive-few, kept-thread, rows-counting, threads-few}
 use Rattle.lpc_procs.proofs.procs.Procs.add_thread.Goals as goal
+
+pub overflow_add-live : goal.overflow_add-live
+overflow_add-live c =
+    let counted = rw (← c.self.view_is) at c.live_count-live.ensures.count in
+    omega (arith, counted, count-bound (lives_in c.args.pid) c.self.inside.threads.items, threads-few c.self.inside.processes.items c.self.inside.threads.items (numbers c.self.inside.used_processes.entries) (used_rows c.self.inside.used_threads.entries) c.self.inside.process_names.entries c.self.inside.thread_names.entries c.self.inside.alive c.self.inside.registered c.self.invariant)
+
+pub add-requires-clause-new : goal.add-requires-clause-new
+add-requires-clause-new c =
+    let new = rw (← c.self.view_is) at c.requires.new in
+    names-new thread_name (is_thread c.args.tid) c.args.tid (λ t. refl) c.self.inside.threads.items c.self.inside.thread_names.entries c.self.invariant.threads_named (unused-absent c.args.tid (used_rows c.self.inside.used_threads.entries) c.self.inside.threads.items new c.self.invariant.rows.noted)
+
+pub add-requires-2-clause-new : goal.add-requires-2-clause-new
+add-requires-2-clause-new c =
+    let new = rw (← c.self.view_is) at c.requires.new in
+    sym (used-has c.args.tid c.self.inside.used_threads.entries) ∙ new
+
+pub overflow_add-self : goal.overflow_add-self
+overflow_add-self c = omega (arith, alive-few c.self.inside.processes.items c.self.inside.threads.items (numbers c.self.inside.used_processes.entries) (used_rows c.self.inside.used_threads.entries) c.self.inside.process_names.entries c.self.inside.thread_names.entries c.self.inside.alive c.self.inside.registered c.self.invariant)
 
 pub invariant_of-self : goal.invariant_of-self
 invariant_of-self c =
     let t : ThreadRow = record { number = c.args.tid; process = c.args.pid; birth = c.args.birth; live = true; next_identifier = 1; next_ordinal = 1; registered = c.new.result } in
-    rw (c.recount.ensures.rows, c.deref.ensures.value, c.push_reserved.ensures.items, c.push_reserved-2.ensures.items) (record {
-      rows = kept-push c.self.inside.threads.items c.self.inside.used_threads.items t c.self.invariant.rows c.requires.number.below (rw (← c.self.view_is) at c.requires.new);
-      counts = counts-thread c.self.inside.threads.items t c.self.inside.processes.items c.self.invariant.counts;
-    })
+    let new = rw (← c.self.view_is) at c.requires.new in
+    let home = rw (← c.self.view_is) at c.requires.process in
+    let counted = rw (← c.self.view_is) at c.live_count-live.ensures.count in
+    rw (c.recount.ensures.rows, c.push_reserved.ensures.items, c.add.ensures.entries, c.add-2.ensures.entries, push-map) (kept-thread c.self.inside.processes.items c.self.inside.threads.items (numbers c.self.inside.used_processes.entries) (used_rows c.self.inside.used_threads.entries) c.self.inside.process_names.entries c.self.inside.thread_names.entries c.self.inside.alive c.self.inside.registered c.self.invariant t refl (search rules) c.requires.number.below new home (c.live_count-live.result + 1) (ap (λ n. n + 1) counted))
 
 pub returns : goal.returns
-returns c = record { table = rw (← c.self.view_is, c.recount.ensures.rows, rows-again, c.recount.ensures.len, c.recount.ensures.room) (search rules) }
+returns c = record { table = rw (← c.self.view_is, c.recount.ensures.rows, rows-counting, c.recount.ensures.len, c.recount.ensures.room, c.add-2.ensures.entries, push-map) (search rules) }

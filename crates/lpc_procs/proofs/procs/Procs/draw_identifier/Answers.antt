@@ -1,7 +1,9 @@
 use Rattle.std.proofs.Common.{refl, sym, arith}
 use Rattle.lpc_procs.specs.Procs.{HasIdentifierLeft, past_identifier}
-use Rattle.lpc_procs.proofs.Counts.{counts-set}
-use Rattle.lpc_procs.proofs.Keeping.{changed_at, kept-at, row_is}
+use Rattle.lpc_procs.proofs.Keeping.{changed_at, row_is}
+use Rattle.lpc_procs.proofs.Stored.{kept-set}
+use Rattle.lpc_procs.specs.Kept.{used_rows}
+use Rattle.lpc_procs.specs.Numbered.{numbers}
 use Rattle.lpc_procs.proofs.procs.Procs.draw_identifier.Goals as goal
 
 pub overflow_add-row : goal.overflow_add-row
@@ -20,11 +22,7 @@ returns-clause-identifier c =
 pub invariant_of-self : goal.invariant_of-self
 invariant_of-self c =
     let is = sym (rw (← c.self.view_is) at c.place-place.ensures) in
-    let found = row_is c.self.inside.threads.items c.place-place.result c.args.tid c.index_mut-row.result.now is c.index_mut-row.ensures.value in
-    record {
-      rows = kept-at past_identifier c.self.inside.threads.items c.self.inside.used_threads.items c.place-place.result c.args.tid c.index_mut-row.result.now (record { number = λ t. refl; process = λ t. refl }) c.self.invariant.rows is c.index_mut-row.ensures.value;
-      counts = counts-set c.self.inside.threads.items c.place-place.result c.index_mut-row.result.now (past_identifier c.index_mut-row.result.now) found.here refl refl c.self.inside.processes.items c.self.invariant.counts;
-    }
+    kept-set c.self.inside.processes.items c.self.inside.threads.items (numbers c.self.inside.used_processes.entries) (used_rows c.self.inside.used_threads.entries) c.self.inside.process_names.entries c.self.inside.thread_names.entries c.self.inside.alive c.self.inside.registered c.self.invariant c.place-place.result c.args.tid c.index_mut-row.result.now is c.index_mut-row.ensures.value past_identifier (record { number = λ t. refl; process = λ t. refl }) (λ t. refl) refl (λ h. h) c.self.inside.registered refl
 
 pub returns-clause-table : goal.returns-clause-table
 returns-clause-table c =

@@ -1,20 +1,58 @@
-use Rattle.std.proofs.Common.{refl, sym}
+use Rattle.std.proofs.Common.{◌≡◌, ◌-◌, true, false, rules, refl, sym, arith, ◌∙◌}
+use Rattle.std.proofs.lemmas.Option.{same_Some}
+use Rattle.lpc_procs.specs.Kept.{used_rows}
+use Rattle.lpc_procs.specs.Numbered.{numbers}
 use Rattle.lpc_procs.specs.Procs.{ended}
-use Rattle.lpc_procs.proofs.Counts.{counts-ended, rows-again}
-use Rattle.lpc_procs.proofs.Keeping.{changed_at, kept-at, row_is}
+use Rattle.lpc_procs.proofs.Keeping.{changed_at, row_is}
+use Rattle.lpc_procs.proofs.Placed.{ended-again}
+use Rattle.lpc_procs.proofs.Stored.{kept-ended, live-there, rows-counting}
 use Rattle.lpc_procs.proofs.procs.Procs.end_thread.Goals as goal
+
+pub returns-then-not-row : goal.returns-then-not-row
+returns-then-not-row c =
+    let ts = c.self.inside.threads.items in
+    let row = c.index-row.result.now in
+    let found = row_is ts c.place-place.result c.args.tid row (sym (rw (← c.self.view_is) at c.place-place.ensures)) c.index-row.ensures in
+    let off : row.live ≡ false = search (rules, c.if-not-row.true) in
+    record { table = rw (← c.self.view_is, ended-again c.args.tid ts row c.self.invariant.rows.single found.is_first off) refl }
+
+pub overflow_sub-live : goal.overflow_sub-live
+overflow_sub-live c =
+    let ts = c.self.inside.threads.items in
+    let row = c.index-row.result.now in
+    let found = row_is ts c.place-place.result c.args.tid row (sym (rw (← c.self.view_is) at c.place-place.ensures)) c.index-row.ensures in
+    let lives : row.live ≡ true = search (rules, c.if-not-row.false) in
+    let counted = rw (← c.self.view_is) at c.live_count-live.ensures.count in
+    omega (arith, counted, (live-there ts c.place-place.result row found.here lives).0)
+
+pub overflow_sub-self : goal.overflow_sub-self
+overflow_sub-self c =
+    let ts = c.self.inside.threads.items in
+    let row = c.index-row.result.now in
+    let found = row_is ts c.place-place.result c.args.tid row (sym (rw (← c.self.view_is) at c.place-place.ensures)) c.index-row.ensures in
+    let lives : row.live ≡ true = search (rules, c.if-not-row.false) in
+    omega (arith, c.self.invariant.living, (live-there ts c.place-place.result row found.here lives).1)
 
 pub invariant_of-self : goal.invariant_of-self
 invariant_of-self c =
+    let ts = c.self.inside.threads.items in
+    let row = c.index-row.result.now in
     let is = sym (rw (← c.self.view_is) at c.place-place.ensures) in
-    let found = row_is c.self.inside.threads.items c.place-place.result c.args.tid c.index_mut-row.result.now is c.index_mut-row.ensures.value in
-    rw (c.recount.ensures.rows, c.deref.ensures.value) (record {
-      rows = kept-at ended c.self.inside.threads.items c.self.inside.used_threads.items c.place-place.result c.args.tid c.index_mut-row.result.now (record { number = λ t. refl; process = λ t. refl }) c.self.invariant.rows is c.index_mut-row.ensures.value;
-      counts = counts-ended c.self.inside.threads.items c.place-place.result c.index_mut-row.result.now (ended c.index_mut-row.result.now) found.here refl c.self.inside.processes.items c.self.invariant.counts;
-    })
+    let found = row_is ts c.place-place.result c.args.tid row is c.index-row.ensures in
+    let again = row_is ts c.place-place.result c.args.tid c.index_mut.result.now is c.index_mut.ensures.value in
+    let same : c.index_mut.result.now ≡ row = same_Some c.index_mut.result.now row (sym again.here ∙ found.here) in
+    let lives : row.live ≡ true = search (rules, c.if-not-row.false) in
+    let counted = rw (← c.self.view_is) at c.live_count-live.ensures.count in
+    let some = live-there ts c.place-place.result row found.here lives in
+    rw (c.recount.ensures.rows, same) (kept-ended c.self.inside.processes.items c.self.inside.threads.items (numbers c.self.inside.used_processes.entries) (used_rows c.self.inside.used_threads.entries) c.self.inside.process_names.entries c.self.inside.thread_names.entries c.self.inside.alive c.self.inside.registered c.self.invariant c.place-place.result c.args.tid row is c.index-row.ensures lives (c.live_count-live.result - 1) (c.self.inside.alive - 1) (omega (arith, counted, some.0)) (omega (arith, c.self.invariant.living, some.1)))
 
 pub returns : goal.returns
 returns c =
+    let ts = c.self.inside.threads.items in
+    let row = c.index-row.result.now in
     let is = sym (rw (← c.self.view_is) at c.place-place.ensures) in
-    let same = changed_at ended c.self.inside.threads.items c.place-place.result c.args.tid c.index_mut-row.result.now c.self.invariant.rows.single is c.index_mut-row.ensures.value in
-    record { table = rw (← c.self.view_is, ← same, c.recount.ensures.rows, rows-again, c.recount.ensures.len, c.recount.ensures.room) refl }
+    let found = row_is ts c.place-place.result c.args.tid row is c.index-row.ensures in
+    let again = row_is ts c.place-place.result c.args.tid c.index_mut.result.now is c.index_mut.ensures.value in
+    let same : c.index_mut.result.now ≡ row = same_Some c.index_mut.result.now row (sym again.here ∙ found.here) in
+    let changed = changed_at ended ts c.place-place.result c.args.tid row c.self.invariant.rows.single is c.index-row.ensures in
+    record { table = rw (← c.self.view_is, same, ← changed, c.recount.ensures.rows, rows-counting, c.recount.ensures.len, c.recount.ensures.room) refl }

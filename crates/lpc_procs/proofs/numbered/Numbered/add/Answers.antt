@@ -1,0 +1,9 @@
+use Rattle.std.proofs.Common.{◌∙◌, nat_eq}
+use Rattle.indexmap.proofs.CallerLemmas.{insert_entry-new}
+use Rattle.lpc_procs.proofs.Lookups.{absent}
+use Rattle.lpc_procs.proofs.numbered.Numbered.add.Goals as goal
+
+pub returns-clause-entries : goal.returns-clause-entries
+returns-clause-entries g c =
+    let free = rw (← c.self.view_is) at c.requires.new in
+    rw (← c.self.view_is) (c.in-Ok.ensures.entries ∙ insert_entry-new nat_eq c.self.inside.map c.args.number c.args.value (absent c.args.number c.self.inside.map.entries free))

@@ -1,0 +1,119 @@
+// Values under numbers that differ, found by their number without a search.
+ghost use Rattle.std.specs.Prelude.{◌≡◌, ◌-◌, ◌<◌, ◌≤◌, ◌++◌, ◌∷◌, [], true, false, length, not, OnErr, OnOk};
+ghost use Rattle.std.specs.List.{position};
+ghost use Rattle.lpc_base.specs.Births.{same_birth};
+ghost use Rattle.lpc_base.specs.Room.{grown_room};
+ghost use Rattle.lpc_base.specs.Rows.{has, without};
+ghost use Rattle.lpc_procs.specs.Numbered.{is_at, value_at};
+
+use indexmap::IndexMap;
+use lpc_base::{Birth, OutOfMemory};
+use std::alloc::Global;
+use std::marker::Model;
+
+/// Values under numbers that differ, in the order in which they came. A number leads to its value and to its place
+/// without a search. So many further ones as there is room for go in without memory.
+#[derive(Drop)]
+pub struct Numbered<V: Copy> {
+    map: IndexMap<u32, V>,
+    room: usize,
+}
+
+impl<V: Copy> Model for Numbered<V> {
+    ghost use Rattle.std.specs.Prelude.{◌≤◌};
+    ghost use Rattle.indexmap.specs.IndexMap.{spare};
+    ghost use Rattle.lpc_procs.specs.Numbered.{Numbered};
+
+    ghost Value = { Numbered V };
+
+    ghost view = { λ s. record { entries = s.map.entries; room = s.room } };
+
+    ghost invariant = { λ s. s.room ≤ spare s.map };
+}
+
+impl<V: Copy> Numbered<V> {
+    /// No number and no room. It takes no memory, and keeps the allocator for `reserve`.
+    pub fn new(alloc: Global) -> Numbered<V>
+        ensures entries { result.entries ≡ [] }
+        ensures room { result.room ≡ 0 }
+    {
+        Numbered {
+            map: IndexMap::new(alloc),
+            room: 0,
+        }
+    }
+
+    /// Makes room for so many further numbers. Where it has to grow, it makes room for as many as there are, if those
+    /// are more. `OutOfMemory` comes only where the room isn't there; nothing has changed then.
+    pub fn reserve(&mut self, more: usize) -> Result<(), OutOfMemory>
+        ensures entries { self.new.entries ≡ self.old.entries }
+        ensures room { OnOk result (more ≤ self.new.room) }
+        ensures wanting { OnErr result (self.old.room < more) }
+        ensures least { self.old.room ≤ self.new.room }
+        ensures most { self.new.room
+            ≤ grown_room self.old.room more (length self.old.entries) }
+        ensures enough { more ≤ self.old.room → self.new.room ≡ self.old.room }
+    {
+        if more <= self.room {
+            return Ok(());
+        }
+        let wanted = more.max(self.map.len());
+        match self.map.reserve(wanted) {
+            Ok(()) => {
+                self.room = wanted;
+                Ok(())
+            }
+            Err(_) => Err(OutOfMemory),
+        }
+    }
+
+    /// Puts a value under a number that has none, behind the others. There is room for it.
+    pub fn add(&mut self, number: u32, value: V)
+        requires room { 0 < self.old.room }
+        requires new { has (is_at number) self.old.entries ≡ false }
+        ensures entries { self.new.entries ≡ self.old.entries ++ (number, value) ∷ [] }
+        ensures room { self.new.room ≡ self.old.room - 1 }
+    {
+        match self.map.insert(number, value) {
+            Ok(_) => self.room -= 1,
+            Err(_) => unreachable!(),
+        }
+    }
+
+    /// Where a number stands in the order in which they came.
+    pub fn place(&self, number: u32) -> Option<usize>
+        ensures { result ≡ position (is_at number) self.now.entries }
+    {
+        self.map.get_index_of(&number)
+    }
+
+    /// The value under a number.
+    pub fn get(&self, number: u32) -> Option<V>
+        ensures { result ≡ value_at self.now.entries number }
+    {
+        self.map.get(&number).copied()
+    }
+
+    /// The number has a value.
+    pub fn has(&self, number: u32) -> bool
+        ensures { result ≡ has (is_at number) self.now.entries }
+    {
+        self.map.contains_key(&number)
+    }
+}
+
+impl Numbered<Birth> {
+    /// Takes away the numbers of a name. The others keep their order.
+    pub fn remove_name(&mut self, birth: Birth)
+        ensures entries { self.new.entries
+            ≡ without (λ e. same_birth e.1 birth) self.old.entries }
+        ensures room { self.new.room ≡ self.old.room }
+    {
+        self.map.retain(
+            |_number: &u32, name: &mut Birth| -> bool
+                ensures kept { result ≡ not (same_birth name.old birth) }
+                ensures same { name.new ≡ name.old }
+            { *name != birth },
+        );
+    }
+}
