@@ -51,7 +51,6 @@ use std::marker::Model;
 ///
 /// Contracts see the rows of the definitions, in which an object is named by its birth, the births of keys, how many
 /// directive and service calls were made, and how many more rows go in without memory.
-#[derive(Drop)]
 pub struct World {
     procs: Procs,
     parts: Vec<Part>,
@@ -75,6 +74,23 @@ impl Model for World {
     ghost view = { λ w. kept_by (tables_of w.procs w.parts.items w.ports w.waits w.names) (vec_capacity w.parts - vec_len w.parts) w.calls w.made w.loose };
 
     ghost invariant = { λ w. AreLawful (tables_of w.procs w.parts.items w.ports w.waits w.names) w.calls w.made };
+}
+
+// Written out, so that a proof about what holds a world lets it go in one step, and not table by table.
+impl Drop for World {
+    fn drop(self) {
+        let World {
+            procs: _,
+            parts: _,
+            ports: _,
+            waits: _,
+            names: _,
+            calls: _,
+            made: _,
+            loose: _,
+            alloc: _,
+        } = self;
+    }
 }
 
 impl World {
