@@ -1,5 +1,5 @@
 #!/usr/bin/env python3
-"""How the program grows: lines a second and peak memory, for scripts of three lengths.
+"""How the program grows: processor seconds and peak memory, for scripts of three lengths.
 
     bench/run.py [PROGRAM]
 
@@ -10,6 +10,7 @@ call are wrong.
 """
 import argparse
 import os
+import resource
 import shutil
 import subprocess
 import sys
@@ -127,17 +128,23 @@ def peak(process):
     return 0
 
 
+def seconds_of_children():
+    """The processor seconds of all programs that were started and have ended."""
+    used = resource.getrusage(resource.RUSAGE_CHILDREN)
+    return used.ru_utime + used.ru_stime
+
+
 def measured(program, script):
-    """Seconds and peak memory in MiB of one run, and the status with which it ended. The memory is looked at again and
-    again while the program runs, so a short run's may be missed."""
+    """Processor seconds and peak memory in MiB of one run, and the status with which it ended. The memory is looked at
+    again and again while the program runs, so a short run's may be missed."""
     memory = 0
     with open(script, "rb") as source:
-        start = time.monotonic()
+        before = seconds_of_children()
         child = subprocess.Popen([program, "replay"], stdin=source, stdout=subprocess.DEVNULL)
         while child.poll() is None:
             memory = max(memory, peak(child.pid))
             time.sleep(0.0005)
-        seconds = time.monotonic() - start
+        seconds = seconds_of_children() - before
     return seconds, memory, child.returncode
 
 
@@ -164,7 +171,7 @@ def read_words():
 
 def main():
     program = read_words()
-    print("| Script | Lines | Seconds | Lines a second | Peak memory, MiB | Status |")
+    print("| Script | Lines | Processor seconds | Lines a second | Peak memory, MiB | Status |")
     print("|---|---|---|---|---|---|")
     with tempfile.TemporaryDirectory() as folder:
         kinds = (
@@ -184,7 +191,7 @@ def main():
                 seconds, memory, status = measured(program, path)
                 print(
                     f"| {kind.__name__} | {len(text)} | {seconds:.3f} | {len(text) / seconds:.0f} "
-                    f"| {memory:.1f} | {status} |",
+                    f"| {f'{memory:.1f}' if memory > 0.1 else '-'} | {status} |",
                     flush=True,
                 )
 
