@@ -18,11 +18,13 @@ import tempfile
 import threading
 import tty
 
+ROOT = pathlib.Path(__file__).resolve().parent.parent
 sys.dont_write_bytecode = True
+sys.path.insert(0, str(ROOT / "bench"))
+import run as bench
 import storms
 import worlds
 
-ROOT = pathlib.Path(__file__).resolve().parent.parent
 SECONDS = 60
 USAGE = b"usage: ntlpc COMMAND [WORDS]\n"
 # The line of a storm without a round: its transcript was worked out by hand, and the sum of its bytes taken from it.
@@ -33,6 +35,9 @@ EXAMPLE = (ROOT / "examples" / "first-request.script").read_bytes()
 # How many lines are told at least where as many KiB are left behind the program's start.
 LEFT, TOLD_AT_LEAST = 16_000, 1_000
 WORLDS = 10
+# The lengths of scripts that are compared, and how many times longer than its lines tell the longer one may take.
+SHORT_SCRIPT, LONG_SCRIPT, TIMES_LONGER = 10_000, 100_000, 3
+RUNS = 5
 
 
 class Wrong(Exception):
@@ -478,6 +483,36 @@ def memory_runs_out(program):
         raise Wrong(f"it told {count} lines, at least {TOLD_AT_LEAST} are wanted")
 
 
+def growth():
+    """Ten times the lines take about ten times as long, where a script leaves as many rows as it finds."""
+    for script in bench.requests, bench.datagrams, bench.closings:
+        yield f"time grows with the lines: {script.__name__}", grows_with_lines(script)
+
+
+def grows_with_lines(script):
+    """A check that compares what a short and a long script take for a line."""
+
+    def check(program):
+        short, long = (processor_seconds(program, list(script(lines))) / lines for lines in (SHORT_SCRIPT, LONG_SCRIPT))
+        if long > TIMES_LONGER * short:
+            raise Wrong(f"a line takes {long / short:.1f} times as long in {LONG_SCRIPT:,} as in {SHORT_SCRIPT:,}")
+
+    return check
+
+
+def processor_seconds(program, lines):
+    """The processor seconds of some runs over the same script, together."""
+    script = [line.encode() + b"\n" for line in lines]
+    taken = 0
+    for _ in range(RUNS):
+        with open(os.devnull, "wb") as sink, program.started(script, sink) as child:
+            _, status, used = os.wait4(child.pid, 0)
+            child.returncode = os.waitstatus_to_exitcode(status)
+        Ended(child.returncode).should(0)
+        taken += used.ru_utime + used.ru_stime
+    return taken
+
+
 def large_worlds():
     """Want of memory is no answer where there is memory, however large the world is."""
     count = 0
@@ -501,6 +536,7 @@ def main(command):
     passed = failed = 0
     for group in (
         examples, words, storms_as_replayed, ends_of_input, inputs_that_fail, outputs_that_fail, conversations, limits,
+        growth, large_worlds,
         large_worlds,
     ):
         for name, check in group():
