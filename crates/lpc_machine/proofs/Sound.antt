@@ -67,4 +67,4 @@ settled_none new is still = record { lawful = subst IsLawfulWorld (sym is) lawfu
 
 -- where no process lives nothing is left
 pub leaves_nothing : (w : Kept) → IsSettled w → LeavesNothing w.rows
-leaves_nothing w s = let t = s.lawful in bare w.rows t.sound t.linked t.held t.queues t.living t.pairs
+leaves_nothing w s = let t = s.lawful in bare w.rows t.sound t.linked t.held t.queues t.living t.views t.pairs

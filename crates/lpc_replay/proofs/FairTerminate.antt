@@ -143,7 +143,8 @@ module _ (w : World) (line : ScriptLine) (pid : ℕ) (code : Status) (ts : List 
           let two = behind_told code ts w in
           let end = told-safe code ts w safe in
           let s = end.sound in
-          handles_fair w line pid (answers gone) (handles_of two pid) two refl end (fewer_first w two pid same_handles) (knows_others w two pid s.waits gone told_known)
+          all_append (IsFair w line) (in_turn (close_handle pid) (handles_of two pid) two) _
+          (handles_fair w line pid (answers gone) (handles_of two pid) two refl end (fewer_first w two pid same_handles) (knows_others w two pid s.waits gone told_known)) (tt, tt)
 
 -- The calls
 answered_fair : (w : World) (line : ScriptLine) (by : ThreadRow) (call : CallName) (own : Bool) (pid : ℕ) (code : Status) (ts : List ThreadRow) → AreFair w line (answer_unless own by call) → AreFair w line (end_threads pid code ts w) → AreFair w line (answered_end by call own pid code ts w)

@@ -59,7 +59,15 @@ fn a_sink_that_takes_five_bytes_a_call_has_the_whole(rt: HostRuntime) -> Result<
     }
     let mut source = source(alloc, SCRIPT.as_bytes(), 4096, &[])?;
     let mut sink = sink(alloc, 4096, &[])?;
-    runs(&rt, alloc, &["replay"], &mut source, &mut sink, 0, text.as_str())
+    runs(
+        &rt,
+        alloc,
+        &["replay"],
+        &mut source,
+        &mut sink,
+        0,
+        text.as_str(),
+    )
 }
 
 #[test]
@@ -67,7 +75,15 @@ fn a_sink_with_room_for_twenty_bytes_has_twenty(rt: HostRuntime) -> Result<(), F
     let alloc = rt.alloc();
     let mut source = source(alloc, SCRIPT.as_bytes(), 4096, &[])?;
     let mut sink = sink(alloc, 20, &[])?;
-    runs(&rt, alloc, &["replay"], &mut source, &mut sink, 4, "1 - boot 00000000\n2 ")
+    runs(
+        &rt,
+        alloc,
+        &["replay"],
+        &mut source,
+        &mut sink,
+        4,
+        "1 - boot 00000000\n2 ",
+    )
 }
 
 // The script from a source that gives a byte a call and fails the call of this number.

@@ -81,9 +81,9 @@ dies-but pid n code w of = but-live pid w (basic w (Dies n code)) still refl ref
 -- steps that end nothing of a thread
 still-step : (pid : ℕ) (w : World) (b : Basic) → is_ending b ≡ true → is_still b ≡ true → HasLivingBut pid w → HasLivingBut pid (basic w b)
 still-step pid w (DropsHandle p value) is still l = record {
-    handles = every-change (is_almost pid w) (is_table p) (without_handle value) (λ t was. more (t.process == pid) (is_live w t.process) (lacks_handles t) (lacks_handles (without_handle value t)) (lacks-less value t) was) w.handles l.handles;
-    views = l.views;
-  }
+  handles = every-change (is_almost pid w) (is_table p) (without_handle value) (λ t was. more (t.process == pid) (is_live w t.process) (lacks_handles t) (lacks_handles (without_handle value t)) (lacks-less value t) was) w.handles l.handles;
+  views = l.views;
+}
   where
     more : (e a c d : Bool) → (c ≡ true → d ≡ true) → (e || (a || c)) ≡ true → (e || (a || d)) ≡ true
     more e a c d less was = grind (arith, less)
@@ -162,9 +162,9 @@ table-lacks pid (t ∷ ts) one none = at (is_table pid t) refl (table-lacks pid 
 -- and then its views go
 living-empty : (pid : ℕ) (w : World) → HasLivingBut pid w → handles_of w pid ≡ [] → IsSoundWorld w → HasLivingRows (basic w (DropsViewsOf pid))
 living-empty pid w l none s = record {
-    handles = every-both (is_almost pid w) (λ t. not (is_table pid t) || lacks_handles t) (is_living_table w) (λ t one two. parts (t.process == pid) (is_live w t.process) (lacks_handles t) one two) w.handles l.handles (table-lacks pid w.handles (s.tables pid) none);
-    views = every-kept (is_almost_view pid w) (is_view_in pid) (is_living_view w) (λ x is off. view-parts (x.process == pid) (is_live w x.process) is off) w.views l.views;
-  }
+  handles = every-both (is_almost pid w) (λ t. not (is_table pid t) || lacks_handles t) (is_living_table w) (λ t one two. parts (t.process == pid) (is_live w t.process) (lacks_handles t) one two) w.handles l.handles (table-lacks pid w.handles (s.tables pid) none);
+  views = every-kept (is_almost_view pid w) (is_view_in pid) (is_living_view w) (λ x is off. view-parts (x.process == pid) (is_live w x.process) is off) w.views l.views;
+}
   where
     parts : (e a c : Bool) → (e || (a || c)) ≡ true → (not e || c) ≡ true → (a || c) ≡ true
     parts e a c one two = grind arith
@@ -174,9 +174,9 @@ living-empty pid w l none s = record {
 
 living-live : (pid : ℕ) (w : World) → HasLivingBut pid w → is_live w pid ≡ true → HasLivingRows w
 living-live pid w l live = record {
-    handles = every-more (is_almost pid w) (is_living_table w) (λ t is. at t (t.process == pid) refl is) w.handles l.handles;
-    views = every-more (is_almost_view pid w) (is_living_view w) (λ x is. its-view x (x.process == pid) refl is) w.views l.views;
-  }
+  handles = every-more (is_almost pid w) (is_living_table w) (λ t is. at t (t.process == pid) refl is) w.handles l.handles;
+  views = every-more (is_almost_view pid w) (is_living_view w) (λ x is. its-view x (x.process == pid) refl is) w.views l.views;
+}
   where
     at : (t : HandleTable) (e : Bool) → (t.process == pid) ≡ e → (e || is_living_table w t) ≡ true → is_living_table w t ≡ true
     at t true same is = let own = subst (λ n. is_live w n ≡ true) (sym (eqb-true t.process pid same)) live in or_left (is_live w t.process) (lacks_handles t) own
