@@ -15,13 +15,22 @@ PORTS = ("unnamed", "connection", "client", "server")
 @dataclasses.dataclass(eq=False)
 class Port:
     """A port: its kind, the name of a connection port, the port that it is joined to, the connection port that it is
-    of, and whether its connection is completed."""
+    of, whether its connection is completed, and how many messages stand in its queue."""
 
     kind: str
     name: Optional[str] = None
     other: Optional["Port"] = None
     home: Optional["Port"] = None
     complete: bool = False
+    queued: int = 0
+
+    def target(self):
+        """The port whose queue a message that is sent on this one enters; None where there is none."""
+        return {"client": self.home, "server": self.other}.get(self.kind, self)
+
+    def source(self):
+        """The port whose queue this one receives from."""
+        return self.home if self.kind == "server" and self.home else self
 
 
 @dataclasses.dataclass(frozen=True)
@@ -48,12 +57,14 @@ class Received:
 
 class World:
     """All that was told. `threads` has the process of each live thread, `waits` the words of each that waits,
-    `handles` those of each live process by value, `names` the connection ports by their path."""
+    `handles` those of each live process by value, `names` the connection ports by their path, `asked` what each thread
+    asked for that waits, `on` the port on which, and `registered` the ports of each thread."""
 
     def __init__(self):
         self.threads, self.waits, self.handles = {}, {}, {}
         self.names, self.dead, self.folders = {}, [], []
         self.requests, self.connects, self.asked, self.clients = [], [], {}, {}
+        self.on, self.registered = {}, {}
 
     def idle(self):
         """The threads that can make a call."""
@@ -64,9 +75,20 @@ class World:
         owned = self.handles.get(self.threads.get(thread), {})
         return [(value, it) for value, it in owned.items() if it.kind in kinds and (it.grants or not grants)]
 
+    def named_by(self, thread, value):
+        """The Handle that a thread's process has at a value, where there is one."""
+        return self.handles.get(self.threads.get(thread), {}).get(value)
+
+    def fits(self, found):
+        """The ports through which a reply to a request fits."""
+        port = self.on.get(found.client[1])
+        return [it for it in (port.target(), port.other) if it] if port else [found.port]
+
     def tell(self, line, entries):
         """Takes what a line told."""
         words = line.split()
+        # What is sent and wakes somebody who takes it, stands in no queue.
+        self.taken = sum(it.kind == "wake" and it.field("msg") is not None for it in entries)
         for entry in entries:
             if entry.kind == "died":
                 self._died(entry.thread)
@@ -92,10 +114,25 @@ class World:
         """A thread began to wait."""
         self.waits[entry.thread] = words
         client = (self.threads.get(entry.thread), entry.thread, int(entry.field("id") or 0))
-        if entry.call == "NtConnectPort":
-            self.clients[client] = Port("client", home=self.names.get(words[2]))
         if entry.call in ("NtConnectPort", "NtRequestWaitReplyPort"):
             self.asked[entry.thread] = client
+        if entry.call == "NtConnectPort":
+            self.clients[client] = Port("client", home=self.names.get(words[2]))
+            self._enters(self.names.get(words[2]))
+            return
+        named = self.named_by(entry.thread, script_lines.number(words[2]))
+        if named and entry.call == "NtRequestWaitReplyPort":
+            self.on[entry.thread] = named.thing
+            self._enters(named.thing.target())
+        elif named and entry.call == "NtReplyWaitReceivePort":
+            named.thing.source().queued = 0
+
+    def _enters(self, queue):
+        """A message entered a queue, unless somebody took it at once."""
+        if self.taken:
+            self.taken -= 1
+        elif queue:
+            queue.queued += 1
 
     def _wakes(self, words, entry):
         """A wait ended, so nothing of it can be answered any more."""
@@ -135,6 +172,10 @@ class World:
             self._own(entry, "h", dataclasses.replace(named, grants=grants))
         elif entry.call in ("NtCreateProcess", "NtCreateThread"):
             self._born(words, entry, process, named)
+        elif entry.call == "NtRequestPort" and named:
+            self._enters(named.thing.target())
+        elif entry.call == "NtRegisterThreadTerminatePort" and named:
+            self.registered.setdefault(entry.thread, []).append(named.thing)
         else:
             self._received(words, entry)
 
@@ -171,21 +212,29 @@ class World:
         if entry.call not in ("NtListenPort", "NtReplyWaitReceivePort") or not shown:
             return
         process = self.threads.get(entry.thread)
-        named = self.handles.get(process, {}).get(script_lines.number(words[2]))
+        named = self.named_by(entry.thread, script_lines.number(words[2]))
+        if named and entry.kind == "answer":
+            named.thing.source().queued = max(0, named.thing.source().queued - 1)
         found = Received(process, named and named.thing, (shown.process, shown.thread, shown.message_id))
         if shown.type in (REQUEST, CONNECT):
             (self.requests if shown.type == REQUEST else self.connects).append(found)
 
     def _closed(self, mine, value):
         handle = mine.pop(value, None)
-        if handle and handle.kind == "connection" and handle.thing not in (it.thing for it in mine.values()):
+        if not handle or any(it.thing is handle.thing for it in mine.values()):
+            return
+        if handle.kind == "connection":
             self.names = {name: port for name, port in self.names.items() if port is not handle.thing}
+        elif handle.kind == "client" and handle.thing.home:
+            self._enters(handle.thing.home)
 
     def _died(self, thread):
         process = self.threads.pop(thread, None)
         self.waits.pop(thread, None)
         self._forget(self.asked.pop(thread, None))
         self.dead.append((process, thread))
+        for port in self.registered.pop(thread, ()):
+            self._enters(port.target())
         if process not in self.threads.values():
             mine = self.handles.pop(process, {})
             for value in list(mine):

@@ -1,31 +1,56 @@
 """The choice of a hunt's next line, by what the conversation has told so far.
 
 Each choice has a weight, the name of the call or directive that it makes, and a function of Hunter that gives a line,
-or None where nothing of the kind goes now. Most lines fit what stands; some are put out of order on purpose.
+or None where nothing of the kind goes now. Most lines fit what stands; some are put out of order on purpose. Which are
+frequent, and among how many threads, is another matter in each script. At its start and at its end, and where a limit
+is to be reached, a plan gives the lines.
 """
-from ntlpc_tool import following, forms, message
+import functools
+
+from ntlpc_tool import following, forms, message, planning, scenes
 
 FOLDERS = ("\\D", "\\D\\E")
 LINKS = (("\\L", "\\D"), ("\\M", "\\A"), ("\\R", "\\R"))
-PATHS = ("\\A", "\\B", "\\D\\A", "\\D\\E\\B", "\\L\\A", "\\M", "\\A\\C", "\\D", "\\R", "\\", "A", "\\D\\\\A")
+PATHS = (
+    "\\A", "\\B", "\\D\\A", "\\D\\E\\B", "\\L\\A", "\\M", "\\a", "\\d\\A", "\\A\\C", "\\D", "\\R", "\\", "A", "\\D\\\\A",
+)  # fmt: skip
 # How many of PATHS are those that a port mostly has.
 GOOD = 4
 NEVER = 2_000_000_000
-# The most data of a message, and the numbers behind which the profile's limits lie.
-MOST_DATA, DATAGRAMS, ROWS, HANDLES, REGISTERED = 232, 33, 65, 257, 17
-ONCE_ODD, ONCE_BURST = 8, 3
-WORLD_OF = 6
+KINDS = (*following.PORTS, "process", "thread")
+# The most data of a message.
+MOST_DATA = 232
+ONCE_ODD, ONCE_ANY = 8, 8
+# How many limits one script reaches at most, and how many other lines stand between them.
+MOST_LIMITS, BETWEEN = 2, 60
+# How many connects wait at most, and how many lines the end of a script has at most.
+WORLD_OF, MOST_ENDS = 6, 12
+# By how much a call is more frequent in one script than in another, and how many threads are to be able to make one.
+LEANINGS, CROWDS = (0.2, 1, 1, 1, 4), (2, 2, 4, 7)
+# So many numbers are given out of order.
+SHUFFLED = 8
 
 
 class Hunter:
     """Chooses line by line: `random` decides, `world` has what was told, `without` are names that no line may have."""
 
-    def __init__(self, random, world, without=(), calls=200):
+    def __init__(self, random, world, without=(), calls=300):
         self.random, self.world = random, world
-        self.next, self.kept = 0, []
-        self.table = [it for it in self.choices() if it[1] not in without]
-        self.burst_at = random.randrange(calls) if random.randrange(ONCE_BURST) == 0 else None
-        self.made = 0
+        self.without, self.calls, self.made = frozenset(without), calls, 0
+        self.next, self.free = 0, []
+        self.table = [
+            (weight * random.choice(LEANINGS), name, choice)
+            for weight, name, choice in self.choices()
+            if name not in self.without
+        ]
+        self.crowd, self.few = random.choice(CROWDS), random.randrange(2)
+        self.plan = planning.start(self)
+        limits = [it for name, it in planning.limits() if name not in self.without]
+        chosen = random.sample(limits, min(len(limits), random.randrange(MOST_LIMITS + 1)))
+        # The last one comes first, and that with the most lines before the others.
+        self.limits = sorted(chosen, key=lambda it: it is planning.handles)
+        # How many other lines come before a limit is reached, and whether the script has an end.
+        self.until, self.ends = random.randrange(calls // 6 + 1), random.randrange(3)
 
     def choices(self):
         """Weight, name, and function of each choice."""
@@ -36,37 +61,57 @@ class Hunter:
             (1, "link", lambda: "link {} {}".format(*self.random.choice(LINKS))),
             (8, "NtCreatePort", self.port),
             (14, "NtConnectPort", self.connect),
-            (7, "NtListenPort", lambda: self.on("NtListenPort", ("connection",))),
+            (7, "NtListenPort", lambda: self.receive("NtListenPort", ("connection",))),
             (30, "NtAcceptConnectPort", self.accept),
             (25, "NtCompleteConnectPort", self.complete),
             (12, "NtRequestPort", lambda: self.send("NtRequestPort")),
             (14, "NtRequestWaitReplyPort", lambda: self.send("NtRequestWaitReplyPort")),
             (16, "NtReplyPort", lambda: self.reply("NtReplyPort")),
             (12, "NtReplyWaitReceivePort", lambda: self.reply("NtReplyWaitReceivePort")),
-            (16, "NtReplyWaitReceivePort", lambda: self.on("NtReplyWaitReceivePort", following.PORTS)),
-            (3, "NtRegisterThreadTerminatePort", lambda: self.on("NtRegisterThreadTerminatePort", following.PORTS)),
+            (16, "NtReplyWaitReceivePort", lambda: self.receive("NtReplyWaitReceivePort", following.PORTS)),
+            (5, "NtRegisterThreadTerminatePort", lambda: self.on("NtRegisterThreadTerminatePort", following.PORTS)),
             (2, "NtCreateProcess", self.process),
             (3, "NtCreateThread", self.further),
             (2, "NtTerminateThread", lambda: self.end("NtTerminateThread", "thread")),
             (1, "NtTerminateProcess", lambda: self.end("NtTerminateProcess", "process")),
-            (4, "NtClose", self.close),
+            (8, "NtClose", self.close),
             (5, "NtDuplicateObject", self.duplicate),
-            (8, "NtQueryObject", lambda: self.on("NtQueryObject", (*following.PORTS, "process", "thread"), False)),
+            (8, "NtQueryObject", lambda: self.on("NtQueryObject", KINDS, False)),
+            *((2, name, functools.partial(self.begin, scene)) for name, scene in scenes.ALL),
         )
 
     def line(self):
         """The next line."""
         self.made += 1
-        if self.burst_at is not None and self.made > self.burst_at:
-            self.burst_at, self.kept = None, self.burst() or []
-        if self.kept:
-            return self.kept.pop(0)
+        left = self.calls - self.made + 1
+        if self.ends and left <= MOST_ENDS and left <= len(planning.owners(self.world)):
+            self.plan, self.ends = planning.end(self), 0
+        line = self.planned() or self.limited()
+        if line:
+            return line
         line = self.scarce() or self.chosen()
         return self.odd(line) if self.random.randrange(ONCE_ODD) == 0 else line
 
+    def planned(self):
+        """The next line of the plan; None where it has ended."""
+        return next((it for it in self.plan if name_in(it) not in self.without), None)
+
+    def begin(self, plan):
+        """The first line of a plan, whose others come next."""
+        self.plan = plan(self)
+        return self.planned()
+
+    def limited(self):
+        """The first line of the plan that reaches a limit, where it is time for that."""
+        self.until -= 1
+        if self.limits and self.until < 0:
+            self.until = self.random.randrange(BETWEEN)
+            return self.begin(self.limits.pop())
+        return None
+
     def scarce(self):
         """A line that makes a thread, where few can make a call."""
-        if len(self.world.idle()) > self.random.randrange(3) and len(self.world.threads) > self.random.randrange(4):
+        if len(self.world.idle()) > self.random.randrange(self.crowd) and len(self.world.threads) > 2:
             return None
         return self.thread() if self.world.threads and self.random.randrange(2) else self.boot()
 
@@ -84,13 +129,24 @@ class Hunter:
     def fresh(self):
         """A number that no process and no thread has had; now and then one that was had before."""
         if self.next and self.random.randrange(20) == 0:
-            return self.random.randrange(1, self.next // 4 + 1) * 4
-        self.next += 4
-        return self.next
+            dead = self.pick(self.world.dead)
+            return self.random.choice(dead or (self.random.randrange(1, self.next // 4 + 1) * 4,))
+        return self.unused()
+
+    def unused(self):
+        """A number that no process and no thread has had. What is made later has a lower one now and then."""
+        if not self.free:
+            self.free = [self.next + 4 * it for it in range(1, SHUFFLED + 1)]
+            self.next = self.free[-1]
+            self.random.shuffle(self.free)
+        return self.free.pop()
 
     def someone(self):
-        """A thread that can make a call; None where all wait."""
+        """A thread that can make a call, in some scripts mostly one of those that were made first; None where all
+        wait."""
         idle = self.world.idle()
+        if self.few and self.random.randrange(4):
+            idle = idle[: self.crowd]
         return self.random.choice(idle) if idle else None
 
     def pick(self, found):
@@ -141,15 +197,35 @@ class Hunter:
         data = self.data()
         return f"{thread} NtConnectPort {name} - - {'d:' + data if data else '-'}"
 
+    def held(self, thread, kinds, grants=True):
+        """The handles of a thread's process to things of some kinds; now and then all of them, whatever they grant."""
+        if self.random.randrange(ONCE_ANY) == 0:
+            kinds, grants = KINDS, False
+        return self.world.held(thread, kinds, grants)
+
     def on(self, call, kinds, grants=True):
-        """A call on a handle, of kinds that fit it."""
+        """A call on a handle, mostly of kinds that fit it; each kind that there is has the same chance."""
         thread = self.someone()
-        found = self.pick(self.world.held(thread, kinds, grants))
+        held = self.held(thread, kinds, grants)
+        kind = self.pick(sorted({named.kind for _, named in held}))
+        found = self.pick([it for it in held if it[1].kind == kind])
         return found and f"{thread} {call} {found[0]}"
 
-    def of_process(self, process):
-        """A thread of a process that can make a call."""
-        return self.pick([it for it in self.world.idle() if self.world.threads[it] == process])
+    def receive(self, call, kinds):
+        """Takes a message, mostly where one stands."""
+        thread = self.someone()
+        full = [it for it in self.world.held(thread, kinds) if it[1].thing.source().queued]
+        if full and self.random.randrange(4):
+            return f"{thread} {call} {self.pick(full)[0]}"
+        return self.on(call, kinds) if self.random.randrange(2) else None
+
+    def of_process(self, process, besides=None):
+        """A thread of a process that can make a call, and is another one than `besides`."""
+        return self.pick([it for it in self.world.idle() if self.world.threads[it] == process and it != besides])
+
+    def owner(self, kinds=following.PORTS):
+        """A thread that can make a call, of a process that has a handle to a thing of some kinds."""
+        return self.pick([it for it in self.world.idle() if self.world.held(it, kinds)])
 
     def to_answer(self, received):
         """Something that was received, and a thread of its receiver that can answer it; now and then any thread, and
@@ -179,7 +255,7 @@ class Hunter:
 
     def send(self, call):
         thread = self.someone()
-        found = self.pick(self.world.held(thread, following.PORTS))
+        found = self.pick(self.held(thread, following.PORTS))
         return found and f"{thread} {call} {found[0]} {self.text()}"
 
     def reply(self, call):
@@ -189,7 +265,7 @@ class Hunter:
             return None
         thread, found = answer
         ports = self.world.held(thread, following.PORTS)
-        fitting = [it for it in ports if it[1].thing is found.port]
+        fitting = [it for it in ports if it[1].thing in self.world.fits(found)]
         chosen = self.pick(fitting if fitting and self.random.randrange(4) else ports)
         return chosen and f"{thread} {call} {chosen[0]} {self.text(found.head())}"
 
@@ -199,7 +275,7 @@ class Hunter:
 
     def further(self):
         thread = self.someone()
-        found = self.pick([("self", None), *self.world.held(thread, ("process",))])
+        found = self.pick([("self", None), *self.held(thread, ("process",))])
         return thread and f"{thread} NtCreateThread {found[0]} {self.fresh()}"
 
     def end(self, call, kind):
@@ -207,15 +283,15 @@ class Hunter:
         thread = self.someone()
         if not thread or len(self.world.threads) < 3:
             return None
-        found = self.pick(self.world.held(thread, (kind,)))
+        found = self.pick(self.held(thread, (kind,)))
         value = found[0] if found and self.random.randrange(3) else "self"
         return f"{thread} {call} {value} {self.random.randrange(9)}"
 
     def close(self):
-        return self.on("NtClose", (*following.PORTS, "process", "thread"), False)
+        return self.on("NtClose", KINDS, False)
 
     def duplicate(self):
-        line = self.on("NtDuplicateObject", (*following.PORTS, "process", "thread"), False)
+        line = self.on("NtDuplicateObject", KINDS, False)
         return line and f"{line} {self.random.choice(('same', 'same', 'same', '1', '0', '0x1f0001', '2', '0x20'))}"
 
     def odd(self, line):
@@ -245,31 +321,8 @@ class Hunter:
             client[at] = self.random.choice(others)[at] or NEVER
         return f"r:{'.'.join(map(str, client))}:{data}"
 
-    def burst(self):
-        """Many lines of one kind, which reach one of the limits; None where nothing stands for them."""
-        thread = self.someone()
-        if not thread:
-            return None
-        port = self.pick(self.world.held(thread, following.PORTS))
-        process = self.world.threads[thread]
-        way = self.random.randrange(5)
-        names = [name for _, name, _ in self.table]
-        call = ("NtRequestPort", "thread", "NtDuplicateObject", "NtRegisterThreadTerminatePort", "NtCreateProcess")[way]
-        if call not in names or way in (0, 2) and not port:
-            return None
-        if way == 0:
-            return [f"{thread} NtRequestPort {port[0]} d:{it:02x}" for it in range(DATAGRAMS)]
-        if way == 1:
-            return [f"thread {self.unused()} {process}" for _ in range(ROWS)]
-        if way == 2:
-            return [f"{thread} NtDuplicateObject {port[0]} same"] * HANDLES
-        if way == 3:
-            values = [value for value, _ in self.world.held(thread, following.PORTS)]
-            more = [f"{thread} NtCreatePort -"] * max(0, REGISTERED - len(values))
-            values = sorted({*values, *range(4, 4 * (REGISTERED + len(values) + 3), 4)})
-            return [*more, *(f"{thread} NtRegisterThreadTerminatePort {it}" for it in values)]
-        return [f"{thread} NtCreateProcess {self.unused()} {self.unused()}" for _ in range(ROWS)]
 
-    def unused(self):
-        self.next += 4
-        return self.next
+def name_in(line):
+    """The call or directive that a line names."""
+    words = line.split()
+    return words[1] if words[0].isdigit() else words[0]

@@ -64,7 +64,8 @@ class Plain(Machine):
         if port.place and self.wrong != "name-stays":
             node, part = port.place
             del node[part]
-        for wait in [it for it in self.waits if it.kind in ("receive", "listen")]:
+        waits = [it for it in self.waits if it.kind in ("receive", "listen")]
+        for wait in sorted(waits, key=lambda it: it.thread.number * (self.wrong == "wakes-by-number")):
             if port in (wait.port, wait.queue) and self.wrong != "waiters-stay":
                 self.wake(wait, GONE)
         for wait in [it for it in self.waits if it.kind == "request" and it.port is port]:
@@ -79,7 +80,7 @@ class Plain(Machine):
         """Ends what stands in the queue of a port that closes, and the connects that wait for it."""
         asked = [it.wait for it in port.queue if it.kind == REQUEST]
         connects = [it for it in self.waits if it.kind == "connect" and it.port.home is port and not it.accepted]
-        port.queue = []
+        port.queue = [it for it in port.queue if it.kind == DATAGRAM and self.wrong == "queue-stays"]
         order = [(asked, LOST), (connects, f"{REFUSED} info=")]
         for waits, told in reversed(order) if self.wrong == "connects-first" else order:
             for wait in waits:
@@ -106,6 +107,8 @@ class Plain(Machine):
             self.quota(thread.process)
             port = self.add_port("unnamed", thread)
         else:
+            if self.wrong == "room-first":
+                self.quota(thread.process)
             node, part, child = self.find(name)
             if child is not None:
                 raise No(COLLISION)
@@ -118,7 +121,7 @@ class Plain(Machine):
         if len(data) > 232:
             raise No(LONG)
         home = self.find(name)[2]
-        if home is None or isinstance(home, dict):
+        if home is None or isinstance(home, (dict, str)):
             raise No(ABSENT if home is None else TYPE)
         self.quota(thread.process)
         number = self.draw(thread)
@@ -149,7 +152,9 @@ class Plain(Machine):
     def NtAcceptConnectPort(self, thread, context, text, word, _):
         sizes, client, data = self.read(text)
         wait = self.client(client)
-        if not wait or wait.kind != "connect" or wait.number != client[2] or wait.accepted:
+        if not wait or wait.kind != "connect" or wait.number != client[2]:
+            raise No(MISMATCH)
+        if wait.accepted and self.wrong != "accepted-again":
             raise No(MISMATCH)
         if not wait.received and self.wrong != "accept-unreceived":
             raise No(MISMATCH)
@@ -157,6 +162,7 @@ class Plain(Machine):
         if wait.port.home not in mine and self.wrong != "accept-elsewhere":
             raise No(MISMATCH)
         if word == "refuse":
+            self.cut(wait.port)
             self.wake(wait, f"{REFUSED} info={data.hex()}")
             return OK
         self.quota(thread.process)
@@ -173,7 +179,9 @@ class Plain(Machine):
             raise No(PARAMETER)
         if not port.other:
             raise No(GONE)
-        wait = next(it for it in self.waits if it.kind == "connect" and it.port is port.other)
+        wait = next((it for it in self.waits if it.kind == "connect" and it.port is port.other), None)
+        if not wait:
+            raise No(GONE)
         port.complete = port.other.open = True
         given = self.give(wait.thread.process, port.other, ALL)
         self.wake(wait, f"{OK} h={given} max=256 info={wait.info.hex()}")
@@ -193,7 +201,8 @@ class Plain(Machine):
                 raise No(PARAMETER)
             size, whole, _, ranges, *client, _ = struct.unpack_from("<HHHHIIII", data)
             sizes, data = (size, whole, ranges), data[24:]
-            if size != len(data) or whole < size + 24 or ranges and not table(ranges, data):
+            counted = self.wrong != "table-uncounted"
+            if size != len(data) or whole < size + 24 or ranges and not table(ranges, data, counted):
                 raise No(PARAMETER)
         if sizes[1] > 256:
             raise No(LONG)
@@ -259,7 +268,11 @@ class Plain(Machine):
         port = self.handle(thread, value, "port")
         given = self.read(text) if text else None
         queue = port.home if port.kind == "server" else port
-        if not queue.open or port.kind == "client" and not port.other and not port.queue:
+        if given and self.wrong == "reply-first":
+            self.answer(self.fitting(port, given), given)
+            given = None
+        waiting = port.queue and self.wrong != "cut-loses-queue"
+        if not queue.open or port.kind == "client" and not port.other and not waiting:
             raise No(GONE)
         if given:
             self.answer(self.fitting(port, given), given)
@@ -268,7 +281,8 @@ class Plain(Machine):
     def NtRegisterThreadTerminatePort(self, thread, value):
         port = self.handle(thread, value, "port")
         if port not in thread.registered or self.wrong == "register-twice":
-            if len(thread.registered) == 16:
+            counted = [it for it in thread.registered if it.open or self.wrong != "closed-uncounted"]
+            if len(counted) == 16:
                 raise No(QUOTA)
             thread.registered.append(port)
         return OK

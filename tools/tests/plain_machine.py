@@ -2,7 +2,7 @@
 import struct
 
 from plain_rules import (
-    ALL, CID, COLLISION, CONNECT, DENIED, DIED, HANDLE, NAME, OK, PATH, QUOTA, TYPE, It, No, parts_of,
+    ALL, CID, COLLISION, CONNECT, DENIED, DIED, HANDLE, NAME, OK, PATH, QUOTA, REQUEST, TYPE, It, No, parts_of,
 )  # fmt: skip
 
 
@@ -39,7 +39,7 @@ class Machine:
         try:
             told = getattr(self, name)(thread, *words)
         except No as no:
-            self.out, told = [], f"{no}"
+            told = f"{no}"
             if self.wrong == "refused-draws" and name in ("NtRequestPort", "NtRequestWaitReplyPort"):
                 self.draw(thread)
         if told is not None:
@@ -53,9 +53,9 @@ class Machine:
         """Takes away what nothing names."""
         while True:
             left = [it for it in self.ports if self.rows(it)]
-            if len(left) == len(self.ports):
+            gone, self.ports = len(left) < len(self.ports), left
+            if not gone or self.wrong == "sweep-once":
                 return
-            self.ports = left
 
     def objects(self):
         named = {id(it.thing) for process in self.processes.values() for it in process.handles.values()}
@@ -72,7 +72,8 @@ class Machine:
         """How many rows count for a port."""
         count = self.handles_of(port)
         count += sum((it.other is port) + (it.home is port) for it in self.ports)
-        count += sum(it.sent is port for other in self.ports for it in other.queue)
+        once = REQUEST if self.wrong == "request-once" else None
+        count += sum(it.sent is port and it.kind != once for other in self.ports for it in other.queue)
         count += sum(it.port is port for it in self.waits)
         return count + sum(port in it.registered for it in self.threads.values() if it.live)
 
@@ -81,6 +82,8 @@ class Machine:
         found = thread.process.handles.get(int(value, 0))
         if not found:
             raise No(HANDLE)
+        if kind and not found.access & 1 and self.wrong == "access-first":
+            raise No(DENIED)
         if kind and (found.thing.kind if found.thing.kind in ("process", "thread") else "port") != kind:
             raise No(TYPE)
         if kind and not found.access & 1:
@@ -89,6 +92,7 @@ class Machine:
 
     def quota(self, process, more=1):
         waiting = sum(it.kind == "connect" and it.thread.process is process for it in self.waits)
+        waiting = 0 if self.wrong == "connects-unreserved" else waiting
         if len(process.handles) + waiting + more > 256:
             raise No(QUOTA)
 
@@ -102,7 +106,7 @@ class Machine:
 
     def draw(self, thread):
         of = thread.process if self.wrong == "process-ids" else thread
-        of.drawn += 1
+        of.drawn = (of.drawn % 65_535 if self.wrong == "short-identifiers" else of.drawn) + 1
         return of.drawn
 
     def NtDuplicateObject(self, thread, value, access):
@@ -125,18 +129,18 @@ class Machine:
 
     def find(self, path):
         """The folder and the name that a path leads to, and what stands there."""
-        hops = 0
+        hops, most = 0, 255 if self.wrong == "255-bytes" else 256
         while True:
-            parts = parts_of(path)
+            parts = parts_of(path.lower() if self.wrong == "case-blind" else path, most)
             node = self.root
             if not parts:
                 return None, None, node
             for at, part in enumerate(parts):
                 child, rest = node.get(part), parts[at + 1 :]
-                if isinstance(child, str):
+                if isinstance(child, str) and (rest or self.wrong != "last-link-stays"):
                     hops += 1
                     path = "\\" + "\\".join([*parts_of(child), *rest])
-                    if hops > 32 or len(path) > 256:
+                    if hops > (33 if self.wrong == "33-links" else 32) or len(path) > most:
                         raise No(NAME)
                     break
                 if not rest:
@@ -163,7 +167,7 @@ class Machine:
     # Processes and threads.
 
     def boot(self, pid, tid):
-        if int(pid) in self.processes or int(tid) in self.threads:
+        if int(pid) in self.processes or self.is_used(tid):
             raise No(COLLISION)
         self.add_thread(self.add_process(int(pid), None), int(tid), (0, int(tid)))
 
@@ -174,8 +178,13 @@ class Machine:
         self.test_thread(process, tid)
         self.add_thread(process, int(tid), (0, int(tid)))
 
+    def is_used(self, tid):
+        """Whether the number of a thread is used."""
+        found = self.threads.get(int(tid))
+        return found and (found.live or self.wrong != "numbers-again")
+
     def test_thread(self, process, tid):
-        if int(tid) in self.threads:
+        if self.is_used(tid):
             raise No(COLLISION)
         if len(self.living(process)) == 64:
             raise No(QUOTA)
@@ -201,10 +210,10 @@ class Machine:
         return thread.number, thread.made
 
     def NtCreateProcess(self, thread, pid, tid):
-        if int(pid) in self.processes or int(tid) in self.threads:
+        if int(pid) in self.processes or self.is_used(tid):
             raise No(COLLISION)
-        mine = thread.process
-        if sum(it.maker is mine and bool(self.living(it)) for it in self.processes.values()) == 64:
+        mine, ended = thread.process, self.wrong == "ended-children-count"
+        if sum(it.maker is mine and (ended or bool(self.living(it))) for it in self.processes.values()) == 64:
             raise No(QUOTA)
         self.quota(mine, 2)
         self.made(thread)
@@ -236,24 +245,37 @@ class Machine:
 
     def end(self, threads, code):
         """Ends threads of one process."""
-        for it in threads:
-            it.live = False
-            self.out.append(f"~{it.number} died {code:08x}")
-            wait = it.wait
-            if wait:
-                self.drop(wait)
-                if wait.kind == "connect" and wait.accepted and self.wrong != "cut-by-close-alone":
-                    self.cut(wait.port)
-        for it in threads:
-            told, it.registered = it.registered, []
-            for port in told if self.wrong != "no-client-died" else ():
-                if port.open and self.way(port):
-                    sent = self.message(port, DIED, it, 0, struct.pack("<II", *it.birth))
-                    self.enter(sent, self.way(port))
+        if self.wrong == "died-by-number":
+            threads = sorted(threads, key=lambda it: it.number)
+        for group in [[it] for it in threads] if self.wrong == "one-by-one" else [threads]:
+            for it in group:
+                self.die(it, code)
+            for it in group:
+                self.tell_end(it)
         process = threads[0].process
         if not self.living(process):
-            for value in sorted(process.handles):
+            for value in list(process.handles) if self.wrong == "handles-by-age" else sorted(process.handles):
                 self.close(process, value)
+
+    def die(self, thread, code):
+        """A thread dies, and its wait goes."""
+        thread.live = False
+        self.out.append(f"~{thread.number} died {code:08x}")
+        wait = thread.wait
+        if wait:
+            self.drop(wait)
+            if wait.kind == "connect" and wait.accepted and self.wrong != "cut-by-close-alone":
+                self.cut(wait.port)
+
+    def tell_end(self, thread):
+        """Tells a thread's end on the ports that it registered."""
+        told, thread.registered = thread.registered, []
+        birth = (0, thread.number) if self.wrong == "births-of-directives" else thread.birth
+        if self.wrong == "last-registered-first":
+            told.reverse()
+        for port in told if self.wrong != "no-client-died" else ():
+            if port.open and self.way(port):
+                self.enter(self.message(port, DIED, thread, 0, struct.pack("<II", *birth)), self.way(port))
 
     # Messages.
 
@@ -269,7 +291,8 @@ class Machine:
         """A message as it is sent on a port; `sizes` are DataSize, MessageSize and VirtualRangesOffset."""
         size, whole, ranges = sizes or (len(data), len(data) + 24, 0)
         head = struct.pack("<HHHHIIII", size, whole, kind, ranges, thread.process.number, thread.number, number, 0)
-        context = port.context if port.kind == "client" and kind != CONNECT and self.wrong != "no-context" else 0
+        without = {"no-context": kind, "died-without-context": DIED}.get(self.wrong, CONNECT)
+        context = port.context if port.kind == "client" and kind not in (CONNECT, without) else 0
         return It(kind, sent=port, context=context, bytes=head + data, thread=thread, wait=None)
 
     def enter(self, sent, queue):

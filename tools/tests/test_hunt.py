@@ -2,13 +2,18 @@
 import os
 import pathlib
 import random
+import re
 import subprocess
 import sys
 import time
 import unittest
+import unittest.mock
 
+import plain_rules
 import support
-from ntlpc_tool import following, hunting, main, needs, program, shrinking, transcript
+from ntlpc_tool import following, hunting, main, needs, planning, program, scenes, shrinking, statuses, transcript
+from ntlpc_tool.conversation import Conversation
+from ntlpc_tool.words import hunt
 
 # Runs the program, and changes what it prints.
 WRONG = """#!{python}
@@ -44,6 +49,67 @@ class Following(unittest.TestCase):
             self.assertIn(needs.name_in(line.encode()), ("boot", *needs.NAMES))
 
 
+class Plans(unittest.TestCase):
+    """The lines of a plan, run one behind the other."""
+
+    def told(self, *plans, seed=1):
+        """The world and the entries behind these plans, each a function of a hunter."""
+        world, entries = following.World(), []
+        hunter = hunting.Hunter(random.Random(seed), world)
+        with Conversation() as oracle:
+            for plan in plans:
+                for line in plan(hunter):
+                    told = oracle.step(line)
+                    world.tell(line, told)
+                    entries += told
+        return world, entries
+
+    def served(self, hunter):
+        return planning.served(hunter, 2)
+
+    @support.needs_program
+    def test_a_start_has_connections(self):
+        for seed in range(8):
+            world, entries = self.told(self.served, seed=seed)
+            self.assertEqual({it.status for it in entries if it.status}, {statuses.SUCCESS})
+            ports = [it.thing for owned in world.handles.values() for it in owned.values()]
+            self.assertEqual(sorted(it.kind for it in ports), ["client"] * 2 + ["connection"] + ["server"] * 2)
+            self.assertTrue(all(it.complete and it.other.home for it in ports if it.kind == "server"))
+
+    @support.needs_program
+    def test_a_limit_is_reached(self):
+        for name, plan in planning.limits():
+            call = "NtConnectPort" if name == "link" else name
+            status = "c0000033" if name in ("dir", "link") else "c0000044"
+            told = [it for seed in range(3) for it in self.told(self.served, plan, seed=seed)[1]]
+            self.assertIn((call, status), {(it.call, it.status) for it in told})
+
+    @support.needs_program
+    def test_who_waits_is_woken_and_who_registered_is_told_of(self):
+        for scene, texts in {
+            scenes.last_handle: ("*", "NtReplyWaitReceivePort c0000037"),
+            scenes.last_words: (" died 00000003", "msg=0800200006"),
+            scenes.broken_off: ("NtRequestWaitReplyPort c0000253", "NtConnectPort c0000041", "Port c0000037"),
+            scenes.lost_client: (" died 00000004", "NtCompleteConnectPort c0000037", "AcceptConnectPort c000000b"),
+            scenes.last_process: (" died 00000006", "NtConnectPort c0000041"),
+        }.items():
+            told = "\n".join(it.raw for seed in range(12) for it in self.told(self.served, scene, seed=seed)[1])
+            self.assertEqual([it for it in texts if it not in told], [], scene)
+        self.assertEqual(len(scenes.ALL), 5)
+
+    @support.needs_program
+    def test_what_stands_in_a_queue_is_counted(self):
+        world, entries = self.told(self.served, planning.datagrams, seed=3)
+        # Of two ports, 32 each, in one queue.
+        self.assertEqual(sum(it.call == "NtRequestPort" and it.status == statuses.SUCCESS for it in entries), 64)
+        self.assertEqual(sum(it.thing.queued for owned in world.handles.values() for it in owned.values()), 64)
+
+    @support.needs_program
+    def test_an_end_leaves_no_handle(self):
+        world, _ = self.told(self.served, planning.end)
+        self.assertEqual((world.handles, world.names), ({}, {}))
+
+
 class Hunts(support.WithFolder):
     def standin(self, code, name="standin"):
         """A program of this code."""
@@ -67,11 +133,11 @@ class Hunts(support.WithFolder):
     @support.needs_program
     def test_what_differs_is_shrunk_and_saved(self):
         saved = f"{self.folder.name}/new/cases"
-        ran = self.hunt("--program", self.wrong(GREATER), "--seed", "2", "--calls", "60", "--save", saved)
+        ran = self.hunt("--program", self.wrong(GREATER), "--seed", "1", "--calls", "60", "--save", saved)
         self.assertEqual((ran.returncode, ran.stderr), (1, ""), ran.stdout)
         self.assertIn("means: ", ran.stdout)
         self.assertIn("rule: ", ran.stdout)
-        (script,) = pathlib.Path(self.folder.name).glob("new/cases/hunt-2-*.script")
+        (script,) = pathlib.Path(self.folder.name).glob("new/cases/hunt-1-*.script")
         self.assertLessEqual(len(script.read_bytes().splitlines()), 8)
         self.assertIn(b"NtDuplicateObject", script.read_bytes().splitlines()[-1])
         wanted = script.with_suffix(".transcript").read_bytes()
@@ -80,7 +146,8 @@ class Hunts(support.WithFolder):
     @support.needs_program
     def test_the_seed_and_the_words_make_the_scripts(self):
         words = ("--program", self.wrong(GREATER), "--seed", "7", "--calls", "30")
-        told = [self.hunt(*words).stdout for _ in range(2)]
+        with unittest.mock.patch.object(hunt, "SHRINK_SECONDS", 0):
+            told = [self.hunt(*words).stdout for _ in range(2)]
         scripts = [[it for it in text.splitlines() if it.startswith("    ")] for text in told]
         self.assertTrue(scripts[0])
         self.assertEqual(*scripts)
@@ -88,7 +155,7 @@ class Hunts(support.WithFolder):
     @support.needs_program
     def test_names_are_left_out(self):
         ran = self.hunt("--program", self.wrong(GREATER), "--count", "2", "--without", "NtDuplicateObject,dir,NtClose")
-        self.assertEqual((ran.returncode, ran.stdout), (0, "no difference in 2 scripts of 400 lines, seed 1\n"))
+        self.assertEqual((ran.returncode, ran.stdout), (0, "no difference in 2 scripts of 600 lines, seed 1\n"))
 
     @support.needs_program
     def test_the_time_ends_it(self):
@@ -162,6 +229,19 @@ class Plain(unittest.TestCase):
                 continue
             with self.subTest(path.name):
                 self.assertEqual(self.of(path.read_bytes()).stdout, wanted)
+
+    def test_the_page_has_a_row_for_each_wrong_rule(self):
+        page = (support.ROOT / "docs" / "HUNTING.md").read_text(encoding="utf-8")
+        self.assertEqual(re.findall(r"^\| `([\w-]+)`: (.+?) \|", page, re.M), list(plain_rules.WRONGS.items()))
+        self.assertIn(f"has all {len(plain_rules.WRONGS)} of", page)
+
+    @support.needs_program
+    def test_wrong_rules_are_found(self):
+        for name in ("wake-first", "handles-by-age"):
+            command = f"{sys.executable} {support.TOOLS / 'tests' / 'plain.py'} --wrong {name}"
+            with unittest.mock.patch.object(hunt, "SHRINK_SECONDS", 0):
+                ran = support.inside("hunt", "--program", command, "--seed", "1", "--count", "9")
+            self.assertEqual((ran.returncode, ran.stderr), (1, ""), name)
 
     def test_a_wrong_rule_is_one_that_is_known(self):
         self.assertEqual(self.of(b"", "--wrong", "newest-first").returncode, 0)

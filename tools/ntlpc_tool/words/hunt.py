@@ -24,7 +24,7 @@ from ntlpc_tool import following, hunting, inputs, judge, needs, program, shrink
 from ntlpc_tool.conversation import Broken, Conversation, Stopped
 
 NAME = "hunt"
-COUNT, CALLS, MOST_CALLS = 100, 200, 100_000
+COUNT, CALLS, MOST_CALLS = 100, 300, 100_000
 # How long the tested program may run over one script, how long is shrunk at most, and between lines of progress.
 TIMEOUT, SHRINK_SECONDS, PROGRESS_SECONDS = 10, 120, 3
 
