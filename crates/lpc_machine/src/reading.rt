@@ -44,6 +44,7 @@ pub fn room_needed(world: &World) -> usize
 pub fn objects(world: &World) -> usize
     ensures { result ≡ found.objects world.now.rows }
 {
+    world.law_no_sections();
     let procs = world.procs();
     procs.processes() + procs.threads() + world.ports().count()
 }

@@ -65,6 +65,7 @@ impl World {
     pub fn law_no_sections(&self)
         ensures { self.now.rows.sections ≡ [] }
     {
+        // What a world is known to be is known once one of its tables is looked at.
         let _ = &self.procs;
     }
 
