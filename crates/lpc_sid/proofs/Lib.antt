@@ -1,0 +1,4 @@
+pub mod Bits
+pub mod Rights
+pub mod Numbers
+pub mod Spelled

@@ -1,0 +1,4 @@
+pub mod Spelling
+pub mod Laws
+pub mod Access
+pub mod WellKnown
