@@ -1,0 +1,81 @@
+// Effective tokens, and what of them is passed on.
+ghost use Rattle.std.specs.Prelude.{◌≡◌, ◌≤◌};
+ghost use Rattle.std.specs.Option.{option_copied};
+ghost use Rattle.lpc_tokens.specs.Tokens.{counts_as, effective, passed_on};
+
+use crate::level::DELEGATION;
+use crate::{Level, Qos};
+use lpc_sid::Token;
+
+/// The token of a client, as a server thread has it.
+#[derive(Clone, Debug, Drop, PartialEq, Eq)]
+pub struct Impersonation {
+    /// The client's token.
+    pub token: Token,
+    /// How far the thread may act as the client.
+    pub level: Level,
+}
+
+/// The token with which a thread acts.
+#[derive(Clone, Debug, Drop, PartialEq, Eq)]
+pub struct Effective {
+    /// The token.
+    pub token: Token,
+    /// The level of an impersonation token; None for a process's own token.
+    pub level: Option<Level>,
+}
+
+impl Impersonation {
+    /// The same once more. It takes no memory.
+    pub fn copy(&self) -> Impersonation
+        ensures { result ≡ self.now }
+    {
+        self.clone().unwrap()
+    }
+}
+
+impl Effective {
+    /// The same once more. It takes no memory.
+    pub fn copy(&self) -> Effective
+        ensures { result ≡ self.now }
+    {
+        self.clone().unwrap()
+    }
+
+    /// The level that the token counts as: its own, and for a process's own token the highest.
+    pub fn counts_as(&self) -> Level
+        ensures { result ≡ counts_as self.now }
+    {
+        self.level.unwrap_or(DELEGATION)
+    }
+}
+
+/// The token with which a thread acts: the one that it impersonates, else its process's.
+pub fn effective_token(primary: &Token, own: Option<&Impersonation>) -> Effective
+    ensures { result ≡ effective primary.now (option_copied own.entry) }
+{
+    match own {
+        None => Effective {
+            token: primary.copy(),
+            level: None,
+        },
+        Some(own) => Effective {
+            token: own.token.copy(),
+            level: Some(own.level),
+        },
+    }
+}
+
+/// What a server gets of its client: the client's token, with the lesser of the level that the client allows and the one
+/// that its token counts as. So nobody gets further than the client itself. The books on NT tell the level that is
+/// asked for; that it is the lesser of two is this project's own.
+pub fn pass_on(qos: &Qos, client: &Effective) -> Impersonation
+    ensures value { result ≡ passed_on qos.now client.now }
+    ensures asked { result.level ≤ qos.now.level }
+    ensures own { result.level ≤ counts_as client.now }
+{
+    Impersonation {
+        token: client.token.copy(),
+        level: qos.level.min(client.counts_as()),
+    }
+}
