@@ -56,12 +56,13 @@ fn are_granted(token: &Token, entries: &[Ace], wanted: u32) -> bool
     let mut left = wanted;
     for ace in entries {
         if token.has_sid(&ace.sid) {
+            let named = ace.mask & left;
             if ace.allow {
                 left &= !ace.mask;
                 if left == 0 {
                     return true;
                 }
-            } else if ace.mask & left != 0 {
+            } else if named != 0 {
                 return false;
             }
         }

@@ -2,7 +2,7 @@ use Rattle.std.proofs.Common.{◌+◌, ◌<◌, ◌∙◌, sym, ap, drop, length
 use Rattle.lpc_sid.specs.Access.{grants_left}
 use Rattle.lpc_sid.proofs.Rights.{read_over, read_allow, read_deny, all_granted}
 use Rattle.lpc_sid.proofs.access.are_granted.Goals as goal
-use Rattle.lpc_sid.proofs.access.are_granted.Goals.{then-has_sid+then-ace+else-left-eq0, then-has_sid+else-ace+else-ace-left-ne0, else-has_sid}
+use Rattle.lpc_sid.proofs.access.are_granted.Goals.{then-has_sid+then-ace+else-left-eq0, then-has_sid+else-ace+else-named-ne0, else-has_sid}
 
 pub returns-then-left-eq0 : goal.returns-then-left-eq0
 returns-then-left-eq0 c =
@@ -19,8 +19,8 @@ loop-ace-preserved c =
         cases = rw w.left-is (c.loop-ace.invariant.cases ∙ read_allow c.args.token.now c.loop-ace.left c.args.entries.now c.loop-ace.ace-index c.ace-item.result below c.ace-item.is c.loop-ace.invariant.wanting (sym c.has_sid.ensures ∙ w.if-has_sid.true) w.if-ace.true (omega arith) (omega arith));
         wanting = rw w.left-is w.if-left-eq0.false;
       }
-      | then-has_sid+else-ace+else-ace-left-ne0 w ↦ record {
-        cases = rw w.left-is (c.loop-ace.invariant.cases ∙ read_deny c.args.token.now c.loop-ace.left c.args.entries.now c.loop-ace.ace-index c.ace-item.result below c.ace-item.is c.loop-ace.invariant.wanting (sym c.has_sid.ensures ∙ w.if-has_sid.true) w.if-ace.false w.if-ace-left-ne0.false);
+      | then-has_sid+else-ace+else-named-ne0 w ↦ record {
+        cases = rw w.left-is (c.loop-ace.invariant.cases ∙ read_deny c.args.token.now c.loop-ace.left c.args.entries.now c.loop-ace.ace-index c.ace-item.result below c.ace-item.is c.loop-ace.invariant.wanting (sym c.has_sid.ensures ∙ w.if-has_sid.true) w.if-ace.false w.if-named-ne0.false);
         wanting = rw w.left-is c.loop-ace.invariant.wanting;
       }
       | else-has_sid w ↦ record {
