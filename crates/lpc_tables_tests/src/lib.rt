@@ -21,7 +21,11 @@ mod procs;
 #[cfg(test)]
 mod sections;
 #[cfg(test)]
+mod sid;
+#[cfg(test)]
 mod slots;
+#[cfg(test)]
+mod tokens;
 #[cfg(test)]
 mod views;
 #[cfg(test)]
