@@ -116,6 +116,12 @@ def creations(lines):
         yield "24 NtClose 12"
 
 
+def boots(lines):
+    """Processes are made, and stay: each with a thread and an empty table of handles."""
+    for process in range(1, lines + 1):
+        yield f"boot {process} {process}"
+
+
 def peak(process):
     """The highest resident size of a running process so far, in MiB; 0 where it has ended."""
     try:
@@ -180,6 +186,7 @@ def main():
             (closings, LONG),
             (endings, LONG),
             (creations, LONG),
+            (boots, LONG),
             (connects, SHORT),
         )
         for kind, sizes in kinds:

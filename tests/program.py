@@ -484,8 +484,9 @@ def memory_runs_out(program):
 
 
 def growth():
-    """Ten times the lines take about ten times as long, where a script leaves as many rows as it finds."""
-    for script in bench.requests, bench.datagrams, bench.closings:
+    """Ten times the lines take about ten times as long, where a script leaves as many rows as it finds, and where it makes
+    processes alone."""
+    for script in bench.requests, bench.datagrams, bench.closings, bench.boots:
         yield f"time grows with the lines: {script.__name__}", grows_with_lines(script)
 
 
