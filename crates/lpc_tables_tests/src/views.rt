@@ -33,7 +33,8 @@ fn maps(
     requires aligned { asked.offset % 4096 ≡ 0 }
     requires room { 0 < space.old.spare }
     ensures room { space.old.spare ≤ space.new.spare + 1 }
-    ensures mapped { AreMapped sections.now space.old.views → AreMapped sections.now space.new.views }
+    ensures mapped { AreMapped sections.now space.old.views
+        → AreMapped sections.now space.new.views }
 {
     let answer = space.map(
         sections,

@@ -36,7 +36,10 @@ impl<P: Copy> Model for Space<P> {
 
     ghost coded = { views_code P.code };
 
-    ghost view = { λ s. record { views = s.views.items; spare = vec_capacity s.views - vec_len s.views } };
+    ghost view = { λ s. record {
+      views = s.views.items;
+      spare = vec_capacity s.views - vec_len s.views;
+    } };
 
     ghost invariant = { λ s. IsSpace s.views.items };
 }
@@ -91,7 +94,8 @@ impl<P: Copy + Eq> Space<P> {
             (row_at sections.now section) ≡ Some result }
         ensures views { IfOk result (λ view. self.new.views ≡ self.old.views ++ view ∷ []) }
         ensures inside { IfOk result (λ view. is_mapped sections.now view ≡ true) }
-        ensures mapped { AreMapped sections.now self.old.views → AreMapped sections.now self.new.views }
+        ensures mapped { AreMapped sections.now self.old.views
+            → AreMapped sections.now self.new.views }
         ensures spare { OnOk result (self.new.spare + 1 ≡ self.old.spare) }
         ensures same { OnErr result (self.new ≡ self.old) }
     {
@@ -122,7 +126,8 @@ impl<P: Copy + Eq> Space<P> {
     /// changes.
     pub fn unmap(&mut self, address: u32) -> Option<View<P>>
         ensures view { result ≡ view_at self.old.views address }
-        ensures views { IfSome result (λ view. self.new.views ≡ without (lies_at view.base) self.old.views) }
+        ensures views { IfSome result (λ view.
+            self.new.views ≡ without (lies_at view.base) self.old.views) }
         ensures one { self.new.views ≡ without_first (holds address 1) self.old.views }
         ensures spare { OnSome result (self.new.spare ≡ self.old.spare + 1) }
         ensures same { IfNone result (self.new ≡ self.old) }
@@ -143,7 +148,8 @@ impl<P: Copy + Eq> Space<P> {
     /// none, and then nothing changes.
     pub fn take_owned(&mut self, owner: P) -> Option<View<P>>
         ensures view { result ≡ lowest_owned P.eq owner self.old.views }
-        ensures views { IfSome result (λ view. self.new.views ≡ without (lies_at view.base) self.old.views) }
+        ensures views { IfSome result (λ view.
+            self.new.views ≡ without (lies_at view.base) self.old.views) }
         ensures spare { OnSome result (self.new.spare ≡ self.old.spare + 1) }
         ensures same { IfNone result (self.new ≡ self.old) }
     {
@@ -186,7 +192,8 @@ impl<P: Copy + Eq> Space<P> {
     ) -> Result<&'a [u8], Fault>
         requires mapped { AreMapped sections.now self.now.views }
         ensures bytes { let view = view_of self.now.views address len in
-            IfOk result (λ bytes. option_map (seen sections.now address len) view ≡ Some bytes.now) }
+            IfOk result (λ bytes.
+            option_map (seen sections.now address len) view ≡ Some bytes.now) }
         ensures len { IfOk result (λ bytes. length bytes.now ≡ len) }
         ensures fault { IsErr result ↔ (view_of self.now.views address len ≡ None) }
     {
@@ -242,7 +249,8 @@ impl<P: Copy + Eq> Space<P> {
     fn view_of(&self, address: u32, len: u32) -> Option<View<P>>
         ensures view { result ≡ view_of self.now.views address len }
         ensures low { IfSome result (λ view. view.base ≤ address) }
-        ensures within { IfSome result (λ view. offset_of view address + len ≤ view.offset + view.size) }
+        ensures within { IfSome result (λ view.
+            offset_of view address + len ≤ view.offset + view.size) }
         ensures placed { IfSome result (λ view. is_placed view ≡ true) }
     {
         self.views
