@@ -1,5 +1,6 @@
 """What the definitions and contracts below crates/ say, as far as tests hold pages against it: limits, statuses, the
 refusals of each service in their order, and the names of clauses."""
+import math
 import pathlib
 import re
 
@@ -9,7 +10,7 @@ FUNCTION = re.compile(r"\bfn (\w+)")
 CLAUSE = re.compile(r"^\s*ensures (\w+) \{")
 OWNER = re.compile(r"^(?:impl(?:<.*?>)? (?:\w+(?:<.*?>)? for )?|pub trait )(\w+)")
 # A row that is looked for by the name that a handle has. It stands, as a law says, so this refuses nothing.
-STANDING_ROW = re.compile(r"found_or \((?:port_row|first \(is_born_(?:thread|process)) [^\n]*")
+STANDING_ROW = re.compile(r"found_or \((?:port_row|section_row|first \(is_born_(?:thread|process)) [^\n]*")
 # How the name space is walked: what each of its calls refuses, in order. `walk` is met from the root on.
 FORM = ["PathSyntax", "NameInvalid"]
 WALK = [*FORM, "PathNotFound", "NameInvalid"]
@@ -29,9 +30,10 @@ def text_of(crate, folder, ending):
 def profile():
     """The limits by their names, and the numbers of the statuses, 8 capital hexadecimal digits, by theirs."""
     text = text_of("lpc_base", "specs", "antt")
-    limits = re.findall(r"^  pub \w+ : (\w+) ≡ ([\d_]+)$", text, re.M)
+    limits = re.findall(r"^  pub \w+ : (\w+) ≡ (0x[0-9A-F_]+|[\d_]+(?: \* [\d_]+)*)$", text, re.M)
     statuses = re.findall(r"^  pub \w+ : (\w+)\.0 ≡ 0x([0-9A-F_]+)$", text, re.M)
-    return {name: int(it) for name, it in limits}, {name: it.replace("_", "") for name, it in statuses}
+    numbers = {name: math.prod(int(factor, 0) for factor in it.split(" * ")) for name, it in limits}
+    return numbers, {name: it.replace("_", "") for name, it in statuses}
 
 
 def bodies(crate):

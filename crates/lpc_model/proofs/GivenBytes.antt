@@ -22,9 +22,9 @@ use Rattle.lpc_model.specs.declared.fault.LineFault.{LineFault}
 use Rattle.lpc_model.specs.declared.fault.LineFault.TheVariants as fault
 use Rattle.lpc_model.specs.Then.{◌>>=◌}
 use Rattle.lpc_model.specs.Message.{bytes_of, message_of}
-use Rattle.lpc_model.specs.Lines.{ScriptCall, ScriptLine, accept_connect_port, reply_port, reply_wait_receive_port, request_port, request_wait_reply_port, run}
+use Rattle.lpc_model.specs.Lines.{ScriptCall, ScriptLine, accept_connect_port, reply_port, reply_wait_receive_port, request_port, request_wait_reply_port, run, write_virtual_memory}
 use Rattle.lpc_model.specs.Words.{begins, split_once, hex_message, hex_or_fault, hex_word, id_word, info_word, message_word, number_word, parts, reply_message, three_parts, words}
-use Rattle.lpc_model.specs.Grammar.{accept_word, access_word, call_line, call_named, call_words, directive_line, directive_named, directive_words, four_words, given_message, handle_and_message, handle_and_reply, is_printable, one_handle, one_or_two_words, one_word, qos_word, read_line, starts_call, process_and_thread, target_and_code, target_and_thread, thread_call, two_words, view_word, words_line}
+use Rattle.lpc_model.specs.Grammar.{accept_word, access_word, call_line, call_named, call_words, directive_line, directive_named, directive_words, four_words, given_message, handle_and_message, handle_and_reply, is_printable, one_handle, one_or_two_words, one_word, qos_word, read_line, starts_call, process_and_thread, target_and_code, target_and_thread, thread_call, two_words, view_word, words_line, address_and_bytes, four_numbers, two_numbers}
 use Rattle.lpc_model.specs.Run.{numbered_line, said_from, unless_faulty}
 
 abbrev pub AreBytes : List ℕ → Type 0
@@ -106,13 +106,14 @@ message_bytes text =
     (choice_gives AreBytes (begins (codes "d:") text) (hex_message (record { process = 0; thread = 0 }) 0 (drop 2 text)) _ (made_bytes (record { process = 0; thread = 0 }) 0 (drop 2 text))
     (choice_gives AreBytes (begins (codes "r:") text) (reply_message (drop 2 text)) (Err fault.Message) (reply_bytes (drop 2 text)) tt))
 
--- What a line gives: the message of each call that has one
+-- What a line gives: the message of each call that has one, and the bytes that one writes
 abbrev pub HasBytes : ScriptCall → Type 0
 HasBytes (accept_connect_port context bytes accept) = AreBytes bytes
 HasBytes (request_port handle bytes) = AreBytes bytes
 HasBytes (request_wait_reply_port handle bytes) = AreBytes bytes
 HasBytes (reply_port handle bytes) = AreBytes bytes
 HasBytes (reply_wait_receive_port handle (Some bytes)) = AreBytes bytes
+HasBytes (write_virtual_memory address bytes) = AreBytes bytes
 HasBytes call = Unit {0}
 
 abbrev pub GivesBytes : ScriptLine → Type 0
@@ -140,6 +141,12 @@ reply_gives others =
     let P : ℕ × Option (List ℕ) → Type 0 = λ two. HasBytes (reply_wait_receive_port two.0 two.1) in
     then_gives (one_or_two_words others) _ P (λ two _. then_gives (number_word two.0) _ P (λ handle _. then_gives (given_message two.1) _ P (λ reply is.
     gives_ok (λ reply. HasBytes (reply_wait_receive_port handle reply)) (given_message two.1) reply (given_bytes handle two.1) is)))
+
+written_gives : (others : List (List ℕ)) → Gives (λ two. AreBytes two.1) (address_and_bytes others)
+written_gives others =
+    let P : ℕ × List ℕ → Type 0 = λ two. AreBytes two.1 in
+    then_gives (two_words others) _ P (λ two _. then_gives (number_word two.0) _ P (λ address _. then_gives (hex_word two.1) _ P (λ bytes is.
+    gives_ok AreBytes (hex_word two.1) bytes (hex_bytes two.1) is)))
 
 call_gives : (name : CallName) (others : List (List ℕ)) → Gives HasBytes (call_words name others)
 unfolding call_words
@@ -169,6 +176,11 @@ call_gives call.NtCreateProcess others = then_gives (process_and_thread others) 
 call_gives call.NtCreateThread others = then_gives (target_and_thread others) _ HasBytes (λ _ _. tt)
 call_gives call.NtTerminateThread others = then_gives (target_and_code others) _ HasBytes (λ _ _. tt)
 call_gives call.NtTerminateProcess others = then_gives (target_and_code others) _ HasBytes (λ _ _. tt)
+call_gives call.NtCreateSection others = then_gives (two_numbers others) _ HasBytes (λ _ _. tt)
+call_gives call.NtMapViewOfSection others = then_gives (four_numbers others) _ HasBytes (λ _ _. tt)
+call_gives call.NtUnmapViewOfSection others = then_gives (one_handle others) _ HasBytes (λ _ _. tt)
+call_gives call.NtReadVirtualMemory others = then_gives (two_numbers others) _ HasBytes (λ _ _. tt)
+call_gives call.NtWriteVirtualMemory others = then_gives (address_and_bytes others) _ HasBytes (λ two is. gives_ok (λ (two : ℕ × List ℕ). AreBytes two.1) (address_and_bytes others) two (written_gives others) is)
 
 directive_gives : (name : Word) (others : List (List ℕ)) → Gives GivesBytes (directive_words name others)
 unfolding directive_words

@@ -6,12 +6,13 @@ use Rattle.std.proofs.lemmas.Bool.{le-leb, lt-ltb}
 use Rattle.lpc_base.specs.declared.status.Status.{Status}
 use Rattle.lpc_base.specs.declared.status.TheConstants.{PORT_MESSAGE_TOO_LONG, QUOTA_EXCEEDED}
 use Rattle.lpc_message.specs.Layout.{header_of}
-use Rattle.lpc_model.specs.Found.{datagrams, live_count}
+use Rattle.lpc_model.specs.Found.{datagrams, live_count, views_of}
+use Rattle.lpc_model.specs.Memory.{section_load}
 use Rattle.lpc_model.specs.Message.{message_test}
 use Rattle.lpc_model.specs.Refusal.{refuse_if}
 use Rattle.lpc_model.specs.Tests.{handle_load}
 use Rattle.lpc_model.specs.Creation.{live_children}
-use Rattle.lpc_model.specs.Limits.{LimitsChildren, LimitsDatagrams, LimitsHandles, LimitsInfo, LimitsMessages, LimitsRegistrations, LimitsThreads, LimitsTwoHandles}
+use Rattle.lpc_model.specs.Limits.{LimitsChildren, LimitsDatagrams, LimitsHandles, LimitsInfo, LimitsMessages, LimitsRegistrations, LimitsSections, LimitsThreads, LimitsTwoHandles, LimitsViews}
 
 passes : (b : Bool) (s : Status) → b ≡ false → refuse_if b s ≡ Ok tt
 passes b s is = rw is refl
@@ -66,6 +67,18 @@ pub limits_registrations : LimitsRegistrations
 limits_registrations by port off = record {
   below = λ few. passes _ QUOTA_EXCEEDED (new-off _ _ (at-off 16 (length by.registrations) few));
   reached = λ many. refuses _ QUOTA_EXCEEDED (new-on _ _ off (le-leb 16 (length by.registrations) many));
+}
+
+pub limits_views : LimitsViews
+limits_views w pid = record {
+  below = λ few. passes _ QUOTA_EXCEEDED (at-off 128 (length (views_of w pid)) few);
+  reached = λ many. refuses _ QUOTA_EXCEEDED (le-leb 128 (length (views_of w pid)) many);
+}
+
+pub limits_sections : LimitsSections
+limits_sections w pid size = record {
+  below = λ few. passes _ QUOTA_EXCEEDED (past-off 4194304 (section_load w pid + size) (omega (arith, few)));
+  reached = λ many. refuses _ QUOTA_EXCEEDED (lt-ltb 4194304 (section_load w pid + size) (omega (arith, many)));
 }
 
 pub limits_messages : LimitsMessages

@@ -33,6 +33,8 @@ use Rattle.lpc_model.proofs.Sound.Terminate.{IsSafe}
 use Rattle.lpc_model.proofs.Lives.Handles.{living_step}
 use Rattle.lpc_model.proofs.Lives.KeptPairs.{pairs_step}
 use Rattle.lpc_model.proofs.Lives.Bare.{bare}
+use Rattle.lpc_model.proofs.Views.Lines.{views_none, views_step}
+use Rattle.lpc_model.specs.SoundViews.{HasSoundViews, RunKeepsViews}
 use Rattle.lpc_model.proofs.Lives.Registrations.{living_registrations_step}
 use Rattle.lpc_model.proofs.Lives.SingleRegistrations.{single_step}
 
@@ -51,6 +53,7 @@ lawful_none = record {
   single = refl;
   living = refl;
   views = refl;
+  sound_views = views_none;
   pairs = refl;
 }
 
@@ -69,6 +72,7 @@ lawful_step w line t = let shut = t.single_closings in let safe : IsSafe w = rec
   single = single_step w line t.sound t.threads t.single;
   living = living.handles;
   views = living.views;
+  sound_views = views_step w line t.sound shut.connects t.sound_views;
   pairs = pairs_step w line safe t.pairs;
 }
 
@@ -132,3 +136,6 @@ living_registrations_run bytes = trace-keeps HasLivingRegistrations (λ w t. t.r
 
 pub single_registrations_run : (bytes : List ℕ) → RunHasSingleRegistrations bytes
 single_registrations_run bytes = trace-keeps HasSingleRegistrations (λ w t. t.single) no_rows (said_in bytes) lawful_none
+
+pub views_run : (bytes : List ℕ) → RunKeepsViews bytes
+views_run bytes = trace-keeps HasSoundViews (λ w t. t.sound_views) no_rows (said_in bytes) lawful_none

@@ -4,4 +4,5 @@ pub mod Connections
 pub mod Closings
 pub mod Endings
 pub mod Creations
+pub mod Views
 pub mod Neighbours

@@ -9,12 +9,12 @@ use Rattle.lpc_model.specs.declared.entry.Outcome.TheVariants as outcome
 use Rattle.lpc_base.specs.Rows.{change, each, when, which, without, without_first}
 use Rattle.lpc_names.specs.Binding.{is_name}
 use Rattle.lpc_model.specs.declared.entry.ObjectKind.TheVariants as kind
-use Rattle.lpc_model.specs.World.{World, Birth, CallName, ObjectKind, ObjectName, ProcessRow, ThreadRow, UsedThread, HandleRow, HandleTable, PortRow, MessageRow, WaitKind, WaitRow, Accepted, Connect, Node, Path, SectionRow, ContentRow, Contents, Known, Unknown, ViewRow}
-use Rattle.lpc_model.specs.Found.{has_value, is_content, is_own_of, is_section, is_view, is_view_in, is_paired_to, is_port, is_queued, is_queued_connect, is_table, is_thread, same_birth, waits_as, waits_at}
+use Rattle.lpc_model.specs.World.{World, Birth, CallName, ObjectKind, ObjectName, ProcessRow, ThreadRow, UsedThread, HandleRow, HandleTable, PortRow, MessageRow, WaitKind, WaitRow, Accepted, Connect, Node, Path, SectionRow, ContentRow, Contents, Known, Unknown, ViewRow, ViewTable}
+use Rattle.lpc_model.specs.Found.{has_value, is_content, is_own_of, is_section, is_space, lies_at, is_paired_to, is_port, is_queued, is_queued_connect, is_table, is_thread, same_birth, waits_as, waits_at}
 
 -- An entry, or one change of the rows that belong together: a wait that ends, with its entry; a thread that ends, with
--- its entry and its wait; the two ends of a pair; a process, with its number and its empty table of handles; a thread,
--- with its number; or else one row.
+-- its entry and its wait; the two ends of a pair; a process, with its number and its empty tables of handles and views; a
+-- thread, with its number; or else one row.
 pub data Basic : Type 0 where
   -- an entry of the line's own thread or directive
   Tells : Entry → Basic
@@ -40,7 +40,7 @@ pub data Basic : Type 0 where
   -- a port is registered with a thread; the registration goes
   Registers : ℕ → Birth → Basic
   Unregisters : ℕ → Birth → Basic
-  -- a row is made; the number of a process or thread is used from then on, and a process begins without handles
+  -- a row is made; the number of a process or thread is used from then on, and a process begins without handles and views
   AddsProcess : ProcessRow → Basic
   AddsThread : ThreadRow → Basic
   Makes : PortRow → Basic
@@ -60,8 +60,8 @@ pub data Basic : Type 0 where
   -- a section is made, whose bytes are zeros; bytes of a section are written from a place on
   AddsSection : SectionRow → Basic
   Writes : Birth → ℕ → List ℕ → Basic
-  -- a view is mapped; the view of a process at a base goes; all views of a process go
-  Maps : ViewRow → Basic
+  -- a process gets a view; its view at a base goes; all its views go
+  Maps : ℕ → ViewRow → Basic
   Unmaps : ℕ → ℕ → Basic
   DropsViewsOf : ℕ → Basic
 
@@ -136,13 +136,28 @@ without_handle value t = record t { rows = without_first (has_value value) t.row
 abbrev pub no_handles : ℕ → HandleTable
 no_handles pid = record { process = pid; rows = [] }
 
+-- views with one more, behind the others
+abbrev pub with_view : ViewRow → ViewTable → ViewTable
+with_view v t = record t { rows = t.rows ++ v ∷ [] }
+
+-- views without the one at a base, and a process without any
+abbrev pub without_view : ℕ → ViewTable → ViewTable
+without_view base t = record t { rows = without (lies_at base) t.rows }
+
+abbrev pub without_views : ViewTable → ViewTable
+without_views t = record t { rows = [] }
+
+-- a new process, without views
+abbrev pub no_views : ℕ → ViewTable
+no_views pid = record { process = pid; rows = [] }
+
 -- the bytes of a new section
 abbrev pub zeros : SectionRow → ContentRow
 zeros s = record { section = s.birth; bytes = replicate s.size 0 }
 
--- bytes with others in place of those from a place on
+-- bytes with others in place of as many from a place on; what would pass the end is left out
 abbrev pub overwritten : ℕ → List ℕ → List ℕ → List ℕ
-overwritten place new old = take place old ++ (new ++ drop (place + length new) old)
+overwritten place new old = take (length old) (take place old ++ (new ++ drop (place + length new) old))
 
 abbrev pub written : ℕ → List ℕ → ContentRow → ContentRow
 written place new c = record c { bytes = overwritten place new c.bytes }
@@ -184,6 +199,7 @@ basic w (AddsProcess p) =
       processes = w.processes ++ p ∷ [];
       used_processes = w.used_processes ++ p.number ∷ [];
       handles = w.handles ++ no_handles p.number ∷ [];
+      views = w.views ++ no_views p.number ∷ [];
     }
 basic w (AddsThread t) =
     record w { threads = w.threads ++ t ∷ []; used_threads = w.used_threads ++ used t ∷ [] }
@@ -200,9 +216,9 @@ basic w (AddsSection s) =
     record w { sections = w.sections ++ s ∷ []; contents = in_known (λ rows. rows ++ zeros s ∷ []) w.contents }
 basic w (Writes b place new) =
     record w { contents = in_known (change (is_content b) (written place new)) w.contents }
-basic w (Maps v) = record w { views = w.views ++ v ∷ [] }
-basic w (Unmaps pid base) = record w { views = without (is_view pid base) w.views }
-basic w (DropsViewsOf pid) = record w { views = without (is_view_in pid) w.views }
+basic w (Maps pid v) = record w { views = change (is_space pid) (with_view v) w.views }
+basic w (Unmaps pid base) = record w { views = change (is_space pid) (without_view base) w.views }
+basic w (DropsViewsOf pid) = record w { views = change (is_space pid) without_views w.views }
 
 -- the entries that a basic step makes
 abbrev pub told : Basic → List Entry

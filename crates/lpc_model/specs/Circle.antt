@@ -12,10 +12,10 @@ use Rattle.lpc_names.specs.declared.names.Found.{Found}
 use Rattle.lpc_names.specs.declared.names.Found.TheVariants.{Directory, Item as PortThere}
 use Rattle.lpc_model.specs.declared.entry.Entry.{Entry}
 use Rattle.lpc_model.specs.declared.entry.Entry.TheVariants.{Answer, Busy, Died, Directive, NoThread, Waits, Wakes}
-use Rattle.lpc_model.specs.World.{Birth, PortRow, ProcessRow, UsedThread, ViewRow, World}
-use Rattle.lpc_model.specs.Found.{is_used_thread, same_birth, shows_section, was_process}
+use Rattle.lpc_model.specs.World.{Birth, PortRow, ProcessRow, UsedThread, ViewRow, ViewTable, World}
+use Rattle.lpc_model.specs.Found.{is_used_thread, same_birth, shows_section, views_of, was_process}
 use Rattle.lpc_model.specs.Basics.{Basic, Writes}
-use Rattle.lpc_model.specs.Lines.{ScriptCall, ScriptLine, accept_connect_port, boot, complete_connect_port, connect_port, create_port, dir, link, listen_port, close, duplicate_object, query_object, create_process, create_thread, register_thread_terminate_port, reply_port, reply_wait_receive_port, request_port, request_wait_reply_port, run, terminate_process, terminate_thread, thread}
+use Rattle.lpc_model.specs.Lines.{ScriptCall, ScriptLine, accept_connect_port, boot, complete_connect_port, connect_port, create_port, dir, link, listen_port, close, duplicate_object, query_object, create_process, create_thread, register_thread_terminate_port, reply_port, reply_wait_receive_port, request_port, request_wait_reply_port, run, terminate_process, terminate_thread, thread, create_section, map_view_of_section, unmap_view_of_section, read_virtual_memory, write_virtual_memory}
 use Rattle.lpc_model.specs.Linked.{passes_or_none}
 use Rattle.lpc_model.specs.Machine.{step, steps}
 use Rattle.lpc_model.specs.Run.{Along, State, first_state, said_in, world_behind}
@@ -201,11 +201,16 @@ is_fine_call group w (create_process pid tid) = is_no_outsider group w pid && is
 is_fine_call group w (create_thread target tid) = is_no_outsiders_thread group w tid
 is_fine_call group w (terminate_thread target code) = true
 is_fine_call group w (terminate_process target code) = true
+is_fine_call group w (create_section size prot) = true
+is_fine_call group w (map_view_of_section handle offset size prot) = true
+is_fine_call group w (unmap_view_of_section address) = true
+is_fine_call group w (read_virtual_memory address n) = true
+is_fine_call group w (write_virtual_memory address new) = true
 
 -- The circle: what c may see of sections
--- an outsider has a view of the section; a step writes it
-abbrev pub is_outsiders_view : Group → Birth → ViewRow → Bool
-is_outsiders_view group b v = not (group v.process) && shows_section b v
+-- the views are an outsider's, and one of them is of the section; a step writes the section
+abbrev pub outsider_sees : Group → Birth → ViewTable → Bool
+outsider_sees group b t = not (group t.process) && has (shows_section b) t.rows
 
 abbrev pub is_write_of : Birth → Basic → Bool
 is_write_of b (Writes section place new) = same_birth section b
@@ -214,22 +219,22 @@ is_write_of b s = false
 -- A section is outer at a line where an outsider has a view of it by then, or the line is an outsider's and writes it.
 abbrev pub is_outer_at : Group → World → ScriptLine → Birth → Bool
 is_outer_at group w line b =
-    has (is_outsiders_view group b) w.views
+    has (outsider_sees group b) w.views
     || (not (is_seen group (line_whose w line)) && has (is_write_of b) (steps line w))
 
 -- it is outer in a run of lines where it is at some line, or an outsider has a view of it behind the last
 abbrev pub is_outer : Group → State → List (Option ScriptLine) → Birth → Bool
-is_outer group w [] b = has (is_outsiders_view group b) w.views
+is_outer group w [] b = has (outsider_sees group b) w.views
 is_outer group w (None ∷ later) b = is_outer group w later b
 is_outer group w (Some line ∷ later) b =
     is_outer_at group w line b || is_outer group (step w line).world later b
 
 -- c has no view of a section that is outer in the run: at no line, and not behind the last
-abbrev pub is_inner_view : ℕ → (Birth → Bool) → ViewRow → Bool
-is_inner_view c outer v = not (v.process == c) || not (outer v.section)
+abbrev pub is_inner_view : (Birth → Bool) → ViewRow → Bool
+is_inner_view outer v = not (outer v.section)
 
 abbrev pub HasInnerViews : ℕ → (Birth → Bool) → World → Type 0
-HasInnerViews c outer w = every (is_inner_view c outer) w.views ≡ true
+HasInnerViews c outer w = every (is_inner_view outer) (views_of w c) ≡ true
 
 abbrev pub SeesInner : ℕ → (Birth → Bool) → State → List (Option ScriptLine) → Type 0
 SeesInner c outer w lines =

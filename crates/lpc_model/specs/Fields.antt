@@ -30,6 +30,15 @@ max n = record { name = name.Max; value = Number n }
 abbrev pub info : List ℕ → Field
 info bytes = record { name = name.Info; value = Bytes (record { items = bytes }) }
 
+-- bytes that a call read
+abbrev pub bytes_read : List ℕ → Field
+bytes_read bytes = record { name = name.Data; value = Bytes (record { items = bytes }) }
+
+-- the base and the size of a view
+abbrev pub view_fields : ℕ → ℕ → List Field
+view_fields base size =
+    record { name = name.Base; value = Hex base } ∷ record { name = name.Size; value = Number size } ∷ []
+
 -- a message, header and data
 abbrev pub msg : Message → Field
 msg m = record { name = name.Msg; value = Bytes (record { items = bytes_of m }) }

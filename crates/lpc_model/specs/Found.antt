@@ -1,5 +1,5 @@
 -- What is found in the world: filters and counts of its rows.
-use Rattle.std.specs.Prelude.{ℕ, ◌==◌, ◌&&◌, ◌||◌, ◌+◌, ◌++◌, Bool, true, false, not, List, [], length, map, Option, Some, None, is_none, option_and_then, if◌then◌else◌}
+use Rattle.std.specs.Prelude.{ℕ, nat_le, ◌==◌, ◌&&◌, ◌||◌, ◌+◌, ◌++◌, Bool, true, false, not, List, [], length, map, Option, Some, None, is_none, option_and_then, if◌then◌else◌}
 use Rattle.lpc_base.specs.Places.{least_handle}
 use Rattle.lpc_model.specs.declared.entry.ObjectKind.TheVariants as kind
 use Rattle.lpc_base.specs.declared.port_kind.PortKind.TheVariants.{Client, Connection, Server}
@@ -8,7 +8,7 @@ use Rattle.lpc_base.specs.Rows.{each, first, has, count, passes, when, which}
 use Rattle.lpc_message.specs.declared.kind.TheConstants.{DATAGRAM}
 use Rattle.lpc_message.specs.declared.message.ClientId.{ClientId}
 use Rattle.lpc_model.specs.Message.{asks, is_connection_request}
-use Rattle.lpc_model.specs.World.{World, Birth, ObjectKind, ObjectName, Message, ProcessRow, ThreadRow, HandleRow, HandleTable, PortRow, MessageRow, WaitRow, UsedThread, SectionRow, ContentRow, ViewRow, Accepted, Connect, Listen, Receive, Request}
+use Rattle.lpc_model.specs.World.{World, Birth, ObjectKind, ObjectName, Message, ProcessRow, ThreadRow, HandleRow, HandleTable, PortRow, MessageRow, WaitRow, UsedThread, SectionRow, ContentRow, Contents, Known, Unknown, ViewRow, ViewTable, Accepted, Connect, Listen, Receive, Request}
 
 -- Names
 -- an optional name is this one
@@ -197,20 +197,44 @@ is_section b s = same_birth s.birth b
 abbrev pub is_content : Birth → ContentRow → Bool
 is_content b c = same_birth c.section b
 
+-- the bytes of a section, where they are known
+abbrev pub bytes_in : Option ContentRow → List ℕ
+bytes_in None = []
+bytes_in (Some c) = c.bytes
+
+abbrev pub content_of : Contents → Birth → List ℕ
+content_of Unknown b = []
+content_of (Known rows) b = bytes_in (first (is_content b) rows)
+
 -- the section row with a birth
 abbrev pub section_row : World → Birth → Option SectionRow
 section_row w b = first (is_section b) w.sections
 
--- a view of a process; its view at a base
-abbrev pub is_view_in : ℕ → ViewRow → Bool
-is_view_in pid v = v.process == pid
-
-abbrev pub is_view : ℕ → ℕ → ViewRow → Bool
-is_view pid base v = is_view_in pid v && (v.base == base)
-
 -- the views of a process
+abbrev pub is_space : ℕ → ViewTable → Bool
+is_space pid t = t.process == pid
+
+abbrev pub views_in : Option ViewTable → List ViewRow
+views_in None = []
+views_in (Some t) = t.rows
+
 abbrev pub views_of : World → ℕ → List ViewRow
-views_of w pid = which (is_view_in pid) w.views
+views_of w pid = views_in (first (is_space pid) w.views)
+
+-- the views of all processes
+abbrev pub all_views : World → List ViewRow
+all_views w = each (λ t. t.rows) w.views
+
+-- the view that lies at a base
+abbrev pub lies_at : ℕ → ViewRow → Bool
+lies_at base v = v.base == base
+
+-- the view of a process that holds so many bytes from an address on
+abbrev pub holds_range : ℕ → ℕ → ViewRow → Bool
+holds_range address n v = nat_le v.base address && nat_le (address + n) (v.base + v.size)
+
+abbrev pub view_holding : World → ℕ → ℕ → ℕ → Option ViewRow
+view_holding w pid address n = first (holds_range address n) (views_of w pid)
 
 -- a view shows the section
 abbrev pub shows_section : Birth → ViewRow → Bool
@@ -375,7 +399,7 @@ holders w kind.Port b =
     count (is_paired_to b) w.ports + (count (is_connected_to b) w.ports
     + (count (is_sent_on b) w.messages + (count (is_made_on b) w.waits
     + count (same_birth b) (all_registrations w))))
-holders w kind.Section b = count (shows_section b) w.views
+holders w kind.Section b = count (shows_section b) (all_views w)
 holders w kind.Token b = 0
 holders w kind.Process b = count (lives_by w b) w.threads
 holders w kind.Thread b = count (is_life b) w.threads

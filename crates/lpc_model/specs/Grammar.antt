@@ -6,14 +6,14 @@ use Rattle.std.specs.Option.{ok_or}
 use Rattle.std.specs.Str.{bytes_eq}
 use Rattle.lpc_base.specs.declared.limits.TheConstants.{LINE_LIMIT}
 use Rattle.lpc_model.specs.declared.entry.CallName.{CallName}
-use Rattle.lpc_model.specs.declared.entry.CallName.TheVariants.{NtCreatePort, NtConnectPort, NtListenPort, NtAcceptConnectPort, NtCompleteConnectPort, NtRequestPort, NtRequestWaitReplyPort, NtReplyPort, NtReplyWaitReceivePort, NtRegisterThreadTerminatePort, NtClose, NtDuplicateObject, NtQueryObject, NtCreateProcess, NtCreateThread, NtTerminateProcess, NtTerminateThread}
+use Rattle.lpc_model.specs.declared.entry.CallName.TheVariants.{NtCreatePort, NtConnectPort, NtListenPort, NtAcceptConnectPort, NtCompleteConnectPort, NtRequestPort, NtRequestWaitReplyPort, NtReplyPort, NtReplyWaitReceivePort, NtRegisterThreadTerminatePort, NtClose, NtDuplicateObject, NtQueryObject, NtCreateProcess, NtCreateThread, NtTerminateProcess, NtTerminateThread, NtCreateSection, NtMapViewOfSection, NtUnmapViewOfSection, NtReadVirtualMemory, NtWriteVirtualMemory}
 use Rattle.lpc_model.specs.declared.entry.Word.{Word}
 use Rattle.lpc_model.specs.declared.entry.Word.TheVariants.{Boot, Thread, Dir, Link}
 use Rattle.lpc_model.specs.declared.line.ProcArg.TheVariants.{By, Current}
 use Rattle.lpc_model.specs.declared.fault.LineFault.{LineFault}
 use Rattle.lpc_model.specs.declared.fault.LineFault.TheVariants as fault
-use Rattle.lpc_model.specs.Lines.{ScriptCall, create_port, connect_port, listen_port, accept_connect_port, complete_connect_port, request_port, request_wait_reply_port, reply_port, reply_wait_receive_port, register_thread_terminate_port, close, duplicate_object, query_object, create_process, create_thread, terminate_process, terminate_thread, ProcArg, ScriptLine, boot, thread, dir, link, run}
-use Rattle.lpc_model.specs.Words.{fault_if, words, begins, number_word, id_word, is_id, message_word, info_word}
+use Rattle.lpc_model.specs.Lines.{ScriptCall, create_port, connect_port, listen_port, accept_connect_port, complete_connect_port, request_port, request_wait_reply_port, reply_port, reply_wait_receive_port, register_thread_terminate_port, close, duplicate_object, query_object, create_process, create_thread, terminate_process, terminate_thread, create_section, map_view_of_section, unmap_view_of_section, read_virtual_memory, write_virtual_memory, ProcArg, ScriptLine, boot, thread, dir, link, run}
+use Rattle.lpc_model.specs.Words.{fault_if, hex_word, words, begins, number_word, id_word, is_id, message_word, info_word}
 use Rattle.lpc_model.specs.Text.{call_text, word_text}
 use Rattle.lpc_model.specs.Then.{◌>>=◌}
 
@@ -37,6 +37,11 @@ calls =
     ∷ NtCreateThread
     ∷ NtTerminateThread
     ∷ NtTerminateProcess
+    ∷ NtCreateSection
+    ∷ NtMapViewOfSection
+    ∷ NtUnmapViewOfSection
+    ∷ NtReadVirtualMemory
+    ∷ NtWriteVirtualMemory
     ∷ []
 
 -- the call whose name a word is
@@ -99,7 +104,7 @@ given_message (Some word) = do
 abbrev pub name_word : List ℕ → Option (List ℕ)
 name_word word = if bytes_eq word (codes "-") then None else Some word
 
--- a handle alone
+-- a handle, or an address, alone
 abbrev pub one_handle : List (List ℕ) → Result ℕ LineFault
 one_handle others = do
   word ← one_word others
@@ -160,6 +165,31 @@ handle_and_reply others = do
   handle ← number_word two.0
   reply ← given_message two.1
   Ok (handle, reply)
+
+-- two numbers, and four
+abbrev pub two_numbers : List (List ℕ) → Result (ℕ × ℕ) LineFault
+two_numbers others = do
+  two ← two_words others
+  a ← number_word two.0
+  b ← number_word two.1
+  Ok (a, b)
+
+abbrev pub four_numbers : List (List ℕ) → Result (ℕ × ℕ × ℕ × ℕ) LineFault
+four_numbers others = do
+  four ← four_words others
+  a ← number_word four.0
+  b ← number_word four.1
+  c ← number_word four.2
+  d ← number_word four.3
+  Ok (a, b, c, d)
+
+-- an address, and the bytes that are to stand there
+abbrev pub address_and_bytes : List (List ℕ) → Result (ℕ × List ℕ) LineFault
+address_and_bytes others = do
+  two ← two_words others
+  address ← number_word two.0
+  bytes ← hex_word two.1
+  Ok (address, bytes)
 
 -- a call by the words behind its name
 unfoldable pub call_words : CallName → List (List ℕ) → Result ScriptCall LineFault
@@ -223,6 +253,21 @@ call_words NtTerminateThread others = do
 call_words NtTerminateProcess others = do
   end ← target_and_code others
   Ok (terminate_process end.0 end.1)
+call_words NtCreateSection others = do
+  made ← two_numbers others
+  Ok (create_section made.0 made.1)
+call_words NtMapViewOfSection others = do
+  view ← four_numbers others
+  Ok (map_view_of_section view.0 view.1 view.2 view.3)
+call_words NtUnmapViewOfSection others = do
+  address ← one_handle others
+  Ok (unmap_view_of_section address)
+call_words NtReadVirtualMemory others = do
+  range ← two_numbers others
+  Ok (read_virtual_memory range.0 range.1)
+call_words NtWriteVirtualMemory others = do
+  new ← address_and_bytes others
+  Ok (write_virtual_memory new.0 new.1)
 
 -- a directive by the words behind it; a path may be any word
 unfoldable pub directive_words : Word → List (List ℕ) → Result ScriptLine LineFault

@@ -11,6 +11,7 @@ use Rattle.lpc_model.specs.Linked.{HasHeldRows, IsLinked}
 use Rattle.lpc_model.specs.Machine.{step}
 use Rattle.lpc_model.specs.OpenQueues.{HasOpenQueues}
 use Rattle.lpc_model.specs.SoundWaits.{IsSoundWorld}
+use Rattle.lpc_model.specs.SoundViews.{HasSoundViews}
 use Rattle.lpc_model.specs.Standing.{NamesWhatStands}
 use Rattle.lpc_model.specs.SingleClosings.{HasSingleClosings}
 
@@ -21,8 +22,8 @@ HasThreadsOnce w = (n : ℕ) → count (is_thread n) w.threads ≤ 1
 -- Waits are sound, ports are linked, some row counts for each object, queues are open, and what rows name stands. Of a
 -- closed port that stays so one message at most tells that it is closed, and of an open one none does, and each client
 -- port keeps the connect in whose name that message is. A thread has one row, an ended one has no registrations, and no
--- port is registered twice. Only living processes have handles and views, and of the two
--- ports of a connection one at least is open.
+-- port is registered twice. Only living processes have handles and views, and of the two ports of a connection one at
+-- least is open. Views lie in their sections, and apart from each other.
 pub record IsLawfulWorld (w : World) : Type 0 where
   pub sound : IsSoundWorld w
   pub linked : IsLinked w
@@ -36,6 +37,7 @@ pub record IsLawfulWorld (w : World) : Type 0 where
   pub single : HasSingleRegistrations w
   pub living : HasLivingHandles w
   pub views : HasLivingViews w
+  pub sound_views : HasSoundViews w
   pub pairs : HasKeptPairs w
 
 -- the step of each line keeps that

@@ -1,9 +1,10 @@
--- Where no process lives any longer, nothing is left but numbers that were used, names and empty tables of handles.
+-- Where no process lives any longer, nothing is left but numbers that were used, names and empty tables of handles and
+-- views.
 use Rattle.std.specs.Prelude.{◌≡◌, ℕ, ◌||◌, Bool, true, false, List, []}
 use Rattle.std.specs.List.{AllByRecursion}
 use Rattle.lpc_base.specs.Rows.{every, passes}
-use Rattle.lpc_model.specs.World.{HandleTable, PortRow, ViewRow, World}
-use Rattle.lpc_model.specs.Found.{is_cut, is_live, is_open}
+use Rattle.lpc_model.specs.World.{HandleTable, PortRow, ViewTable, World}
+use Rattle.lpc_model.specs.Found.{all_views, is_cut, is_live, is_open}
 use Rattle.lpc_model.specs.Run.{run_of}
 
 -- no row of an object stands, no message, no wait and no view
@@ -14,7 +15,7 @@ pub record IsBare (w : World) : Type 0 where
   pub sections : w.sections ≡ []
   pub messages : w.messages ≡ []
   pub waits : w.waits ≡ []
-  pub views : w.views ≡ []
+  pub views : all_views w ≡ []
 
 -- so it is where no process lives
 abbrev pub LeavesNothing : World → Type 0
@@ -39,11 +40,17 @@ abbrev pub HasLivingHandles : World → Type 0
 HasLivingHandles w = every (is_living_table w) w.handles ≡ true
 
 -- a process that doesn't live has no views
-abbrev pub is_living_view : World → ViewRow → Bool
-is_living_view w v = is_live w v.process
+abbrev pub lacks_views : ViewTable → Bool
+lacks_views t = elim t.rows [
+  | [] ↦ true
+  | _ ↦ false
+]
+
+abbrev pub is_living_space : World → ViewTable → Bool
+is_living_space w t = is_live w t.process || lacks_views t
 
 abbrev pub HasLivingViews : World → Type 0
-HasLivingViews w = every (is_living_view w) w.views ≡ true
+HasLivingViews w = every (is_living_space w) w.views ≡ true
 
 -- of two ports that are each other's other end one at least is open
 abbrev pub is_kept_pair : World → PortRow → Bool

@@ -18,6 +18,7 @@ pub mod Register
 pub mod Targets
 pub mod Creation
 pub mod Death
+pub mod Memory
 pub mod Sweep
 pub mod Machine
 pub mod Text
@@ -31,6 +32,7 @@ pub mod Replies
 pub mod SoundWaits
 pub mod Linked
 pub mod Standing
+pub mod SoundViews
 pub mod OpenQueues
 pub mod Limits
 pub mod Connected
@@ -49,4 +51,5 @@ pub mod WorkedConnections
 pub mod WorkedClosings
 pub mod WorkedEndings
 pub mod WorkedCreations
+pub mod WorkedViews
 pub mod WorkedNeighbours

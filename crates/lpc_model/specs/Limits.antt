@@ -1,10 +1,11 @@
 -- Limits from both sides: what is still granted, and what is refused.
-use Rattle.std.specs.Prelude.{◌≡◌, ℕ, ◌<◌, ◌≤◌, false, List, length, None, Result, Ok, Err}
+use Rattle.std.specs.Prelude.{◌≡◌, ℕ, ◌+◌, ◌*◌, ◌<◌, ◌≤◌, false, List, length, None, Result, Ok, Err}
 use Rattle.lpc_base.specs.declared.status.Status.{Status}
 use Rattle.lpc_base.specs.declared.status.TheConstants.{PORT_MESSAGE_TOO_LONG, QUOTA_EXCEEDED}
 use Rattle.lpc_message.specs.Layout.{fault_of, header_of}
 use Rattle.lpc_model.specs.World.{Birth, PortRow, ThreadRow, World}
-use Rattle.lpc_model.specs.Found.{datagrams, live_count}
+use Rattle.lpc_model.specs.Found.{datagrams, live_count, views_of}
+use Rattle.lpc_model.specs.Memory.{section_load, section_load_test, view_count_test}
 use Rattle.lpc_model.specs.Message.{message_of, message_test}
 use Rattle.lpc_model.specs.Tests.{handle_load, handles_test}
 use Rattle.lpc_model.specs.Connect.{info_test}
@@ -47,6 +48,15 @@ abbrev pub LimitsRegistrations : Type 0
 LimitsRegistrations =
     (by : ThreadRow) (port : Birth) → is_registered port by ≡ false →
     IsGrantedBelow 16 (length by.registrations) (registration_test by port)
+
+-- one view more is granted to a process with fewer than 128
+abbrev pub LimitsViews : Type 0
+LimitsViews = (w : World) (pid : ℕ) → IsGrantedBelow 128 (length (views_of w pid)) (view_count_test w pid)
+
+-- a section more is granted to a process whose sections have at most 4 MiB with it
+abbrev pub LimitsSections : Type 0
+LimitsSections =
+    (w : World) (pid size : ℕ) → IsGrantedBelow (4 * 1024 * 1024 + 1) (section_load w pid + size) (section_load_test w pid size)
 
 -- a message of lawful shape is good where its MessageSize is at most 256
 abbrev pub LimitsMessages : Type 0

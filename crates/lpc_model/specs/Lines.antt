@@ -7,7 +7,7 @@ use Rattle.lpc_model.specs.declared.line.Line.{Line}
 pub use Rattle.lpc_model.specs.declared.line.ProcArg.{ProcArg}
 use Rattle.lpc_model.specs.declared.line.Line.TheVariants as line
 
--- a system call with its arguments; a message and a name are their bytes, and an unnamed port has none; a further
+-- a system call with its arguments; a message, a name and what is written are their bytes, and an unnamed port has none; a further
 -- handle without rights of its own has those of the handle
 pub data ScriptCall : Type 0 where
   create_port : Option (List ℕ) → ScriptCall
@@ -27,6 +27,11 @@ pub data ScriptCall : Type 0 where
   create_thread : ProcArg → ℕ → ScriptCall
   terminate_thread : ProcArg → ℕ → ScriptCall
   terminate_process : ProcArg → ℕ → ScriptCall
+  create_section : ℕ → ℕ → ScriptCall
+  map_view_of_section : ℕ → ℕ → ℕ → ℕ → ScriptCall
+  unmap_view_of_section : ℕ → ScriptCall
+  read_virtual_memory : ℕ → ℕ → ScriptCall
+  write_virtual_memory : ℕ → List ℕ → ScriptCall
 
 -- a directive, or a call of a thread; a path is its bytes
 pub data ScriptLine : Type 0 where
@@ -55,6 +60,11 @@ call_of (call.CreateProcess pid tid) = create_process pid tid
 call_of (call.CreateThread process tid) = create_thread process tid
 call_of (call.TerminateThread target code) = terminate_thread target code
 call_of (call.TerminateProcess target code) = terminate_process target code
+call_of (call.CreateSection size protection) = create_section size protection
+call_of (call.MapViewOfSection handle offset size protection) = map_view_of_section handle offset size protection
+call_of (call.UnmapViewOfSection address) = unmap_view_of_section address
+call_of (call.ReadVirtualMemory address length) = read_virtual_memory address length
+call_of (call.WriteVirtualMemory address bytes) = write_virtual_memory address bytes.now
 
 abbrev pub line_of : Line → ScriptLine
 line_of (line.Boot pid tid) = boot pid tid

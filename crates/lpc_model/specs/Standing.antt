@@ -49,7 +49,7 @@ pub record NamesWhatStands (w : World) : Type 0 where
   pub senders : every (λ m. has (is_port m.sender) w.ports) w.messages ≡ true
   pub queues : every (has_near_queue w) w.waits ≡ true
   pub registrations : every (port_stands w) (all_registrations w) ≡ true
-  pub views : every (shows_standing w) w.views ≡ true
+  pub views : every (λ t. every (shows_standing w) t.rows) w.views ≡ true
 
 -- the step of each line keeps that in a sound world whose ports are linked, and where no connect waits on an open port
 abbrev pub StepsNameWhatStands : Type 0

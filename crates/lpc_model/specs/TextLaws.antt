@@ -6,7 +6,7 @@ use Rattle.lpc_model.specs.declared.entry.Entry.{Entry}
 use Rattle.lpc_model.specs.declared.entry.Entry.TheVariants.{Answer, Waits, Wakes, Busy, NoThread, Died, Directive}
 use Rattle.lpc_model.specs.declared.entry.Field.{Field}
 use Rattle.lpc_model.specs.declared.entry.FieldName.{FieldName}
-use Rattle.lpc_model.specs.declared.entry.FieldName.TheVariants.{H, FirstThread, Id, Ctx, Msg, Data, Max, Info, ObjectType, Access, Handles, Pointers}
+use Rattle.lpc_model.specs.declared.entry.FieldName.TheVariants.{H, FirstThread, Id, Ctx, Msg, Data, Max, Info, ObjectType, Access, Handles, Pointers, Base, Size}
 use Rattle.lpc_model.specs.declared.entry.Value.{Value}
 use Rattle.lpc_model.specs.declared.entry.Value.TheVariants.{Number, Hex, Kind, Bytes}
 
@@ -17,7 +17,7 @@ pub data Sort : Type 0 where
   as_kind : Sort
   as_bytes : Sort
 
--- handles, message identifiers, lengths and counts are printed in decimal, contexts and rights in hexadecimal, the kind
+-- handles, message identifiers, lengths and counts are printed in decimal, contexts, rights and bases in hexadecimal, the kind
 -- of an object by its name, and messages, what was read and what came with a connect as bytes
 abbrev pub sort_of : FieldName → Sort
 sort_of H = in_decimal
@@ -32,6 +32,8 @@ sort_of ObjectType = as_kind
 sort_of Access = in_hexadecimal
 sort_of Handles = in_decimal
 sort_of Pointers = in_decimal
+sort_of Base = in_hexadecimal
+sort_of Size = in_decimal
 
 -- a number of 32 bits
 abbrev pub is_word : ℕ → Bool

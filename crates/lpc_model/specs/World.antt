@@ -111,10 +111,9 @@ pub data Contents : Type 0 where
   Known : List ContentRow → Contents
   Unknown : Contents
 
--- A view of a process: a range of its addresses that shows the bytes of a section from an offset on, whether they may be
--- written through it, and the port that owns it, none where a call mapped it by itself.
+-- A view: a range of addresses that shows the bytes of a section from an offset on, whether they may be written through
+-- it, and the port that owns it, none where a call mapped it by itself.
 pub record ViewRow : Type 0 where
-  pub process : ℕ
   pub base : ℕ
   pub size : ℕ
   pub section : Birth
@@ -122,9 +121,15 @@ pub record ViewRow : Type 0 where
   pub writable : Bool
   pub owner : Option Birth
 
--- Handles stand by process in order of making, and in each process by value; every other list is in order of making. A
--- number that was used is never removed from the used ones. The name space binds paths to directories, to links, and to
--- ports by their births. The bytes of sections stand apart from their rows.
+-- the views of a process, in order of mapping: what its addresses show
+pub record ViewTable : Type 0 where
+  pub process : ℕ
+  pub rows : List ViewRow
+
+-- Handles and views stand by process in order of making; in each process handles are by value, views in order of mapping.
+-- Every other list is in order of making. A number that was used is never removed from the used ones, nor a process's
+-- table of handles or of views. The name space binds paths to directories, to links, and to ports by their births. The
+-- bytes of sections stand apart from their rows.
 pub record World : Type 0 where
   pub processes : List ProcessRow
   pub threads : List ThreadRow
@@ -137,7 +142,7 @@ pub record World : Type 0 where
   pub bindings : Bindings Birth
   pub sections : List SectionRow
   pub contents : Contents
-  pub views : List ViewRow
+  pub views : List ViewTable
 
 -- the world before the first line
 abbrev pub no_rows : World

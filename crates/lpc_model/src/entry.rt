@@ -7,6 +7,7 @@ ghost use Rattle.lpc_model.specs.Listed.{shown_entry, has_read};
 ghost use Rattle.lpc_model.specs.Text.{call_text, word_text};
 
 use arrayvec::ArrayVec;
+use lpc_base::limits::MEMORY_LIMIT;
 use lpc_base::{OutOfMemory, Status, reserve_rows, status};
 use std::alloc::Global;
 use std::marker::Model;
@@ -31,11 +32,16 @@ pub enum CallName {
     NtCreateThread,
     NtTerminateThread,
     NtTerminateProcess,
+    NtCreateSection,
+    NtMapViewOfSection,
+    NtUnmapViewOfSection,
+    NtReadVirtualMemory,
+    NtWriteVirtualMemory,
 }
 
 impl CallName {
     /// Each call, in the order in which the grammar lists them.
-    pub const ALL: [CallName; 17] = [
+    pub const ALL: [CallName; 22] = [
         CallName::NtCreatePort,
         CallName::NtConnectPort,
         CallName::NtListenPort,
@@ -53,6 +59,11 @@ impl CallName {
         CallName::NtCreateThread,
         CallName::NtTerminateThread,
         CallName::NtTerminateProcess,
+        CallName::NtCreateSection,
+        CallName::NtMapViewOfSection,
+        CallName::NtUnmapViewOfSection,
+        CallName::NtReadVirtualMemory,
+        CallName::NtWriteVirtualMemory,
     ];
 
     /// The name of the call, as scripts and transcripts spell it.
@@ -77,6 +88,11 @@ impl CallName {
             CallName::NtCreateThread => b"NtCreateThread",
             CallName::NtTerminateThread => b"NtTerminateThread",
             CallName::NtTerminateProcess => b"NtTerminateProcess",
+            CallName::NtCreateSection => b"NtCreateSection",
+            CallName::NtMapViewOfSection => b"NtMapViewOfSection",
+            CallName::NtUnmapViewOfSection => b"NtUnmapViewOfSection",
+            CallName::NtReadVirtualMemory => b"NtReadVirtualMemory",
+            CallName::NtWriteVirtualMemory => b"NtWriteVirtualMemory",
         }
     }
 }
@@ -107,7 +123,7 @@ impl Word {
     }
 }
 
-/// The kinds of object. No line makes a section or a token so far.
+/// The kinds of object. No line makes a token so far.
 #[derive(Clone, Copy, PartialEq, Eq)]
 pub enum ObjectKind {
     Port,
@@ -155,6 +171,10 @@ pub enum FieldName {
     Handles,
     /// How many rows count for an object, its handles among them.
     Pointers,
+    /// The base of a view.
+    Base,
+    /// The size of a view.
+    Size,
 }
 
 /// The value of a field.
@@ -305,9 +325,6 @@ pub enum Entry {
     },
 }
 
-/// The most bytes that one memory read gives. This project's own.
-const READ_LIMIT: usize = 4096;
-
 /// The entries of a step in order, and spare room for more.
 ///
 /// The bytes of a memory read are too many for a field, so they lie in one buffer here and the field has a mark in
@@ -349,7 +366,7 @@ impl Entries {
         ensures spare { IfOk result (λ e. e.spare ≡ 0) }
     {
         let list = Vec::new(alloc);
-        let Ok(read) = Vec::with_capacity(alloc, READ_LIMIT) else {
+        let Ok(read) = Vec::with_capacity(alloc, MEMORY_LIMIT) else {
             return Err(OutOfMemory);
         };
         Ok(Entries { list, read })

@@ -12,10 +12,11 @@ ghost use Rattle.lpc_model.specs.Lawful.{IsLawfulWorld, StepsKeepLaws};
 ghost use Rattle.lpc_model.specs.Leaving.{RunEmptiesWithHandles, RunWithdrawsWithWaits};
 ghost use Rattle.lpc_model.specs.Left.{RunLeavesNothing};
 ghost use Rattle.lpc_model.specs.SingleClosings.{HasSingleClosings, RunHasSingleClosings, StepsKeepSingleClosings};
-ghost use Rattle.lpc_model.specs.Limits.{LimitsChildren, LimitsDatagrams, LimitsHandles, LimitsInfo, LimitsMessages, LimitsRegistrations, LimitsThreads, LimitsTwoHandles};
+ghost use Rattle.lpc_model.specs.Limits.{LimitsChildren, LimitsDatagrams, LimitsHandles, LimitsInfo, LimitsMessages, LimitsRegistrations, LimitsSections, LimitsThreads, LimitsTwoHandles, LimitsViews};
 ghost use Rattle.lpc_model.specs.Connected.{ConnectedPortsReachEachOther};
 ghost use Rattle.lpc_model.specs.Queues.{FirstWaiterTakes, QueuesAreFirstInFirstOut};
 ghost use Rattle.lpc_model.specs.Run.{first_state};
+ghost use Rattle.lpc_model.specs.SoundViews.{HasSoundViews, RunKeepsViews, StepsKeepViews};
 ghost use Rattle.lpc_model.specs.SoundWaits.{HasSoundWaits, IsSoundWorld, RefusesCutPairsAlone, RunRefusesCutPairsAlone, RunStaysSound, StepsStaySound};
 
 /// In every script each waiting thread waits for what can still come, and hasn't come.
@@ -47,7 +48,8 @@ pub fn law_completion_refuses_cut_pairs()
 /// An object that no row counts for any longer goes at the end of the line in two passes; two are
 /// enough. Each handle names an object that stands, each queued message was sent on one, each wait
 /// was made on one: its queue is that of this port, of its connection port or, for a request, of
-/// its other end; and live threads registered ports that stand. So no row is left that names a port that went. Before
+/// its other end; live threads registered ports that stand, and each view shows a section that
+/// stands. So no row is left that names a port or a section that went. Before
 /// the first line none stands.
 pub fn law_held_objects()
     ensures first { IsLinked first_state }
@@ -101,7 +103,7 @@ pub fn law_closings_are_told()
 /// that go with processes close ports as others do: each is told of once, where it is to be. Each
 /// message of either kind stands in the queue that it entered, was received from it, or was lost
 /// when the queue's port closed. And where no process lives any longer, no row
-/// of a process, thread or port is left, no message and no wait.
+/// of a process, thread, port or section is left, no message, no wait and no view.
 pub fn law_death()
     ensures runs { (script : List ℕ) → RunTellsDeaths script }
     ensures closings { (script : List ℕ) → RunTellsClosings script }
@@ -109,6 +111,20 @@ pub fn law_death()
     ensures nothing_left { (script : List ℕ) → RunLeavesNothing script }
     ensures living_registrations { (script : List ℕ) → RunHasLivingRegistrations script }
     ensures single_registrations { (script : List ℕ) → RunHasSingleRegistrations script }
+{}
+
+/// In every script views lie in their sections, and apart from each other.
+///
+/// Behind each line as many bytes stand for each section as its size says, which is whole pages,
+/// up to 4 MiB. A view shows no more than its section has, and may be written only where the
+/// section may. Its base is a multiple of 65536 from 00010000, and it ends at or below 7FFF0000.
+/// No two views of a process have an address in common, and a process has at most 128. A process
+/// has a table of views where it has one of handles. So before the first line, where there are
+/// none.
+pub fn law_views()
+    ensures first { HasSoundViews first_state }
+    ensures steps { StepsKeepViews }
+    ensures runs { (script : List ℕ) → RunKeepsViews script }
 {}
 
 /// In every script each message that asks for no answer is accounted for.
@@ -130,18 +146,19 @@ pub fn law_messages_are_accounted_for()
 ///
 /// Waits are sound, ports linked, objects held, queues open; what rows name stands; of an open port
 /// no message tells that it is closed, and each client port keeps a connect of its maker. A thread has one row, an ended one has no registrations, and
-/// no port is registered twice with one. Only living processes have handles, and a connection has
-/// one open end at least. What the calls that close and end ask of the rows is part of it.
+/// no port is registered twice with one. Only living processes have handles and views, and a connection has
+/// one open end at least. Views lie in their sections, and apart. What the calls that close and end ask of the rows is part of it.
 pub fn law_lawful_worlds()
     ensures first { IsLawfulWorld first_state }
     ensures steps { StepsKeepLaws }
 {}
 
-/// Seven limits are tested exactly: below a limit its test grants one more, from there on it refuses.
+/// Nine limits are tested exactly: below a limit its test grants one more, from there on it refuses.
 ///
 /// A process with fewer than 256 handles and waiting connects together is granted a further one, with 256 it is
 /// refused, and two where they are fewer than 255; so with 64 live processes that a process made, with 64 live threads
-/// of a process, with 32 datagrams of a port that aren't received, and with 16 ports that a thread registered. A
+/// of a process, with 32 datagrams of a port that aren't received, with 16 ports that a thread registered, with 128
+/// views of a process, and with 4 MiB of sections that a process made, the new one among them. A
 /// message of lawful shape is good with a MessageSize of at most 256, and the bytes of a connect where they are at most
 /// 232. Which calls make which test stands with each call.
 pub fn law_limits()
@@ -151,6 +168,8 @@ pub fn law_limits()
     ensures threads { LimitsThreads }
     ensures datagrams { LimitsDatagrams }
     ensures registrations { LimitsRegistrations }
+    ensures views { LimitsViews }
+    ensures sections { LimitsSections }
     ensures messages { LimitsMessages }
     ensures info { LimitsInfo }
 {}

@@ -1,4 +1,4 @@
-// A line of a script. Its messages lie in a buffer that is lent, its names in the line itself.
+// A line of a script. Its messages, and what it writes, lie in a buffer that is lent, its names in the line itself.
 
 /// The process or thread that a call is about: the caller's own, spelled `self`, or that of a handle.
 #[derive(Clone, Copy)]
@@ -97,6 +97,34 @@ pub enum Call<'a> {
     TerminateProcess {
         process: ProcArg,
         code: u32,
+    },
+    /// `NtCreateSection SIZE PROT`: makes a section of so many bytes, rounded up to whole pages, which hold zeros, and
+    /// which may be read alone (2) or written too (4), and gives the caller a handle to it.
+    CreateSection {
+        size: u32,
+        protection: u32,
+    },
+    /// `NtMapViewOfSection H OFFSET SIZE PROT`: maps a view of a section from an offset on into the caller's process, of
+    /// so many bytes, or where that is 0 up to the section's end.
+    MapViewOfSection {
+        handle: u32,
+        offset: u32,
+        size: u32,
+        protection: u32,
+    },
+    /// `NtUnmapViewOfSection ADDRESS`: takes the view away that holds the address.
+    UnmapViewOfSection {
+        address: u32,
+    },
+    /// `NtReadVirtualMemory ADDRESS LEN`: reads bytes of the caller's process.
+    ReadVirtualMemory {
+        address: u32,
+        length: u32,
+    },
+    /// `NtWriteVirtualMemory ADDRESS HEX`: writes bytes of the caller's process.
+    WriteVirtualMemory {
+        address: u32,
+        bytes: &'a [u8],
     },
 }
 

@@ -155,6 +155,11 @@ module _ (s : Receipt) (quiet : asks (message_of s.bytes) ≡ false) where
     queries = λ handle r at. level w _ _ refl;
     spawns = λ pid tid new unused. level w _ _ refl;
     starts = λ target tid pid _ live unused. level w _ _ refl;
+    makes_section = λ size prot asked. level w _ _ refl;
+    maps_view = λ handle offset size prot t rounded base m. level w _ _ refl;
+    unmaps_view = λ address v at. level w _ _ refl;
+    reads_memory = λ address n v at. level w _ _ refl;
+    writes_memory = λ address new v at may. level w _ _ refl;
     ends = λ call name own pid code ts doomed. ended-balanced w _ by name own pid code ts is.sound;
   }
 

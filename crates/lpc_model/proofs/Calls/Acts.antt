@@ -6,22 +6,22 @@ use Rattle.lpc_base.proofs.RowWords.{first-behind, has-push}
 use Rattle.lpc_base.specs.Rows.{count, every, first, given, has, when}
 use Rattle.lpc_base.specs.declared.limits.TheConstants.{MESSAGE_LIMIT}
 use Rattle.lpc_base.specs.declared.status.Status.{Status}
-use Rattle.lpc_base.specs.declared.status.TheConstants.{INVALID_PARAMETER, INVALID_PORT_HANDLE, PORT_DISCONNECTED, SUCCESS}
+use Rattle.lpc_base.specs.declared.status.TheConstants.{INVALID_PARAMETER, INVALID_PORT_HANDLE, PORT_DISCONNECTED, SUCCESS, INVALID_HANDLE}
 use Rattle.lpc_message.specs.declared.kind.TheConstants.{DATAGRAM, REQUEST}
 use Rattle.lpc_model.proofs.Steps.Closing.{behind}
 use Rattle.lpc_model.proofs.Calls.Creating.{rows-behind}
 use Rattle.lpc_model.proofs.Steps.Ending.{AreEnding, answered_end, behind_dead, behind_told, die-ending, ending-enter, first-at, handle-ending, rows-left, told-facts, turn-keeps}
-use Rattle.lpc_model.proofs.Calls.Holding.{Holds, bind_holds, found_ok, holds_ok}
+use Rattle.lpc_model.proofs.Calls.Holding.{Holds, bind_holds, found_ok, holds_ok, found_holds}
 use Rattle.lpc_model.proofs.Calls.Lines.{IsCalled, Shut}
-use Rattle.lpc_model.proofs.Calls.Outcomes.{IsListening, IsReceiving, Outcomes}
-use Rattle.lpc_model.proofs.Steps.Rows.{count-change}
+use Rattle.lpc_model.proofs.Calls.Outcomes.{IsListening, IsReceiving, Outcomes, IsBuilding, IsMapping}
+use Rattle.lpc_model.proofs.Steps.Rows.{count-change, has-found}
 use Rattle.lpc_model.proofs.Sound.Basics.{sound-ordinal, sound-process}
 use Rattle.lpc_model.proofs.Sound.Close.{found-value}
 use Rattle.lpc_model.proofs.Sound.Terminate.{IsSafe, die-safe, enter-safe, handle-safe, sound-of, unregister-safe}
 use Rattle.lpc_model.proofs.Steps.InTurn.{after-append}
 use Rattle.lpc_model.proofs.Calls.Tested.{CanComplete, can-complete, name-open, named-wait}
 use Rattle.lpc_model.proofs.Calls.Usable.{CanCall, IsUsable, by_port_kind, handle-open, if-same, port-usable, queue-open, routed}
-use Rattle.lpc_model.specs.Basics.{Accepts, AddsHandle, AddsProcess, AddsThread, Awaits, Basic, Completes, DrawsIdentifier, DrawsOrdinal, DropsViewsOf, Joins, Makes, Registers, Steps, Tells, Unregisters, basic, in_turn, no_handles, with_handle, world_after}
+use Rattle.lpc_model.specs.Basics.{Accepts, AddsHandle, AddsProcess, AddsThread, Awaits, Basic, Completes, DrawsIdentifier, DrawsOrdinal, DropsViewsOf, Joins, Makes, Registers, Steps, Tells, Unregisters, basic, in_turn, no_handles, with_handle, world_after, AddsSection, Maps, Unmaps, Writes}
 use Rattle.lpc_model.specs.Close.{close_handle}
 use Rattle.lpc_model.specs.Closings.{is_closed_post}
 use Rattle.lpc_model.specs.Connect.{Completable, ConnectAnswer, answer_of, answer_test, client_port, complete_steps, complete_test, connect_wait, connection_request, is_accepted_on, listen_steps, listen_wait, named_steps, names_connect, server_port, unnamed_steps}
@@ -30,16 +30,17 @@ use Rattle.lpc_model.specs.Creation.{gives_life, making_process, making_thread, 
 use Rattle.lpc_model.specs.Death.{death_post, die, end_process, end_threads, post_death, post_deaths}
 use Rattle.lpc_model.specs.Entering.{enter, row_of, take_connect_steps, take_steps, woken}
 use Rattle.lpc_model.specs.Fields.{h, info, max}
-use Rattle.lpc_model.specs.Found.{free_handle, handle_at, handles_of, has_value, is_accepted, is_born_process, is_born_thread, is_connect, is_connected_to, is_cut, is_live, is_open, is_paired_to, is_port, is_server_port, is_table, is_the, port_name, port_row, process_name, queue_of, route, rows_in, same_birth, same_kind, thread_name, way, was_process, was_thread}
+use Rattle.lpc_model.specs.Found.{free_handle, handle_at, handles_of, has_value, is_accepted, is_born_process, is_born_thread, is_connect, is_connected_to, is_cut, is_live, is_open, is_paired_to, is_port, is_server_port, is_table, is_the, port_name, port_row, process_name, queue_of, route, rows_in, same_birth, same_kind, thread_name, way, was_process, was_thread, is_section, section_name, section_row}
+use Rattle.lpc_model.specs.Memory.{SECTION_ACCESS, mapped_view, mapping_right, new_section, place_in, section_steps, section_test}
 use Rattle.lpc_model.specs.Message.{message_test}
 use Rattle.lpc_model.specs.Named.{free_name, named_port}
 use Rattle.lpc_model.specs.Refusal.{found_or, refuse_if}
 use Rattle.lpc_model.specs.Request.{Sendable, datagram_send_test, datagram_steps, datagram_test, given_reply, is_spent, receive_steps, receive_test, receive_wait, reply_test, request_steps, request_wait, send_test, sent_by}
 use Rattle.lpc_model.specs.SoundWaits.{IsSoundWorld}
-use Rattle.lpc_model.specs.Standing.{NamesWhatStands, has_near_queue, is_near, names_object, stands_as}
+use Rattle.lpc_model.specs.Standing.{NamesWhatStands, has_near_queue, is_near, names_object, stands_as, section_stands}
 use Rattle.lpc_model.specs.Targets.{LIFE_ACCESS}
-use Rattle.lpc_model.specs.Tests.{PORT_ACCESS, handle_row, next_birth, port_test}
-use Rattle.lpc_model.specs.World.{Birth, HandleRow, HandleTable, Message, MessageRow, ObjectName, Path, PortRow, ThreadRow, WaitRow, World}
+use Rattle.lpc_model.specs.Tests.{PORT_ACCESS, handle_row, next_birth, port_test, object_test}
+use Rattle.lpc_model.specs.World.{Birth, HandleRow, HandleTable, Message, MessageRow, ObjectName, Path, PortRow, ThreadRow, WaitRow, World, SectionRow}
 use Rattle.lpc_model.specs.declared.entry.CallName.{CallName}
 use Rattle.lpc_model.specs.declared.entry.Entry.{Entry}
 use Rattle.lpc_model.specs.declared.entry.Field.{Field}
@@ -133,7 +134,12 @@ pub record Law (by : ThreadRow) (C K : World → Type 0) (P : World → List Bas
   pub closes : (w : World) (pid : ℕ) (r : HandleRow) → handle_at w pid r.value ≡ Some r → IsSoundWorld w → K w → P w (close_handle pid r w)
   pub dies : (w : World) (code : Status) (t : ThreadRow) → IsSafe w → P w (die code t w)
   pub leaves : (w : World) (n : ℕ) (b : Birth) → P w (Unregisters n b ∷ [])
-  pub unmaps : (w : World) (pid : ℕ) → P w (DropsViewsOf pid ∷ [])
+  pub vacates : (w : World) (pid : ℕ) → P w (DropsViewsOf pid ∷ [])
+  -- a section is made, without a handle; a view is mapped, and goes; bytes are written
+  pub builds : (w : World) (size prot : ℕ) → IsBuilding size prot → P w (DrawsOrdinal by.number ∷ AddsSection (new_section by size prot) ∷ [])
+  pub maps : (w : World) (handle offset size prot : ℕ) (s : SectionRow) (rounded base : ℕ) → IsMapping w by handle offset size prot s rounded base → P w (Maps by.process (mapped_view s offset rounded prot base) ∷ [])
+  pub unmaps : (w : World) (pid base : ℕ) → P w (Unmaps pid base ∷ [])
+  pub writes : (w : World) (b : Birth) (place : ℕ) (new : List ℕ) → P w (Writes b place new ∷ [])
 
 -- what steps keep, steps behind others keep
 pub keeps_on : (Q : World → Type 0) (w : World) (xs ys : List Basic) → (Q w → Q (world_after w xs)) → (Q (world_after w xs) → Q (world_after (world_after w xs) ys)) → Q w → Q (world_after w (xs ++ ys))
@@ -211,6 +217,16 @@ tested-queue w port =
     let P : Birth → Type 0 = λ queue. queue_of w port ≡ Some queue in
     bind_holds (found_or (queue_of w port) PORT_DISCONNECTED) _ P (λ queue at.
     bind_holds (refuse_if (is_spent w port queue) PORT_DISCONNECTED) _ P (λ _ _. found_ok (queue_of w port) PORT_DISCONNECTED queue at))
+
+-- a section that a handle names stands
+pub tested-section : (w : World) (by : ThreadRow) (rights handle : ℕ) → Holds (λ (s : SectionRow). section_stands w s.birth ≡ true) (section_test w by rights handle)
+tested-section w by rights handle =
+    let P : SectionRow → Type 0 = λ s. section_stands w s.birth ≡ true in
+    bind_holds (object_test w by kind.Section rights handle) _ P (λ birth _.
+    found_holds P (section_row w birth) INVALID_HANDLE (λ s row. has-found (is_section s.birth) (is_section birth) w.sections s row (birth-self s.birth)))
+
+pub mapped-stands : (w : World) (by : ThreadRow) (handle offset size prot : ℕ) (s : SectionRow) (rounded base : ℕ) → IsMapping w by handle offset size prot s rounded base → section_stands w s.birth ≡ true
+mapped-stands w by handle offset size prot s rounded base m = holds_ok (λ (s : SectionRow). section_stands w s.birth ≡ true) (section_test w by (mapping_right prot) handle) s (tested-section w by (mapping_right prot) handle) m.section
 
 -- the accepted connect that is completed waits on the client port
 pub complete-found : (w : World) (by : ThreadRow) (handle : ℕ) → Holds (λ (c : Completable). first (is_accepted_on c.client) w.waits ≡ Some c.wait) (complete_test w by handle)
@@ -317,6 +333,13 @@ module _ (by : ThreadRow) (C K : World → Type 0) (P : World → List Basic →
       let bs = DrawsOrdinal by.number ∷ AddsThread t ∷ [] in
       told-first w _ _ (k.follows w bs _ (k.starts w tid pid live unused s) (k.gives (world_after w bs) by.process (thread_name t.birth) LIFE_ACCESS (record { stands = λ _. has-push (is_born_thread t.birth) drawn.threads t (birth-self t.birth); opens = λ is. absurd (cc); one = s.tables by.process })))
 
+  -- a section is made, with a handle
+  building : (w : World) (size prot : ℕ) → IsBuilding size prot → IsSoundWorld w → P w (section_steps by size prot (free_handle w by.process))
+  building w size prot asked s =
+      let made = new_section by size prot in
+      let bs = DrawsOrdinal by.number ∷ AddsSection made ∷ [] in
+      told-first w _ _ (k.follows w bs _ (k.builds w size prot asked) (k.gives (world_after w bs) by.process (section_name made.birth) SECTION_ACCESS (record { stands = λ _. has-push (is_section made.birth) w.sections made (birth-self made.birth); opens = λ is. absurd (cc); one = s.tables by.process })))
+
   -- Threads end in turn
   firm : (w : World) (bs : List Basic) → AreEnding bs → IsFirm K w → IsSafe (world_after w bs) → IsFirm K (world_after w bs)
   firm w bs all is safe = record { safe = safe; known = k.keeps w bs all is.known }
@@ -361,7 +384,7 @@ module _ (by : ThreadRow) (C K : World → Type 0) (P : World → List Basic →
       at : (last : Bool) → IsFirm K (behind_told code ts w) → P (behind_told code ts w) (when last (end_process pid (behind_told code ts w)))
       at true is =
           let v = behind_told code ts w in
-          k.follows v (in_turn (close_handle pid) (handles_of v pid) v) _ (handles-do pid (handles_of v pid) v refl is) (k.unmaps (behind (in_turn (close_handle pid) (handles_of v pid)) v) pid)
+          k.follows v (in_turn (close_handle pid) (handles_of v pid) v) _ (handles-do pid (handles_of v pid) v refl is) (k.vacates (behind (in_turn (close_handle pid) (handles_of v pid)) v) pid)
       at false is = k.nothing _
 
   ending : (w : World) (name : CallName) (own : Bool) (pid : ℕ) (code : Status) (ts : List ThreadRow) → IsFirm K w → P w (answered_end by name own pid code ts w)
@@ -391,5 +414,10 @@ module _ (by : ThreadRow) (C K : World → Type 0) (P : World → List Basic →
     queries = λ handle r at. k.says w _;
     spawns = λ pid tid new unused. spawning w pid tid new unused is.can is.sound;
     starts = λ target tid pid at live unused. starting w tid pid live unused is.sound;
+    makes_section = λ size prot asked. building w size prot asked is.sound;
+    maps_view = λ handle offset size prot s rounded base m. told-first w _ _ (k.maps w handle offset size prot s rounded base m);
+    unmaps_view = λ address v at. told-first w _ _ (k.unmaps w by.process v.base);
+    reads_memory = λ address n v at. k.says w _;
+    writes_memory = λ address new v at writes. told-first w _ _ (k.writes w v.section (place_in v address) new);
     ends = λ call name own pid code ts doomed. ending w name own pid code ts (record { safe = record { sound = is.sound; shut = (deep w is.known).0 }; known = (deep w is.known).1 });
   }

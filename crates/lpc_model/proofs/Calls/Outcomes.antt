@@ -2,7 +2,7 @@
 -- and nowhere else; what holds of each outcome holds of each call.
 use Rattle.lpc_base.specs.Rows.{first, when}
 use Rattle.lpc_base.specs.declared.status.Status.{Status}
-use Rattle.lpc_base.specs.declared.status.TheConstants.{INVALID_CID, INVALID_HANDLE, INVALID_PORT_HANDLE, SUCCESS}
+use Rattle.lpc_base.specs.declared.status.TheConstants.{INVALID_CID, INVALID_HANDLE, INVALID_PORT_HANDLE, SUCCESS, ACCESS_VIOLATION, INVALID_PARAMETER_4, MAPPED_ALIGNMENT, NOT_MAPPED_VIEW, SECTION_PROTECTION, SECTION_TOO_BIG}
 use Rattle.lpc_message.specs.declared.kind.TheConstants.{DATAGRAM, REQUEST}
 use Rattle.lpc_model.proofs.Calls.Creating.{process-made, tested-further}
 use Rattle.lpc_model.proofs.Steps.Ending.{answered_end}
@@ -13,23 +13,26 @@ use Rattle.lpc_model.specs.Connect.{Completable, ConnectAnswer, accept_steps, an
 use Rattle.lpc_model.specs.Counts.{asked, counts_of, duplicate_steps, nt_duplicate_object, nt_query_object, rights_test}
 use Rattle.lpc_model.specs.Creation.{making_process, making_thread, nt_create_thread, thread_test}
 use Rattle.lpc_model.specs.Death.{code_status, nt_terminate_process, nt_terminate_thread}
-use Rattle.lpc_model.specs.Found.{free_handle, handle_at, is_connection_port, is_live, is_queued, is_queued_connect, live_threads, was_process, was_thread}
-use Rattle.lpc_model.specs.Lines.{ProcArg, ScriptCall, accept_connect_port, close, complete_connect_port, connect_port, create_port, create_process, create_thread, duplicate_object, listen_port, query_object, register_thread_terminate_port, reply_port, reply_wait_receive_port, request_port, request_wait_reply_port, terminate_process, terminate_thread}
+use Rattle.lpc_model.specs.Found.{free_handle, handle_at, is_connection_port, is_live, is_queued, is_queued_connect, live_threads, was_process, was_thread, view_holding}
+use Rattle.lpc_model.specs.Lines.{ProcArg, ScriptCall, accept_connect_port, close, complete_connect_port, connect_port, create_port, create_process, create_thread, duplicate_object, listen_port, query_object, register_thread_terminate_port, reply_port, reply_wait_receive_port, request_port, request_wait_reply_port, terminate_process, terminate_thread, create_section, map_view_of_section, unmap_view_of_section, read_virtual_memory, write_virtual_memory}
 use Rattle.lpc_model.specs.Machine.{service_of}
+use Rattle.lpc_base.specs.Views.{whole_pages}
+use Rattle.lpc_base.specs.declared.limits.TheConstants.{PAGE_SIZE, SECTION_LIMIT}
+use Rattle.lpc_model.specs.Memory.{PAGE_READWRITE, base_test, map_steps, mapped_view, mapping_right, memory_test, nt_create_section, nt_map_view_of_section, nt_read_virtual_memory, nt_unmap_view_of_section, nt_write_virtual_memory, protection_test, read_steps, section_load_test, section_steps, section_test, size_test, unmap_steps, write_steps}
 use Rattle.lpc_model.specs.Message.{message_test}
 use Rattle.lpc_model.specs.Named.{free_name, named_port}
-use Rattle.lpc_model.specs.Refusal.{refuse_if}
+use Rattle.lpc_model.specs.Refusal.{refuse_if, found_or}
 use Rattle.lpc_model.specs.Register.{is_registered, nt_register_thread_terminate_port, registration_test}
 use Rattle.lpc_model.specs.Request.{Sendable, datagram_send_test, datagram_steps, given_reply, nt_reply_port, nt_reply_wait_receive_port, nt_request_port, nt_request_wait_reply_port, optional_message, receive_steps, receive_test, reply_steps, reply_test, request_steps, send_test, sent_by}
 use Rattle.lpc_model.specs.Targets.{process_target, thread_target}
 use Rattle.lpc_model.specs.Tests.{handles_test, live_test, next_birth, own_handle, port_test}
-use Rattle.lpc_model.specs.World.{Birth, HandleRow, Message, MessageRow, Path, PortRow, ThreadRow, WaitRow, World}
+use Rattle.lpc_model.specs.World.{Birth, HandleRow, Message, MessageRow, Path, PortRow, ThreadRow, WaitRow, World, SectionRow, ViewRow}
 use Rattle.lpc_model.specs.declared.entry.CallName.{CallName}
 use Rattle.lpc_model.specs.declared.entry.CallName.TheVariants.{NtQueryObject, NtRegisterThreadTerminatePort, NtTerminateProcess, NtTerminateThread}
 use Rattle.lpc_model.specs.declared.entry.Entry.TheVariants.{Answer}
 use Rattle.std.proofs.Common.{Bool, List, None, Option, Some, [], false, not, refl, true, ℕ, ◌∷◌, ◌≡◌}
-use Rattle.std.proofs.lemmas.Bool.{not-false}
-use Rattle.std.specs.Prelude.{Ok, ◌==◌}
+use Rattle.std.proofs.lemmas.Bool.{eqb-true, not-false}
+use Rattle.std.specs.Prelude.{Ok, ◌%◌, ◌&&◌, ◌==◌, length, nat_lt}
 
 -- the tests of a listen find a connection port
 pub record IsListening (w : World) (by : ThreadRow) (handle : ℕ) (port : PortRow) : Type 0 where
@@ -42,6 +45,21 @@ pub record IsReceiving (w : World) (by : ThreadRow) (handle : ℕ) (bytes : Opti
   pub message_read : optional_message bytes ≡ Ok o
   pub queue_found : receive_test w port ≡ Ok queue
   pub reply_made : given_reply w port o ≡ Ok replied
+
+-- the tests of a creation find a protection, and a size that a section may have
+pub record IsBuilding (size prot : ℕ) : Type 0 where
+  pub protection : protection_test prot ≡ Ok tt
+  pub some : (size == 0) ≡ false
+  pub most : nat_lt SECTION_LIMIT size ≡ false
+
+-- the tests of a mapping find the section, the size of the view and its base
+pub record IsMapping (w : World) (by : ThreadRow) (handle offset size prot : ℕ) (s : SectionRow) (rounded base : ℕ) : Type 0 where
+  pub section : section_test w by (mapping_right prot) handle ≡ Ok s
+  pub pages : offset % PAGE_SIZE ≡ 0
+  pub protection : protection_test prot ≡ Ok tt
+  pub written : ((prot == PAGE_READWRITE) && not s.writable) ≡ false
+  pub size_found : size_test s offset size ≡ Ok rounded
+  pub base_found : base_test w by.process rounded ≡ Ok base
 
 -- the threads that a call ends, all of one process: the one that it names, or those of the process that it names; and whether
 -- its own is among them
@@ -87,6 +105,12 @@ pub record Outcomes (w : World) (by : ThreadRow) (P : ScriptCall → List Basic 
   -- a process is made with its thread, a thread is made
   pub spawns : (pid tid : ℕ) → was_process w pid ≡ false → was_thread w tid ≡ false → P (create_process pid tid) (making_process w by pid tid)
   pub starts : (target : ProcArg) (tid pid : ℕ) → process_target w by target ≡ Ok pid → is_live w pid ≡ true → was_thread w tid ≡ false → P (create_thread target tid) (making_thread w by tid pid)
+  -- a section is made; a view is mapped, and goes; memory is read and written
+  pub makes_section : (size prot : ℕ) → IsBuilding size prot → P (create_section size prot) (section_steps by size prot (free_handle w by.process))
+  pub maps_view : (handle offset size prot : ℕ) (s : SectionRow) (rounded base : ℕ) → IsMapping w by handle offset size prot s rounded base → P (map_view_of_section handle offset size prot) (map_steps by (mapped_view s offset rounded prot base))
+  pub unmaps_view : (address : ℕ) (v : ViewRow) → view_holding w by.process address 1 ≡ Some v → P (unmap_view_of_section address) (unmap_steps by v)
+  pub reads_memory : (address n : ℕ) (v : ViewRow) → memory_test w by address n ≡ Ok v → P (read_virtual_memory address n) (read_steps w.contents by address n v)
+  pub writes_memory : (address : ℕ) (new : List ℕ) (v : ViewRow) → memory_test w by address (length new) ≡ Ok v → v.writable ≡ true → P (write_virtual_memory address new) (write_steps by address new v)
   -- threads end, the caller itself (own) or others
   pub ends : (call : EndCall) (name : CallName) (own : Bool) (pid : ℕ) (code : Status) (ts : List ThreadRow) → AreDoomed w by own pid ts → P (end_call call) (answered_end by name own pid code ts w)
 
@@ -217,6 +241,53 @@ module _ (w : World) (by : ThreadRow) (P : ScriptCall → List Basic → Type 0)
       bind_holds (live_test w pid) _ Q (λ u off.
       o.ends (of_process target code) NtTerminateProcess (pid == by.process) pid (code_status code) (live_threads w pid) (all target pid at (not-false (is_live w pid) (not_refused (not (is_live w pid)) INVALID_CID u off)))))
 
+  create-section-does : (size prot : ℕ) → Holds (P (create_section size prot)) (nt_create_section w by size prot)
+  unfolding nt_create_section
+  create-section-does size prot =
+      let Q = P (create_section size prot) in
+      bind_holds (protection_test prot) _ Q (λ p protected.
+      bind_holds (refuse_if (size == 0) INVALID_PARAMETER_4) _ Q (λ x some.
+      bind_holds (refuse_if (nat_lt SECTION_LIMIT size) SECTION_TOO_BIG) _ Q (λ y most.
+      bind_holds (section_load_test w by.process (whole_pages size)) _ Q (λ _ _.
+      bind_holds (handles_test w by.process 1) _ Q (λ _ _. o.makes_section size prot (record {
+        protection = protected;
+        some = not_refused _ INVALID_PARAMETER_4 x some;
+        most = not_refused _ SECTION_TOO_BIG y most;
+      }))))))
+
+  map-does : (handle offset size prot : ℕ) → Holds (P (map_view_of_section handle offset size prot)) (nt_map_view_of_section w by handle offset size prot)
+  unfolding nt_map_view_of_section
+  map-does handle offset size prot =
+      let Q = P (map_view_of_section handle offset size prot) in
+      bind_holds (section_test w by (mapping_right prot) handle) _ Q (λ s found.
+      bind_holds (refuse_if (not (offset % PAGE_SIZE == 0)) MAPPED_ALIGNMENT) _ Q (λ u aligned.
+      bind_holds (protection_test prot) _ Q (λ p protected.
+      bind_holds (refuse_if ((prot == PAGE_READWRITE) && not s.writable) SECTION_PROTECTION) _ Q (λ x written.
+      bind_holds (size_test s offset size) _ Q (λ rounded sized.
+      bind_holds (base_test w by.process rounded) _ Q (λ base based. o.maps_view handle offset size prot s rounded base (record {
+        section = found;
+        pages = eqb-true _ _ (not-false _ (not_refused _ MAPPED_ALIGNMENT u aligned));
+        protection = protected;
+        written = not_refused _ SECTION_PROTECTION x written;
+        size_found = sized;
+        base_found = based;
+      })))))))
+
+  unmap-does : (address : ℕ) → Holds (P (unmap_view_of_section address)) (nt_unmap_view_of_section w by address)
+  unfolding nt_unmap_view_of_section
+  unmap-does address = bind_holds (found_or (view_holding w by.process address 1) NOT_MAPPED_VIEW) _ (P (unmap_view_of_section address)) (λ v at. o.unmaps_view address v (found_ok (view_holding w by.process address 1) NOT_MAPPED_VIEW v at))
+
+  read-does : (address n : ℕ) → Holds (P (read_virtual_memory address n)) (nt_read_virtual_memory w by address n)
+  unfolding nt_read_virtual_memory
+  read-does address n = bind_holds (memory_test w by address n) _ (P (read_virtual_memory address n)) (λ v at. o.reads_memory address n v at)
+
+  write-does : (address : ℕ) (new : List ℕ) → Holds (P (write_virtual_memory address new)) (nt_write_virtual_memory w by address new)
+  unfolding nt_write_virtual_memory
+  write-does address new =
+      let Q = P (write_virtual_memory address new) in
+      bind_holds (memory_test w by address (length new)) _ Q (λ v at.
+      bind_holds (refuse_if (not v.writable) ACCESS_VIOLATION) _ Q (λ u off. o.writes_memory address new v at (not-false v.writable (not_refused (not v.writable) ACCESS_VIOLATION u off))))
+
   pub service-does : (call : ScriptCall) → Holds (P call) (service_of w by call)
   service-does (create_port name) = create-does name
   service-does (connect_port name bytes) = connect-does name bytes
@@ -235,3 +306,8 @@ module _ (w : World) (by : ThreadRow) (P : ScriptCall → List Basic → Type 0)
   service-does (create_thread target tid) = create-thread-does target tid
   service-does (terminate_thread target code) = thread-does target code
   service-does (terminate_process target code) = process-does target code
+  service-does (create_section size prot) = create-section-does size prot
+  service-does (map_view_of_section handle offset size prot) = map-does handle offset size prot
+  service-does (unmap_view_of_section address) = unmap-does address
+  service-does (read_virtual_memory address n) = read-does address n
+  service-does (write_virtual_memory address new) = write-does address new

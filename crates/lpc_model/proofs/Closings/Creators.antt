@@ -95,7 +95,11 @@ keeping-law by = record {
   closes = λ w pid r at s _. ended-keeps (close_handle pid r w) (handle-ending pid r w);
   dies = λ w code t is. ended-keeps (die code t w) (die-ending code t w);
   leaves = λ w n b. refl;
-  unmaps = λ w pid. refl;
+  vacates = λ w pid. refl;
+  builds = λ w size prot is. refl;
+  maps = λ w handle offset size prot s rounded base m. refl;
+  unmaps = λ w pid base. refl;
+  writes = λ w b place new. refl;
 }
 
 -- Lines

@@ -19,7 +19,7 @@ use Rattle.lpc_model.proofs.Steps.InTurn.{after-append}
 use Rattle.lpc_model.proofs.Closings.Told.{AreHushed, hushed-enter, hushed-receipt, is_hushed}
 use Rattle.lpc_model.proofs.Closings.ToldLines.{die-hushed}
 use Rattle.lpc_model.proofs.Calls.Usable.{CanCall}
-use Rattle.lpc_model.specs.Basics.{Accepts, AddsHandle, AddsProcess, AddsThread, Awaits, Basic, Completes, DrawsIdentifier, DrawsOrdinal, DropsViewsOf, Joins, Makes, Registers, Unregisters, basic, world_after}
+use Rattle.lpc_model.specs.Basics.{Accepts, AddsHandle, AddsProcess, AddsThread, Awaits, Basic, Completes, DrawsIdentifier, DrawsOrdinal, DropsViewsOf, Joins, Makes, Registers, Unregisters, basic, world_after, AddsSection, Maps, Unmaps, Writes}
 use Rattle.lpc_model.specs.Closings.{is_closed_post}
 use Rattle.lpc_model.specs.Connect.{Completable, answer_of, client_port, connect_start, connect_wait, connection_request, is_accepted_on, named_steps, server_port, unnamed_steps}
 use Rattle.lpc_model.specs.Creation.{new_process, new_thread, second_birth}
@@ -28,6 +28,7 @@ use Rattle.lpc_model.specs.Entering.{enter, take_connect_steps, take_steps, row_
 use Rattle.lpc_model.specs.Fields.{h, info, max}
 use Rattle.lpc_model.specs.Found.{free_handle, is_accepted, is_open, is_port, port_name, same_birth, waits_as}
 use Rattle.lpc_model.specs.Lines.{ScriptLine}
+use Rattle.lpc_model.specs.Memory.{mapped_view, new_section}
 use Rattle.lpc_model.specs.Machine.{bare_steps}
 use Rattle.lpc_model.specs.Message.{made}
 use Rattle.lpc_model.specs.SingleClosings.{HasSingleClosings, StepsKeepSingleClosings, is_closing_of}
@@ -152,11 +153,15 @@ untold-law by = record {
   closes = λ w pid r at s _. handle-untold w pid r at s;
   dies = λ w code t is. hushed-all w (die code t w) (die-hushed code t w);
   leaves = λ w n b. hushed-all w (Unregisters n b ∷ []) refl;
-  unmaps = λ w pid. hushed-all w (DropsViewsOf pid ∷ []) refl;
+  vacates = λ w pid. hushed-all w (DropsViewsOf pid ∷ []) refl;
+  builds = λ w size prot is. hushed-all w (DrawsOrdinal by.number ∷ AddsSection (new_section by size prot) ∷ []) refl;
+  maps = λ w handle offset size prot s rounded base m. hushed-all w (Maps by.process (mapped_view s offset rounded prot base) ∷ []) refl;
+  unmaps = λ w pid base. hushed-all w (Unmaps pid base ∷ []) refl;
+  writes = λ w b place new. hushed-all w (Writes b place new ∷ []) refl;
 }
 
 -- Lines
-untold-lines : LineLaw (Shut NamesWhatStands) (λ _. KeepUntold)
+pub untold-lines : LineLaw (Shut NamesWhatStands) (λ _. KeepUntold)
 untold-lines = passing-lines (Shut NamesWhatStands) KeepUntold (λ w. is_hushed) hushed-all (λ w. record { tells = λ _. refl; processes = λ _. refl; threads = λ _ _ _. refl; binds = λ _ _. refl }) (λ by. outcomes by (Shut NamesWhatStands) AnyWorld KeepUntold (untold-law by) (λ w c. (c.0, tt)))
 
 -- before rows go

@@ -62,7 +62,11 @@ told-law by = record {
   closes = λ w pid r at s _. handle-tells w pid r at s;
   dies = λ w code t is. hushed-tells w (die code t w) (die-hushed code t w);
   leaves = λ w n b. refl;
-  unmaps = λ w pid. refl;
+  vacates = λ w pid. refl;
+  builds = λ w size prot is. refl;
+  maps = λ w handle offset size prot s rounded base m. refl;
+  unmaps = λ w pid base. refl;
+  writes = λ w b place new. refl;
 }
 
 -- Lines

@@ -99,7 +99,7 @@ is_mild w (Registers who b) = false
 is_mild w (Frees o) = false
 is_mild w (AddsThread t) = t.live && (length t.registrations == 0)
 is_mild w (AddsHandle pid h) = is_live w pid
-is_mild w (Maps x) = is_live w x.process
+is_mild w (Maps pid x) = is_live w pid
 is_mild w b = is_deathless b
 
 abbrev pub AreMild : World → List Basic → Type 0
@@ -110,7 +110,7 @@ mild-deathless w (Registers who b) is = absurd (cc)
 mild-deathless w (Frees o) is = absurd (cc)
 mild-deathless w (AddsThread t) is = refl
 mild-deathless w (AddsHandle pid h) is = refl
-mild-deathless w (Maps x) is = refl
+mild-deathless w (Maps pid x) is = refl
 mild-deathless w b is = is
 
 pub milds-deathless : (w : World) (bs : List Basic) → AreMild w bs → AreDeathless bs
@@ -121,7 +121,7 @@ ending-mild w (Registers who b) ends is = absurd (cc)
 ending-mild w (Frees o) ends is = absurd (cc)
 ending-mild w (AddsThread t) ends is = absurd (cc)
 ending-mild w (AddsHandle pid h) ends is = absurd (cc)
-ending-mild w (Maps x) ends is = absurd (cc)
+ending-mild w (Maps pid x) ends is = absurd (cc)
 ending-mild w b ends is = is
 
 mild-enter : (w v : World) (m : MessageRow) → not (is_died_post m) ≡ true → AreMild w (enter m v)
@@ -193,5 +193,10 @@ module _ (by : ThreadRow) (C : World → Type 0) (P : World → List Basic → T
     queries = λ handle r at. k.mild w _ refl;
     spawns = λ pid tid new unused. k.mild w _ (rw (caller-lives w by is.can) refl);
     starts = λ target tid pid _ live unused. k.mild w _ (rw (caller-lives w by is.can) refl);
+    makes_section = λ size prot asked. k.mild w _ (rw (caller-lives w by is.can) refl);
+    maps_view = λ handle offset size prot s rounded base m. k.mild w _ (rw (caller-lives w by is.can) refl);
+    unmaps_view = λ address v at. k.mild w _ refl;
+    reads_memory = λ address n v at. k.mild w _ refl;
+    writes_memory = λ address new v at may. k.mild w _ refl;
     ends = λ call name own pid code ts doomed. k.ends w name own pid code ts doomed is;
   }

@@ -10,8 +10,8 @@ use Rattle.lpc_message.specs.declared.kind.TheConstants.{DATAGRAM, REQUEST}
 use Rattle.lpc_model.proofs.Steps.Closing.{behind}
 use Rattle.lpc_model.proofs.Calls.Creating.{process-keeps, threaded}
 use Rattle.lpc_model.proofs.Steps.Ending.{answered_end}
-use Rattle.lpc_model.proofs.Steps.Handles.{open-count, open-new}
-use Rattle.lpc_model.proofs.Held.Steps.{counts-more, handle-count, handle-sections, handles-push, held-some, holds-port, keeps_lives, lives-all, lives-handle, lives-more, loosened-on, not-less, ports-more, push-more, quiet-all, quiet-sections, sections-all, sections-more, steady-keeps}
+use Rattle.lpc_model.proofs.Steps.Handles.{named-new, open-count, open-new}
+use Rattle.lpc_model.proofs.Held.Steps.{counts-more, handle-count, handle-sections, handles-push, held-some, holds-port, keeps_lives, lives-all, lives-handle, lives-more, loosened-on, not-less, ports-more, push-more, quiet-all, quiet-sections, sections-all, sections-more, steady-keeps, holds-section, more-handles}
 use Rattle.lpc_model.proofs.Calls.Lines.{AnyWorld, IsCalled, LineLaw, line-does}
 use Rattle.lpc_model.proofs.Linked.Steps.{is_steady}
 use Rattle.lpc_model.proofs.Calls.Outcomes.{AreDoomed, Outcomes, all, one}
@@ -22,23 +22,24 @@ use Rattle.lpc_model.proofs.Sound.Frees.{fewer-pass}
 use Rattle.lpc_model.proofs.Steps.Steady.{AreSteady, steady-ask, steady-await, steady-enter, steady-receipt, steady-receive, steady-send}
 use Rattle.lpc_model.proofs.Held.FreedPort.{unheld_ports}
 use Rattle.lpc_model.proofs.Calls.Usable.{CanCall}
-use Rattle.lpc_model.specs.Basics.{AddsHandle, AddsProcess, AddsThread, Basic, Binds, Dies, DrawsIdentifier, DrawsOrdinal, DropsHandle, Makes, Registers, Tells, Withdraws, basic, in_turn, no_handles, past_identifier, past_ordinal, with_handle, world_after}
+use Rattle.lpc_model.specs.Basics.{AddsHandle, AddsProcess, AddsThread, Basic, Binds, Dies, DrawsIdentifier, DrawsOrdinal, DropsHandle, Makes, Registers, Tells, Withdraws, basic, in_turn, no_handles, no_views, past_identifier, past_ordinal, with_handle, world_after, AddsSection}
 use Rattle.lpc_model.specs.Close.{close_port, close_steps, is_last}
 use Rattle.lpc_model.specs.Connect.{client_port, connect_start, connect_wait, connection_request, create_steps, listen_steps, new_port}
 use Rattle.lpc_model.specs.Counts.{asked}
 use Rattle.lpc_model.specs.Creation.{gives_life, making_process, making_thread, second_birth}
 use Rattle.lpc_model.specs.Death.{cut_accepted, die, end_threads}
 use Rattle.lpc_model.specs.Entering.{enter, row_of}
-use Rattle.lpc_model.specs.Found.{all_registrations, free_handle, handle_count, is_connected_to, is_life, is_made_on, is_paired_to, is_sent_on, is_table, is_thread, live_threads, lives_by, lives_in, port_name, process_name, registered_by, same_birth, same_object, section_name, shows_section, thread_name, wait_of, was_process}
+use Rattle.lpc_model.specs.Found.{all_registrations, all_views, free_handle, handle_count, is_connected_to, is_life, is_made_on, is_paired_to, is_sent_on, is_table, is_thread, live_threads, lives_by, lives_in, port_name, process_name, registered_by, same_birth, same_object, section_name, shows_section, thread_name, wait_of, was_process}
 use Rattle.lpc_model.specs.Lines.{ScriptLine}
 use Rattle.lpc_model.specs.Linked.{AreLivesHeld, HasHeldPorts, HasHeldRows, HasHeldSections}
+use Rattle.lpc_model.specs.Memory.{SECTION_ACCESS, map_steps, mapped_view, new_section, section_steps, write_steps}
 use Rattle.lpc_model.specs.Machine.{bare_steps, directive_birth, new_process, new_thread}
 use Rattle.lpc_model.specs.Request.{datagram_steps, receive_steps, request_steps, sent_by}
 use Rattle.lpc_model.specs.SoundWaits.{IsSoundWorld}
 use Rattle.lpc_model.specs.Sweep.{loosened, loosens, unheld}
 use Rattle.lpc_model.specs.Targets.{LIFE_ACCESS}
 use Rattle.lpc_model.specs.Tests.{PORT_ACCESS, handle_row, next_birth}
-use Rattle.lpc_model.specs.World.{Birth, HandleRow, Message, Node, ObjectName, Path, ProcessRow, ThreadRow, World}
+use Rattle.lpc_model.specs.World.{Birth, HandleRow, Message, Node, ObjectName, Path, ProcessRow, ThreadRow, ViewTable, World}
 use Rattle.lpc_model.specs.declared.entry.CallName.{CallName}
 use Rattle.lpc_model.specs.declared.entry.CallName.TheVariants.{NtRegisterThreadTerminatePort}
 use Rattle.lpc_model.specs.declared.entry.Entry.TheVariants.{Answer}
@@ -122,6 +123,16 @@ created-sections : (w : World) (by : ThreadRow) (kind : PortKind) → CanCall w 
 created-sections w by kind c s held =
     let made = basic (basic w (DrawsOrdinal by.number)) (Makes (new_port (next_birth by) kind)) in
     handle-sections made by.process (port_name (next_birth by)) PORT_ACCESS (s.tables by.process) (sections-all w (DrawsOrdinal by.number ∷ Makes (new_port (next_birth by) kind) ∷ []) refl held)
+
+-- a section that is made has a handle
+built-sections : (w : World) (by : ThreadRow) (size prot : ℕ) → CanCall w by → IsSoundWorld w → HasHeldSections w → HasHeldSections (world_after w (section_steps by size prot (free_handle w by.process)))
+built-sections w by size prot c s held =
+    let own = next_birth by in
+    let made = basic (basic w (DrawsOrdinal by.number)) (AddsSection (new_section by size prot)) in
+    let v = basic made (AddsHandle by.process (handle_row (free_handle w by.process) (section_name own) SECTION_ACCESS)) in
+    let old = sections-more w v (λ b. more-handles (handle_count w (section_name b)) _ (count (shows_section b) (all_views w)) (handle-count w by.process (section_name own) SECTION_ACCESS (section_name b) (s.tables by.process))) held in
+    let some = named-new made by.process (free_handle w by.process) SECTION_ACCESS (section_name own) (birth-self own) c.home in
+    every-push (holds-section v) w.sections (new_section by size prot) old (held-some _ (some-sum (handle_count v (section_name own)) _ some))
 
 -- the client port of a connect has a wait
 last-some : (a b c d e f : ℕ) → 1 ≤ e → 1 ≤ a + (b + (c + (d + (e + f))))
@@ -207,7 +218,7 @@ module _ (w : World) (pid tid : ℕ) (maker : Option ℕ) (birth next : Birth) w
   boot-ports held = ports-more w booted (λ b. counts-more _ (count (is_paired_to b) w.ports) (count (is_connected_to b) w.ports) (count (is_sent_on b) w.messages) (count (is_made_on b) w.waits) _ _ _ _ _ _ _ (booted-handles (port_name b)) (omega arith) (omega arith) (omega arith) (omega arith) (not-less _ _ (ap (count (same_birth b)) (push-each registered_by booted_thread refl w.threads)))) held
 
   boot-sections : HasHeldSections w → HasHeldSections booted
-  boot-sections held = sections-more w booted (λ b. both-more _ _ (count (shows_section b) w.views) _ (booted-handles (section_name b)) (omega arith)) held
+  boot-sections held = sections-more w booted (λ b. both-more _ _ (count (shows_section b) (all_views w)) _ (booted-handles (section_name b)) (not-less _ _ (ap (count (shows_section b)) (push-each (λ (t : ViewTable). t.rows) (no_views booted_process.number) refl w.views)))) held
 
 -- a thread that is made has registered no port
 further-ports : (w : World) (tid pid : ℕ) (birth : Birth) → HasHeldPorts w → HasHeldPorts (basic w (AddsThread (new_thread tid pid birth)))
@@ -239,6 +250,7 @@ record KeepsRows (Q : World → Type 0) : Type 0 where
   binds : (w : World) (path : Path) (node : Node Birth) → Q w → Q (basic w (Binds path node))
   creates : (w : World) (by : ThreadRow) (kind : PortKind) → CanCall w by → IsSoundWorld w → Q w → Q (world_after w (create_steps by (Makes (new_port (next_birth by) kind) ∷ []) (free_handle w by.process)))
   connects : (w : World) (by : ThreadRow) (connection : Birth) (m : Message) → Q w → Q (world_after w (connect_start by connection m))
+  builds : (w : World) (by : ThreadRow) (size prot : ℕ) → CanCall w by → IsSoundWorld w → Q w → Q (world_after w (section_steps by size prot (free_handle w by.process)))
   boots : (w : World) (pid tid : ℕ) (maker : Option ℕ) (birth next : Birth) → Q w → Q (booted w pid tid maker birth next)
   threads : (w : World) (tid pid : ℕ) (birth : Birth) → Q w → Q (basic w (AddsThread (new_thread tid pid birth)))
 
@@ -288,6 +300,11 @@ module _ (Q : World → Type 0) (k : KeepsRows Q) where
     queries = λ handle r at quiet held. held;
     spawns = λ pid tid new unused quiet. spawned w by pid tid new is.can is.sound;
     starts = λ target tid pid _ live unused quiet. started w by tid pid is.sound;
+    makes_section = λ size prot asked quiet. k.builds w by size prot is.can is.sound;
+    maps_view = λ handle offset size prot s rounded base m. k.steady w (map_steps by (mapped_view s offset rounded prot base)) refl;
+    unmaps_view = λ address v at quiet. absurd (cc);
+    reads_memory = λ address n v at quiet held. held;
+    writes_memory = λ address new v at may. k.steady w (write_steps by address new v) refl;
     ends = λ call name own pid code ts doomed quiet. let loose = doomed-loosens w by name own pid code ts doomed in absurd (cc);
   }
 
@@ -313,6 +330,7 @@ lives_kept w line s held quiet = line-quiet AreLivesHeld (record {
   binds = bound-lives;
   creates = λ w by kind _ s. created-lives w by kind s;
   connects = λ w by connection m. lives-all w (connect_start by connection m) refl;
+  builds = λ w by size prot _ s held. let bs = DrawsOrdinal by.number ∷ AddsSection (new_section by size prot) ∷ [] in lives-handle (world_after w bs) by.process (section_name (next_birth by)) SECTION_ACCESS (s.tables by.process) (lives-all w bs refl held);
   boots = boot-held;
   threads = further-thread;
 }) w line s quiet held
@@ -325,6 +343,7 @@ ports_kept w line s held quiet = line-quiet HasHeldPorts (record {
   binds = λ w path node held. held;
   creates = created-quiet;
   connects = started-quiet;
+  builds = λ w by size prot _ s held. let drawn = basic w (DrawsOrdinal by.number) in handle-quiet (basic drawn (AddsSection (new_section by size prot))) by.process (section_name (next_birth by)) SECTION_ACCESS (s.tables by.process) (quiet-all w (DrawsOrdinal by.number ∷ []) refl refl held);
   boots = boot-ports;
   threads = further-ports;
 }) w line s quiet held
@@ -337,6 +356,7 @@ sections_kept w line s held quiet = line-quiet HasHeldSections (record {
   binds = λ w path node held. held;
   creates = created-sections;
   connects = λ w by connection m. sections-all w (connect_start by connection m) refl;
+  builds = built-sections;
   boots = boot-sections;
   threads = λ w tid pid birth. sections-all w (AddsThread (new_thread tid pid birth) ∷ []) refl;
 }) w line s quiet held

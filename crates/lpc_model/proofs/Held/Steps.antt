@@ -6,9 +6,9 @@ use Rattle.std.proofs.Math.Bool.{or-true}
 use Rattle.lpc_base.specs.Rows.{change, count, each, every, has, which}
 use Rattle.lpc_base.proofs.RowWords.{count-append, count-push, every-change, every-more}
 use Rattle.lpc_base.proofs.Bools.{first-true, number-apart, second-true}
-use Rattle.lpc_model.specs.World.{Birth, HandleRow, HandleTable, ObjectName, PortRow, ProcessRow, SectionRow, ThreadRow, World}
-use Rattle.lpc_model.specs.Found.{all_registrations, free_handle, handle_count, has_value, is_connected_to, is_life, is_made_on, is_paired_to, is_port, is_sent_on, is_table, is_thread, lives_by, pointer_count, port_name, process_name, registered_by, same_birth, same_object, section_name, shows_section, thread_name, waits_as, waits_at}
-use Rattle.lpc_model.specs.Basics.{Accepts, AddsHandle, AddsProcess, AddsSection, AddsThread, Awaits, Basic, Binds, Completes, Cuts, Dies, DrawsIdentifier, DrawsOrdinal, DropsHandle, DropsViewsOf, Empties, Enters, Frees, Joins, Makes, Maps, Receives, Registers, Takes, TakesConnect, Tells, Unbinds, Unmaps, Unregisters, Wakes, Withdraws, Writes, accepted, basic, completed, past_identifier, past_ordinal, put_handle, received, registering, unregistering, with_handle, world_after}
+use Rattle.lpc_model.specs.World.{Birth, HandleRow, HandleTable, ObjectName, PortRow, ProcessRow, SectionRow, ThreadRow, ViewTable, World}
+use Rattle.lpc_model.specs.Found.{all_registrations, all_views, free_handle, handle_count, has_value, is_connected_to, is_life, is_made_on, is_paired_to, is_port, is_sent_on, is_space, is_table, is_thread, lives_by, pointer_count, port_name, process_name, registered_by, same_birth, same_object, section_name, shows_section, thread_name, waits_as, waits_at}
+use Rattle.lpc_model.specs.Basics.{Accepts, AddsHandle, AddsProcess, AddsSection, AddsThread, Awaits, Basic, Binds, Completes, Cuts, Dies, DrawsIdentifier, DrawsOrdinal, DropsHandle, DropsViewsOf, Empties, Enters, Frees, Joins, Makes, Maps, Receives, Registers, Takes, TakesConnect, Tells, Unbinds, Unmaps, Unregisters, Wakes, Withdraws, Writes, accepted, basic, completed, past_identifier, past_ordinal, put_handle, received, registering, unregistering, with_handle, with_view, world_after}
 use Rattle.lpc_model.specs.Sweep.{is_unheld, loosened, loosens}
 use Rattle.lpc_model.specs.Linked.{AreLivesHeld, HasHeldPorts, HasHeldSections}
 use Rattle.lpc_model.specs.Tests.{handle_row}
@@ -211,7 +211,7 @@ quiet-step w (Joins client server context) is quiet held = absurd (cc)
 quiet-step w (Frees o) is quiet held = absurd (cc)
 quiet-step w (AddsSection s) is quiet held = absurd (cc)
 quiet-step w (Writes b place new) is quiet held = held
-quiet-step w (Maps v) is quiet held = held
+quiet-step w (Maps pid v) is quiet held = held
 quiet-step w (Unmaps pid base) is quiet held = absurd (cc)
 quiet-step w (DropsViewsOf pid) is quiet held = absurd (cc)
 
@@ -227,12 +227,12 @@ sections-more w v more held = every-more (holds-section w) (holds-section v) (λ
 pub more-views : (a b c : ℕ) → b ≤ c → a + b ≤ a + c
 more-views a b c is = omega (arith, is)
 
-more-handles : (a b c : ℕ) → a ≤ b → a + c ≤ b + c
+pub more-handles : (a b c : ℕ) → a ≤ b → a + c ≤ b + c
 more-handles a b c is = omega (arith, is)
 
 pub handle-sections : (w : World) (pid : ℕ) (object : ObjectName) (access : ℕ) → count (is_table pid) w.handles ≤ 1 → HasHeldSections w → HasHeldSections (basic w (AddsHandle pid (handle_row (free_handle w pid) object access)))
 handle-sections w pid object access few held =
-    sections-more w (basic w (AddsHandle pid (handle_row (free_handle w pid) object access))) (λ b. more-handles (handle_count w (section_name b)) _ (count (shows_section b) w.views) (handle-count w pid object access (section_name b) few)) held
+    sections-more w (basic w (AddsHandle pid (handle_row (free_handle w pid) object access))) (λ b. more-handles (handle_count w (section_name b)) _ (count (shows_section b) (all_views w)) (handle-count w pid object access (section_name b) few)) held
 
 -- steps that make no section, give and take no handle, and by which no object and no view goes
 abbrev pub keeps_sections : Basic → Bool
@@ -246,7 +246,7 @@ keeps_sections (DropsViewsOf pid) = false
 keeps_sections b = true
 
 sections-step : (w : World) (b : Basic) → keeps_sections b ≡ true → HasHeldSections w → HasHeldSections (basic w b)
-sections-step w (Maps v) is held = sections-more w (basic w (Maps v)) (λ b. more-views (handle_count w (section_name b)) _ _ (push-more (shows_section b) w.views v)) held
+sections-step w (Maps pid v) is held = sections-more w (basic w (Maps pid v)) (λ b. more-views (handle_count w (section_name b)) _ _ (more-each (shows_section b) (λ (t : ViewTable). t.rows) (is_space pid) (with_view v) (λ t. push-more (shows_section b) t.rows v) w.views)) held
 sections-step w (AddsProcess p) is held = absurd (cc)
 sections-step w (AddsHandle pid h) is held = absurd (cc)
 sections-step w (DropsHandle pid value) is held = absurd (cc)

@@ -28,6 +28,7 @@ use Rattle.lpc_model.specs.Creation.{making_process, making_thread}
 use Rattle.lpc_model.specs.Found.{free_handle}
 use Rattle.lpc_model.specs.Lines.{ScriptLine}
 use Rattle.lpc_model.specs.Linked.{is_root_port}
+use Rattle.lpc_model.specs.Memory.{map_steps, mapped_view, section_steps, unmap_steps, write_steps}
 use Rattle.lpc_model.specs.Machine.{bare_steps, directive_birth, new_process, new_thread, step}
 use Rattle.lpc_model.specs.Named.{named_port}
 use Rattle.lpc_model.specs.Request.{datagram_steps, receive_steps, reply_steps, request_steps, sent_by}
@@ -76,11 +77,16 @@ linked-calls by w is = record {
   queries = λ handle r at l. l;
   spawns = λ pid tid new unused. plain-all w (making_process w by pid tid) refl;
   starts = λ target tid pid _ live unused. plain-all w (making_thread w by tid pid) refl;
+  makes_section = λ size prot asked. plain-all w (section_steps by size prot (free_handle w by.process)) refl;
+  maps_view = λ handle offset size prot s rounded base m. plain-all w (map_steps by (mapped_view s offset rounded prot base)) refl;
+  unmaps_view = λ address v at. plain-all w (unmap_steps by v) refl;
+  reads_memory = λ address n v at l. l;
+  writes_memory = λ address new v at may. plain-all w (write_steps by address new v) refl;
   ends = λ call name own pid code ts doomed. ended-linked w (answered_end by name own pid code ts w) (steps-end w by name own pid code ts);
 }
 
 -- Lines
-linked-lines : LineLaw AnyWorld (λ _. Keep IsLinked)
+pub linked-lines : LineLaw AnyWorld (λ _. Keep IsLinked)
 linked-lines = record {
   tells = λ line w e _ l. l;
   calls = linked-calls;

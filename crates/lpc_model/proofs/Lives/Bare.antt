@@ -7,14 +7,14 @@ use Rattle.lpc_base.specs.Rows.{count, each, every, first, has, passes}
 use Rattle.lpc_base.proofs.RowWords.{every-more, first-passes}
 use Rattle.lpc_base.proofs.RowMaps.{every-both}
 use Rattle.lpc_base.proofs.Bools.{first-true, or-second, second-true}
-use Rattle.lpc_model.specs.World.{Birth, HandleRow, HandleTable, PortRow, ThreadRow, WaitRow, World}
-use Rattle.lpc_model.specs.Found.{all_handles, is_connected_to, is_life, is_live, is_live_thread, is_open, is_paired_to, is_port, is_the, lives_by, lives_in, live_thread, names_port, port_name, process_name, registered_by, section_name, thread_name}
+use Rattle.lpc_model.specs.World.{Birth, HandleRow, HandleTable, PortRow, ThreadRow, ViewRow, ViewTable, WaitRow, World}
+use Rattle.lpc_model.specs.Found.{all_handles, all_views, is_connected_to, is_life, is_live, is_live_thread, is_open, is_paired_to, is_port, is_the, lives_by, lives_in, live_thread, names_port, port_name, process_name, registered_by, section_name, thread_name}
 use Rattle.lpc_model.specs.Sweep.{is_unheld}
 use Rattle.lpc_model.specs.Linked.{HasHeldRows, IsLinked, names_nothing}
 use Rattle.lpc_model.specs.OpenQueues.{HasOpenQueues}
 use Rattle.lpc_model.specs.SoundWaits.{IsSoundWorld, is_sound_as, is_sound_wait, waiter_of}
 use Rattle.lpc_model.specs.Tests.{is_client}
-use Rattle.lpc_model.specs.Left.{HasKeptPairs, HasLivingHandles, HasLivingViews, IsBare, is_kept_pair, is_living_table, is_living_view, lacks_handles}
+use Rattle.lpc_model.specs.Left.{HasKeptPairs, HasLivingHandles, HasLivingViews, IsBare, is_kept_pair, is_living_space, is_living_table, lacks_handles, lacks_views}
 use Rattle.lpc_model.proofs.Steps.Rows.{has-found, has-off}
 use Rattle.lpc_model.proofs.Steps.Handles.{open-count}
 use Rattle.lpc_model.proofs.Held.Ports.{connected-end, found-self, is_held_aside, unheld-parts}
@@ -75,6 +75,21 @@ none-handles w dead living = of w.handles (every-more (is_living_table w) lacks_
     of : (ts : List HandleTable) → every lacks_handles ts ≡ true → each (λ (t : HandleTable). t.rows) ts ≡ []
     of [] all = refl
     of (t ∷ ts) all = rw (empty t (first-true (lacks_handles t) (every lacks_handles ts) all), of ts (second-true (lacks_handles t) (every lacks_handles ts) all)) refl
+
+-- and no view
+none-views : (w : World) → ((pid : ℕ) → is_live w pid ≡ false) → HasLivingViews w → all_views w ≡ []
+none-views w dead living = of w.views (every-more (is_living_space w) lacks_views (λ t is. or-second (is_live w t.process) _ (dead t.process) is) w.views living)
+  where
+    empty : (t : ViewTable) → lacks_views t ≡ true → t.rows ≡ []
+    empty t is = at t.rows is
+      where
+        at : (rs : List ViewRow) → (elim rs [ [] ↦ true | r ∷ rest ↦ false ]) ≡ true → rs ≡ []
+        at [] is = refl
+        at (r ∷ rs) is = absurd (cc)
+
+    of : (ts : List ViewTable) → every lacks_views ts ≡ true → each (λ (t : ViewTable). t.rows) ts ≡ []
+    of [] all = refl
+    of (t ∷ ts) all = rw (empty t (first-true (lacks_views t) (every lacks_views ts) all), of ts (second-true (lacks_views t) (every lacks_views ts) all)) refl
 
 module _ (w : World) (s : IsSoundWorld w) (l : IsLinked w) (held : HasHeldRows w) (queues : HasOpenQueues w) (living : HasLivingHandles w) (viewing : HasLivingViews w) (pairs : HasKeptPairs w) (dead : (pid : ℕ) → is_live w pid ≡ false) where
   none : all_handles w ≡ []
@@ -167,8 +182,8 @@ module _ (w : World) (s : IsSoundWorld w) (l : IsLinked w) (held : HasHeldRows w
       off : (b : Birth) → has (is_connected_to b) w.ports ≡ false
       off b = has-off (is_connected_to b) w.ports (every-more names_nothing (λ p. not (is_connected_to b p)) (λ p is. unconnected b p.pair p.connection is) w.ports naming-nothing)
 
-  no-views : w.views ≡ []
-  no-views = none-left (is_living_view w) w.views viewing (λ x. dead x.process)
+  no-views : all_views w ≡ []
+  no-views = none-views w dead viewing
 
   no-sections : w.sections ≡ []
   no-sections = none-left (λ s. not (is_unheld w (section_name s.birth))) w.sections held.sections (λ s. off s.birth)

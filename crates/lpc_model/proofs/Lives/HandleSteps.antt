@@ -3,15 +3,15 @@ use Rattle.std.proofs.Common.{◌≡◌, ℕ, ◌≤◌, List, [], ◌∷◌, Bo
 use Rattle.std.specs.Prelude.{◌&&◌, ◌||◌, ◌==◌}
 use Rattle.std.proofs.lemmas.Bool.{eqb-true, or_left, or_right}
 use Rattle.lpc_base.specs.Rows.{change, every}
-use Rattle.lpc_base.proofs.RowWords.{every-change, every-more, every-push, every-without, has-change, has-kept}
+use Rattle.lpc_base.proofs.RowWords.{every-change, every-more, every-push, has-change, has-kept}
 use Rattle.lpc_base.proofs.RowMaps.{every-change_to}
 use Rattle.lpc_base.proofs.Bools.{second-more}
 use Rattle.lpc_model.specs.declared.entry.ObjectKind.TheVariants as kind
-use Rattle.lpc_model.specs.World.{Birth, HandleRow, HandleTable, ObjectKind, ObjectName, ThreadRow, ViewRow, World}
-use Rattle.lpc_model.specs.Found.{is_life, is_live, is_table, is_thread, is_view, is_view_in, lives_in, pointer_count, same_birth}
-use Rattle.lpc_model.specs.Basics.{AddsHandle, AddsProcess, AddsThread, Basic, Dies, DrawsIdentifier, DrawsOrdinal, DropsHandle, DropsViewsOf, Frees, Maps, Registers, Unmaps, Unregisters, basic, freed, no_handles, past_identifier, past_ordinal, registering, unregistering, with_handle, without_handle, world_after}
+use Rattle.lpc_model.specs.World.{Birth, HandleRow, HandleTable, ObjectKind, ObjectName, ThreadRow, ViewRow, ViewTable, World}
+use Rattle.lpc_model.specs.Found.{is_life, is_live, is_space, is_table, is_thread, lives_in, pointer_count, same_birth}
+use Rattle.lpc_model.specs.Basics.{AddsHandle, AddsProcess, AddsThread, Basic, Dies, DrawsIdentifier, DrawsOrdinal, DropsHandle, DropsViewsOf, Frees, Maps, Registers, Unmaps, Unregisters, basic, freed, no_handles, no_views, past_identifier, past_ordinal, registering, unregistering, with_handle, with_view, without_handle, without_view, without_views, world_after}
 use Rattle.lpc_model.specs.Sweep.{free_unheld, is_unheld, sweep, unheld}
-use Rattle.lpc_model.specs.Left.{HasLivingHandles, HasLivingViews, is_living_table, is_living_view, lacks_handles}
+use Rattle.lpc_model.specs.Left.{HasLivingHandles, HasLivingViews, is_living_space, is_living_table, lacks_handles, lacks_views}
 use Rattle.lpc_model.proofs.Deaths.Deathless.{is_mild}
 use Rattle.lpc_model.proofs.Steps.Rows.{has-without}
 use Rattle.lpc_model.proofs.Sound.Frees.{is-zero, less-held, none-pass, sum-second, which-all}
@@ -21,7 +21,7 @@ use Rattle.lpc_model.proofs.Steps.InTurn.{after-append}
 -- a step gives handles and views to processes that live in a world alone, and ends no thread
 abbrev pub is_homely : World → Basic → Bool
 is_homely w (AddsHandle pid h) = is_live w pid
-is_homely w (Maps x) = is_live w x.process
+is_homely w (Maps pid x) = is_live w pid
 is_homely w (Dies who status) = false
 is_homely w (Frees o) = false
 is_homely w b = true
@@ -38,13 +38,20 @@ either-more a b c more is = grind (arith, more)
 tables-live : (w v : World) → StayLive w v → (ts : List HandleTable) → every (is_living_table w) ts ≡ true → every (is_living_table v) ts ≡ true
 tables-live w v stay ts all = every-more (is_living_table w) (is_living_table v) (λ t is. either-more (is_live w t.process) (is_live v t.process) (lacks_handles t) (stay t.process) is) ts all
 
-pub views-live : (w v : World) → StayLive w v → (vs : List ViewRow) → every (is_living_view w) vs ≡ true → every (is_living_view v) vs ≡ true
-views-live w v stay vs all = every-more (is_living_view w) (is_living_view v) (λ x is. stay x.process is) vs all
+pub views-live : (w v : World) → StayLive w v → (ts : List ViewTable) → every (is_living_space w) ts ≡ true → every (is_living_space v) ts ≡ true
+views-live w v stay ts all = every-more (is_living_space w) (is_living_space v) (λ t is. either-more (is_live w t.process) (is_live v t.process) (lacks_views t) (stay t.process) is) ts all
 
 pub lacks-less : (value : ℕ) (t : HandleTable) → lacks_handles t ≡ true → lacks_handles (without_handle value t) ≡ true
 lacks-less value t = at t.rows
   where
     at : (rs : List HandleRow) → let t : HandleTable = record { process = t.process; rows = rs } in lacks_handles t ≡ true → lacks_handles (without_handle value t) ≡ true
+    at [] is = refl
+    at (r ∷ rs) is = absurd (cc)
+
+lacks-fewer : (base : ℕ) (t : ViewTable) → lacks_views t ≡ true → lacks_views (without_view base t) ≡ true
+lacks-fewer base t = at t.rows
+  where
+    at : (rs : List ViewRow) → let t : ViewTable = record { process = t.process; rows = rs } in lacks_views t ≡ true → lacks_views (without_view base t) ≡ true
     at [] is = refl
     at (r ∷ rs) is = absurd (cc)
 
@@ -82,7 +89,7 @@ home-step w v (DropsHandle pid value) stay is = record {
   handles = λ l. every-change (is_living_table v) (is_table pid) (without_handle value) (λ t was. second-more (is_live v t.process) (lacks_handles t) (lacks_handles (without_handle value t)) (lacks-less value t) was) v.handles l;
   views = λ l. l;
 }
-home-step w v (AddsProcess p) stay is = record { live = λ n one. one; handles = λ l. every-push (is_living_table v) v.handles (no_handles p.number) l (or_right (is_live v p.number) true refl); views = λ l. l }
+home-step w v (AddsProcess p) stay is = record { live = λ n one. one; handles = λ l. every-push (is_living_table v) v.handles (no_handles p.number) l (or_right (is_live v p.number) true refl); views = λ l. every-push (is_living_space v) v.views (no_views p.number) l (or_right (is_live v p.number) true refl) }
 home-step w v (AddsThread t) stay is = record {
   live = λ n one. has-kept (lives_in n) v.threads t one;
   handles = λ l. tables-live v (basic v (AddsThread t)) (λ n one. has-kept (lives_in n) v.threads t one) v.handles l;
@@ -94,9 +101,21 @@ home-step w v (Registers who b) stay is = record { live = live-drawn v who (regi
 home-step w v (Unregisters who b) stay is = record { live = live-drawn v who (unregistering b) (λ n t. refl); handles = living-drawn v who (unregistering b) (λ n t. refl); views = viewing-drawn v who (unregistering b) (λ n t. refl) }
 home-step w v (Dies who status) stay is = absurd (cc)
 home-step w v (Frees o) stay is = absurd (cc)
-home-step w v (Maps x) stay is = record { live = λ n one. one; handles = λ l. l; views = λ l. every-push (is_living_view v) v.views x l (stay x.process is) }
-home-step w v (Unmaps pid base) stay is = record { live = λ n one. one; handles = λ l. l; views = every-without (is_living_view v) (is_view pid base) v.views }
-home-step w v (DropsViewsOf pid) stay is = record { live = λ n one. one; handles = λ l. l; views = every-without (is_living_view v) (is_view_in pid) v.views }
+home-step w v (Maps pid x) stay is = record {
+  live = λ n one. one;
+  handles = λ l. l;
+  views = λ l. every-change_to (is_living_space v) (is_living_space v) (is_space pid) (with_view x) (λ t was here. or_left (is_live v t.process) _ (subst (λ n. is_live v n ≡ true) (sym (eqb-true t.process pid here)) (stay pid is))) (λ t was off. was) v.views l;
+}
+home-step w v (Unmaps pid base) stay is = record {
+  live = λ n one. one;
+  handles = λ l. l;
+  views = λ l. every-change (is_living_space v) (is_space pid) (without_view base) (λ t was. second-more (is_live v t.process) (lacks_views t) (lacks_views (without_view base t)) (lacks-fewer base t) was) v.views l;
+}
+home-step w v (DropsViewsOf pid) stay is = record {
+  live = λ n one. one;
+  handles = λ l. l;
+  views = λ l. every-change (is_living_space v) (is_space pid) without_views (λ t was. or_right (is_live v t.process) true refl) v.views l;
+}
 home-step w v b stay is = record { live = λ n one. one; handles = λ l. l; views = λ l. l }
 
 homes-all : (w v : World) (bs : List Basic) → StayLive w v → AreHomely w bs → HasLivingRows v → HasLivingRows (world_after v bs)
@@ -114,7 +133,7 @@ pub mild-homely : (w : World) (b : Basic) → is_mild w b ≡ true → is_homely
 mild-homely w (Dies who status) is = absurd (cc)
 mild-homely w (Frees o) is = absurd (cc)
 mild-homely w (AddsHandle pid h) is = is
-mild-homely w (Maps x) is = is
+mild-homely w (Maps pid x) is = is
 mild-homely w b is = refl
 
 -- Rows that go

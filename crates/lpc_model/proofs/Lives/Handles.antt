@@ -6,18 +6,18 @@ use Rattle.std.proofs.lemmas.Bool.Decides.{nat_tests}
 use Rattle.lpc_base.specs.Rows.{count, every, first, has, when}
 use Rattle.lpc_base.specs.declared.status.Status.{Status}
 use Rattle.lpc_base.specs.declared.status.TheConstants.{SUCCESS}
-use Rattle.lpc_base.proofs.RowWords.{every-change, every-more, every-without, has-change, none-counted}
-use Rattle.lpc_base.proofs.RowMaps.{every-both, every-kept}
+use Rattle.lpc_base.proofs.RowWords.{every-change, every-more, has-change, none-counted}
+use Rattle.lpc_base.proofs.RowMaps.{every-both, every-change_to}
 use Rattle.lpc_base.proofs.Bools.{first-true, second-true}
 use Rattle.lpc_model.specs.declared.entry.CallName.TheVariants.{NtRegisterThreadTerminatePort}
 use Rattle.lpc_model.specs.declared.entry.Entry.TheVariants.{Answer}
-use Rattle.lpc_model.specs.World.{HandleRow, HandleTable, ThreadRow, ViewRow, World}
-use Rattle.lpc_model.specs.Found.{handles_of, is_live, is_table, is_thread, is_view_in, lives_in, rows_in, wait_of}
-use Rattle.lpc_model.specs.Basics.{Accepts, AddsHandle, AddsProcess, AddsThread, Awaits, Basic, Dies, DrawsIdentifier, DrawsOrdinal, DropsHandle, DropsViewsOf, Frees, Maps, Registers, Tells, Unmaps, Unregisters, Withdraws, basic, doing, ended, in_turn, provided, unregistering, without_handle, world_after, ◌▹◌}
+use Rattle.lpc_model.specs.World.{HandleRow, HandleTable, ThreadRow, ViewTable, World}
+use Rattle.lpc_model.specs.Found.{handles_of, is_live, is_table, is_thread, is_space, lives_in, rows_in, wait_of}
+use Rattle.lpc_model.specs.Basics.{Accepts, AddsHandle, AddsProcess, AddsThread, Awaits, Basic, Dies, DrawsIdentifier, DrawsOrdinal, DropsHandle, DropsViewsOf, Frees, Maps, Registers, Tells, Unmaps, Unregisters, Withdraws, basic, doing, ended, in_turn, provided, unregistering, without_handle, without_views, world_after, ◌▹◌}
 use Rattle.lpc_model.specs.Close.{close_handle}
 use Rattle.lpc_model.specs.Death.{cut_accepted, die, end_process, end_threads, post_death, post_deaths}
 use Rattle.lpc_model.specs.Lawful.{HasThreadsOnce}
-use Rattle.lpc_model.specs.Left.{is_living_table, is_living_view, lacks_handles}
+use Rattle.lpc_model.specs.Left.{is_living_space, is_living_table, lacks_handles, lacks_views}
 use Rattle.lpc_model.specs.Lines.{ScriptLine}
 use Rattle.lpc_model.specs.Machine.{step}
 use Rattle.lpc_model.specs.SoundWaits.{IsSoundWorld}
@@ -40,32 +40,28 @@ handle-still pid r w = every-more is_deathless is_still deathless-still (close_h
 abbrev is_almost : ℕ → World → HandleTable → Bool
 is_almost pid w t = (t.process == pid) || is_living_table w t
 
-abbrev is_almost_view : ℕ → World → ViewRow → Bool
-is_almost_view pid w x = (x.process == pid) || is_living_view w x
+abbrev is_almost_space : ℕ → World → ViewTable → Bool
+is_almost_space pid w t = (t.process == pid) || is_living_space w t
 
 record HasLivingBut (pid : ℕ) (w : World) : Type 0 where
   handles : every (is_almost pid w) w.handles ≡ true
-  views : every (is_almost_view pid w) w.views ≡ true
+  views : every (is_almost_space pid w) w.views ≡ true
 
 but-all : (pid : ℕ) (w : World) → HasLivingRows w → HasLivingBut pid w
 but-all pid w l = record {
   handles = every-more (is_living_table w) (is_almost pid w) (λ t is. or_right (t.process == pid) _ is) w.handles l.handles;
-  views = every-more (is_living_view w) (is_almost_view pid w) (λ x is. or_right (x.process == pid) _ is) w.views l.views;
+  views = every-more (is_living_space w) (is_almost_space pid w) (λ t is. or_right (t.process == pid) _ is) w.views l.views;
 }
 
 almost-more : (e a b c : Bool) → (e ≡ false → a ≡ true → b ≡ true) → (e || (a || c)) ≡ true → (e || (b || c)) ≡ true
 almost-more true a b c more is = refl
 almost-more false a b c more is = grind (arith, more refl)
 
-view-more : (e a b : Bool) → (e ≡ false → a ≡ true → b ≡ true) → (e || a) ≡ true → (e || b) ≡ true
-view-more true a b more is = refl
-view-more false a b more is = more refl is
-
 -- what lives stays so, but the process
 but-live : (pid : ℕ) (w v : World) → ((q : ℕ) → (q == pid) ≡ false → is_live w q ≡ true → is_live v q ≡ true) → w.handles ≡ v.handles → w.views ≡ v.views → HasLivingBut pid w → HasLivingBut pid v
 but-live pid w v stay one two l = record {
   handles = subst (λ ts. every (is_almost pid v) ts ≡ true) one (every-more (is_almost pid w) (is_almost pid v) (λ t. almost-more (t.process == pid) (is_live w t.process) (is_live v t.process) (lacks_handles t) (λ off. stay t.process off)) w.handles l.handles);
-  views = subst (λ xs. every (is_almost_view pid v) xs ≡ true) two (every-more (is_almost_view pid w) (is_almost_view pid v) (λ x. view-more (x.process == pid) (is_live w x.process) (is_live v x.process) (λ off. stay x.process off)) w.views l.views);
+  views = subst (λ ts. every (is_almost_space pid v) ts ≡ true) two (every-more (is_almost_space pid w) (is_almost_space pid v) (λ t. almost-more (t.process == pid) (is_live w t.process) (is_live v t.process) (lacks_views t) (λ off. stay t.process off)) w.views l.views);
 }
 
 -- a thread of the process ends
@@ -88,8 +84,8 @@ still-step pid w (DropsHandle p value) is still l = record {
     more : (e a c d : Bool) → (c ≡ true → d ≡ true) → (e || (a || c)) ≡ true → (e || (a || d)) ≡ true
     more e a c d less was = grind (arith, less)
 still-step pid w (Unregisters who b) is still l = but-live pid w (basic w (Unregisters who b)) (λ q off one. rw (has-change (lives_in q) (is_thread who) (unregistering b) (λ u. refl) w.threads) one) refl refl l
-still-step pid w (DropsViewsOf p) is still l = record { handles = l.handles; views = every-without (is_almost_view pid w) (is_view_in p) w.views l.views }
-still-step pid w (Maps x) is still l = absurd (cc)
+still-step pid w (DropsViewsOf p) is still l = record { handles = l.handles; views = every-change (is_almost_space pid w) (is_space p) without_views (λ t was. or_right (t.process == pid) _ (or_right (is_live w t.process) true refl)) w.views l.views }
+still-step pid w (Maps p x) is still l = absurd (cc)
 still-step pid w (Unmaps p base) is still l = absurd (cc)
 still-step pid w (Dies who status) is still l = absurd (cc)
 still-step pid w (Awaits x) is still l = absurd (cc)
@@ -163,28 +159,28 @@ table-lacks pid (t ∷ ts) one none = at (is_table pid t) refl (table-lacks pid 
 living-empty : (pid : ℕ) (w : World) → HasLivingBut pid w → handles_of w pid ≡ [] → IsSoundWorld w → HasLivingRows (basic w (DropsViewsOf pid))
 living-empty pid w l none s = record {
   handles = every-both (is_almost pid w) (λ t. not (is_table pid t) || lacks_handles t) (is_living_table w) (λ t one two. parts (t.process == pid) (is_live w t.process) (lacks_handles t) one two) w.handles l.handles (table-lacks pid w.handles (s.tables pid) none);
-  views = every-kept (is_almost_view pid w) (is_view_in pid) (is_living_view w) (λ x is off. view-parts (x.process == pid) (is_live w x.process) is off) w.views l.views;
+  views = every-change_to (is_almost_space pid w) (is_living_space w) (is_space pid) without_views (λ t was here. or_right (is_live w t.process) true refl) (λ t was off. others (t.process == pid) _ was off) w.views l.views;
 }
   where
     parts : (e a c : Bool) → (e || (a || c)) ≡ true → (not e || c) ≡ true → (a || c) ≡ true
     parts e a c one two = grind arith
 
-    view-parts : (e a : Bool) → (e || a) ≡ true → e ≡ false → a ≡ true
-    view-parts e a one two = grind arith
+    others : (e a : Bool) → (e || a) ≡ true → e ≡ false → a ≡ true
+    others e a one two = grind arith
 
 living-live : (pid : ℕ) (w : World) → HasLivingBut pid w → is_live w pid ≡ true → HasLivingRows w
 living-live pid w l live = record {
   handles = every-more (is_almost pid w) (is_living_table w) (λ t is. at t (t.process == pid) refl is) w.handles l.handles;
-  views = every-more (is_almost_view pid w) (is_living_view w) (λ x is. its-view x (x.process == pid) refl is) w.views l.views;
+  views = every-more (is_almost_space pid w) (is_living_space w) (λ t is. its-views t (t.process == pid) refl is) w.views l.views;
 }
   where
     at : (t : HandleTable) (e : Bool) → (t.process == pid) ≡ e → (e || is_living_table w t) ≡ true → is_living_table w t ≡ true
     at t true same is = let own = subst (λ n. is_live w n ≡ true) (sym (eqb-true t.process pid same)) live in or_left (is_live w t.process) (lacks_handles t) own
     at t false off is = is
 
-    its-view : (x : ViewRow) (e : Bool) → (x.process == pid) ≡ e → (e || is_living_view w x) ≡ true → is_living_view w x ≡ true
-    its-view x true same is = subst (λ n. is_live w n ≡ true) (sym (eqb-true x.process pid same)) live
-    its-view x false off is = is
+    its-views : (t : ViewTable) (e : Bool) → (t.process == pid) ≡ e → (e || is_living_space w t) ≡ true → is_living_space w t ≡ true
+    its-views t true same is = let own = subst (λ n. is_live w n ≡ true) (sym (eqb-true t.process pid same)) live in or_left (is_live w t.process) (lacks_views t) own
+    its-views t false off is = is
 
 end-living : (pid : ℕ) (code : Status) (ts : List ThreadRow) (w : World) → IsSafe w → AreOf pid w.threads ts → HasLivingRows w → HasLivingRows (behind (end_threads pid code ts) w)
 unfolding end_threads

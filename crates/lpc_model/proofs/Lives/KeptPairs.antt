@@ -19,7 +19,7 @@ use Rattle.lpc_model.proofs.Sound.Worlds.{kept-pair-open}
 use Rattle.lpc_model.proofs.Steps.Steady.{steady-enter}
 use Rattle.lpc_model.proofs.Steps.InTurn.{after-append, steps-keep}
 use Rattle.lpc_model.proofs.Calls.Usable.{CanCall}
-use Rattle.lpc_model.specs.Basics.{Accepts, AddsHandle, AddsProcess, AddsThread, Awaits, Basic, Completes, Cuts, DrawsIdentifier, DrawsOrdinal, DropsHandle, DropsViewsOf, Empties, Frees, Joins, Makes, Receives, Registers, Takes, TakesConnect, Unbinds, Unregisters, Wakes, Withdraws, basic, completed, cut, freed, is_end_of, joined, no_handles, paired, world_after}
+use Rattle.lpc_model.specs.Basics.{Accepts, AddsHandle, AddsProcess, AddsThread, Awaits, Basic, Completes, Cuts, DrawsIdentifier, DrawsOrdinal, DropsHandle, DropsViewsOf, Empties, Frees, Joins, Makes, Receives, Registers, Takes, TakesConnect, Unbinds, Unregisters, Wakes, Withdraws, basic, completed, cut, freed, is_end_of, joined, no_handles, paired, world_after, AddsSection, Maps, Unmaps, Writes}
 use Rattle.lpc_model.specs.Close.{close_handle, close_port, is_last}
 use Rattle.lpc_model.specs.Connect.{connect_start, Completable, client_port, connection_request, server_port}
 use Rattle.lpc_model.specs.Creation.{new_process, new_thread, second_birth}
@@ -29,6 +29,7 @@ use Rattle.lpc_model.specs.Fields.{h}
 use Rattle.lpc_model.specs.Found.{free_handle, handle_at, has_handle_to, is_cut, is_open, is_paired_to, is_port, is_table, is_the, port_name, same_birth}
 use Rattle.lpc_model.specs.Left.{HasKeptPairs, is_kept_pair}
 use Rattle.lpc_model.specs.Lines.{ScriptLine}
+use Rattle.lpc_model.specs.Memory.{mapped_view, new_section}
 use Rattle.lpc_model.specs.Machine.{step}
 use Rattle.lpc_model.specs.Message.{asks}
 use Rattle.lpc_model.specs.SoundWaits.{IsSoundWorld}
@@ -193,7 +194,11 @@ pairs-law by = record {
   closes = λ w pid r at s _. pair-closed w pid r at s;
   dies = λ w code t is. pair-all w (die code t w) (die-pass is_pairing away-pairing (λ n c. refl) (λ b. refl) code t w);
   leaves = λ w n b. pair-all w (Unregisters n b ∷ []) refl;
-  unmaps = λ w pid. pair-all w (DropsViewsOf pid ∷ []) refl;
+  vacates = λ w pid. pair-all w (DropsViewsOf pid ∷ []) refl;
+  builds = λ w size prot is. pair-all w (DrawsOrdinal by.number ∷ AddsSection (new_section by size prot) ∷ []) refl;
+  maps = λ w handle offset size prot s rounded base m. pair-all w (Maps by.process (mapped_view s offset rounded prot base) ∷ []) refl;
+  unmaps = λ w pid base. pair-all w (Unmaps pid base ∷ []) refl;
+  writes = λ w b place new. pair-all w (Writes b place new ∷ []) refl;
 }
 
 -- Lines

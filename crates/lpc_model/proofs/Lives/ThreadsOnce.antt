@@ -9,7 +9,7 @@ use Rattle.lpc_model.proofs.Steps.Ending.{AreEnding, die-ending, ending-enter, e
 use Rattle.lpc_model.proofs.Steps.Rows.{count-change, count-less, has-off}
 use Rattle.lpc_model.proofs.Sound.Basics.{sound-ordinal}
 use Rattle.lpc_model.proofs.Steps.InTurn.{steps-keep}
-use Rattle.lpc_model.specs.Basics.{AddsThread, Awaits, Basic, Dies, DrawsIdentifier, DrawsOrdinal, DropsViewsOf, Frees, Registers, Unregisters, basic, ended, freed, past_identifier, past_ordinal, registering, unregistering, world_after}
+use Rattle.lpc_model.specs.Basics.{AddsThread, Awaits, Basic, Dies, DrawsIdentifier, DrawsOrdinal, DropsViewsOf, Frees, Registers, Unregisters, basic, ended, freed, past_identifier, past_ordinal, registering, unregistering, world_after, AddsSection, Maps, Unmaps, Writes}
 use Rattle.lpc_model.specs.Close.{close_handle}
 use Rattle.lpc_model.specs.Connect.{client_port, connect_start, connection_request, named_steps, unnamed_steps}
 use Rattle.lpc_model.specs.Creation.{new_thread, second_birth}
@@ -18,6 +18,7 @@ use Rattle.lpc_model.specs.Entering.{enter, row_of, take_connect_steps, take_ste
 use Rattle.lpc_model.specs.Found.{is_thread, same_birth, was_thread}
 use Rattle.lpc_model.specs.Lawful.{HasThreadsOnce}
 use Rattle.lpc_model.specs.Lines.{ScriptLine}
+use Rattle.lpc_model.specs.Memory.{mapped_view, new_section}
 use Rattle.lpc_model.specs.Machine.{directive_birth, step}
 use Rattle.lpc_model.specs.SoundWaits.{HasShutConnects, IsSoundWorld}
 use Rattle.lpc_model.specs.Sweep.{sweep}
@@ -118,7 +119,11 @@ once-law by = record {
   closes = λ w pid r at s _. ended-once w (close_handle pid r w) (handle-ending pid r w);
   dies = λ w code t is. ended-once w (die code t w) (die-ending code t w);
   leaves = λ w n b. ended-once w (Unregisters n b ∷ []) refl;
-  unmaps = λ w pid. ended-once w (DropsViewsOf pid ∷ []) refl;
+  vacates = λ w pid. ended-once w (DropsViewsOf pid ∷ []) refl;
+  builds = λ w size prot is. once-all w (DrawsOrdinal by.number ∷ AddsSection (new_section by size prot) ∷ []) refl;
+  maps = λ w handle offset size prot s rounded base m. once-all w (Maps by.process (mapped_view s offset rounded prot base) ∷ []) refl;
+  unmaps = λ w pid base. once-all w (Unmaps pid base ∷ []) refl;
+  writes = λ w b place new. once-all w (Writes b place new ∷ []) refl;
 }
 
 -- Lines

@@ -1,5 +1,5 @@
 -- A line empties the queues of the ports that lose their last handles in it, and no other.
-use Rattle.std.proofs.Common.{◌≡◌, ◌∙◌, ℕ, List, [], ◌∷◌, ◌++◌, Bool, true, false, Option, Some, None, ap, refl, sym, arith, append-nil, append_assoc}
+use Rattle.std.proofs.Common.{◌≡◌, ◌∙◌, ℕ, List, [], ◌∷◌, ◌++◌, Bool, true, false, Option, Some, None, ap, refl, sym, append-nil, append_assoc}
 use Rattle.std.specs.Prelude.{option_and_then, option_map}
 use Rattle.lpc_base.specs.Rows.{each, every, given, when, which}
 use Rattle.lpc_base.proofs.Bools.{first-true, second-true}
@@ -14,7 +14,7 @@ use Rattle.lpc_model.proofs.Sound.Close.{shut-found}
 use Rattle.lpc_model.proofs.Sound.Closing.{close-shut}
 use Rattle.lpc_model.proofs.Steps.Closing.{behind, stage_five, stage_four, stage_one, stage_three, stage_two}
 use Rattle.lpc_model.proofs.Steps.Sweep.{sweep_every}
-use Rattle.lpc_model.specs.Basics.{Awaits, Basic, Cuts, Dies, DropsHandle, Empties, Enters, Receives, Steps, Takes, TakesConnect, Unbinds, Wakes, Withdraws, basic, doing, end_each, world_after, ◌▹◌}
+use Rattle.lpc_model.specs.Basics.{Awaits, Basic, Cuts, Dies, DropsHandle, Empties, Receives, Steps, Takes, TakesConnect, Wakes, Withdraws, basic, end_each, world_after}
 use Rattle.lpc_model.specs.Close.{close_handle, close_port, closed_row, closing_post, cut_pair, drop_name, empty_queue, end_accepted, end_offered, end_receives, end_request, end_requests, is_accepted_across, is_last, is_offered_to, is_queued_request, is_receive_across, is_receiver, is_request_across, is_request_on, post_closed, server_of, wake}
 use Rattle.lpc_model.specs.Closings.{closes}
 use Rattle.lpc_model.specs.Connect.{client_port, connect_start, connection_request}
@@ -221,7 +221,11 @@ empties-law by = record {
   closes = λ w pid r at s _. handle-empties w pid r at s;
   dies = λ w code t is. still w (die code t w) (die-still code t w);
   leaves = λ w n b. refl;
-  unmaps = λ w pid. refl;
+  vacates = λ w pid. refl;
+  builds = λ w size prot is. refl;
+  maps = λ w handle offset size prot s rounded base m. refl;
+  unmaps = λ w pid base. refl;
+  writes = λ w b place new. refl;
 }
 
 -- Lines

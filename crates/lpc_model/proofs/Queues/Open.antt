@@ -20,7 +20,7 @@ use Rattle.lpc_model.proofs.Sound.Closing.{close-shut}
 use Rattle.lpc_model.proofs.Queues.Closing.{is_elsewhere}
 use Rattle.lpc_model.proofs.Sound.Worlds.{by_kind}
 use Rattle.lpc_model.proofs.Steps.InTurn.{after-append}
-use Rattle.lpc_model.specs.Basics.{Accepts, AddsHandle, AddsProcess, AddsThread, Awaits, Basic, Completes, Cuts, Dies, DrawsIdentifier, DrawsOrdinal, DropsHandle, DropsViewsOf, Empties, Enters, Frees, Joins, Makes, Receives, Registers, Takes, TakesConnect, Tells, Unbinds, Unregisters, Wakes, Withdraws, accepted, basic, freed, no_handles, received, world_after}
+use Rattle.lpc_model.specs.Basics.{Accepts, AddsHandle, AddsProcess, AddsThread, Awaits, Basic, Completes, Cuts, Dies, DrawsIdentifier, DrawsOrdinal, DropsHandle, DropsViewsOf, Empties, Enters, Frees, Joins, Makes, Receives, Registers, Takes, TakesConnect, Tells, Unbinds, Unregisters, Wakes, Withdraws, accepted, basic, freed, no_handles, received, world_after, AddsSection, Maps, Unmaps, Writes}
 use Rattle.lpc_model.specs.Close.{close_handle, close_port, is_last}
 use Rattle.lpc_model.specs.Connect.{Completable, answer_of, client_port, connect_start, connection_request, named_steps, names_connect, server_port, unnamed_steps}
 use Rattle.lpc_model.specs.Creation.{new_process, new_thread, second_birth}
@@ -30,6 +30,7 @@ use Rattle.lpc_model.specs.Fields.{h, info, max}
 use Rattle.lpc_model.specs.Found.{free_handle, handle_at, has_handle_to, is_accepted, is_open, is_own_of, is_queued, is_queued_connect, is_table, is_taken, port_name, waits_as, waits_at}
 use Rattle.lpc_model.specs.Lines.{ScriptLine}
 use Rattle.lpc_model.specs.Linked.{IsLinked}
+use Rattle.lpc_model.specs.Memory.{mapped_view, new_section}
 use Rattle.lpc_model.specs.Machine.{bare_steps}
 use Rattle.lpc_model.specs.Message.{asks, made}
 use Rattle.lpc_model.specs.OpenQueues.{HasOpenQueues, StepsKeepQueuesOpen}
@@ -280,7 +281,11 @@ open-law by = record {
   closes = λ w pid r at s l. closed-open w pid r at s l;
   dies = λ w code t is. open-all w (die code t w) (die-pass (is_open_step w) (away-open w) (λ n c. refl) (λ b. refl) code t w);
   leaves = λ w n b. open-all w (Unregisters n b ∷ []) refl;
-  unmaps = λ w pid. open-all w (DropsViewsOf pid ∷ []) refl;
+  vacates = λ w pid. open-all w (DropsViewsOf pid ∷ []) refl;
+  builds = λ w size prot is. open-all w (DrawsOrdinal by.number ∷ AddsSection (new_section by size prot) ∷ []) refl;
+  maps = λ w handle offset size prot s rounded base m. open-all w (Maps by.process (mapped_view s offset rounded prot base) ∷ []) refl;
+  unmaps = λ w pid base. open-all w (Unmaps pid base ∷ []) refl;
+  writes = λ w b place new. open-all w (Writes b place new ∷ []) refl;
 }
 
 -- Lines

@@ -10,6 +10,7 @@ use Rattle.lpc_model.proofs.Steps.Handles.{open-new}
 use Rattle.lpc_model.proofs.Calls.Holding.{holds_ok}
 use Rattle.lpc_model.proofs.Calls.Lines.{IsCalled, Keep, LineLaw, line-does, step-keeps}
 use Rattle.lpc_model.proofs.Calls.Outcomes.{Outcomes}
+use Rattle.lpc_model.proofs.Sound.Worlds.{sound-memory}
 use Rattle.lpc_model.proofs.Sound.Basics.{sound-binds, sound-handle, sound-identifier, sound-ordinal, sound-process, sound-registers, sound-thread}
 use Rattle.lpc_model.proofs.Sound.Calls.{LeaveSound, entered-sound, listened-sound, listening-sound, requested-sound}
 use Rattle.lpc_model.proofs.Sound.Close.{close_handle-sound, found-value}
@@ -19,13 +20,14 @@ use Rattle.lpc_model.proofs.Sound.Reply.{IsReplied, received-sound, receiving-so
 use Rattle.lpc_model.proofs.Sound.Terminate.{end-sound}
 use Rattle.lpc_model.proofs.Calls.Tested.{CanComplete, CanWait, can-complete, can-wait, name-open, named-wait, send-routed}
 use Rattle.lpc_model.proofs.Calls.Usable.{HasRoute, IsUsable, port-usable}
-use Rattle.lpc_model.specs.Basics.{AddsProcess, AddsThread, DrawsIdentifier, DrawsOrdinal, basic, no_handles}
+use Rattle.lpc_model.specs.Basics.{AddsProcess, AddsThread, DrawsIdentifier, DrawsOrdinal, basic, no_handles, AddsSection}
 use Rattle.lpc_model.specs.Connect.{ConnectAnswer, answer_test, complete_test, names_connect}
 use Rattle.lpc_model.specs.Counts.{asked}
 use Rattle.lpc_model.specs.Creation.{second_birth}
 use Rattle.lpc_model.specs.Entering.{row_of}
-use Rattle.lpc_model.specs.Found.{free_handle, is_live, is_open, is_table, lives_in, thread_name, was_process, was_thread}
+use Rattle.lpc_model.specs.Found.{free_handle, is_live, is_open, is_table, lives_in, thread_name, was_process, was_thread, section_name}
 use Rattle.lpc_model.specs.Lines.{ScriptLine}
+use Rattle.lpc_model.specs.Memory.{SECTION_ACCESS, new_section}
 use Rattle.lpc_model.specs.Machine.{bare_steps, directive_birth, new_process, new_thread}
 use Rattle.lpc_model.specs.Named.{named_port}
 use Rattle.lpc_model.specs.Request.{Sendable, given_reply, receive_test, send_test, sent_by}
@@ -88,6 +90,11 @@ sound-calls by w is = record {
   starts = λ target tid pid _ live unused s.
       let drawn = basic w (DrawsOrdinal by.number) in
       sound-handle (threaded drawn by tid pid) by.process (thread_name (next_birth by)) LIFE_ACCESS (sound-thread drawn (new_thread tid pid (next_birth by)) (live-home w pid s live) unused (sound-ordinal w by.number s));
+  makes_section = λ size prot asked s. let drawn = basic w (DrawsOrdinal by.number) in sound-handle (basic drawn (AddsSection (new_section by size prot))) by.process (section_name (next_birth by)) SECTION_ACCESS (sound-memory drawn _ _ _ (sound-ordinal w by.number s));
+  maps_view = λ handle offset size prot t rounded base m s. sound-memory w _ _ _ s;
+  unmaps_view = λ address v at s. sound-memory w _ _ _ s;
+  reads_memory = λ address n v at s. s;
+  writes_memory = λ address new v at may s. sound-memory w _ _ _ s;
   ends = λ call name own pid code ts doomed s. world-ends IsSoundWorld w by name own pid code ts (end-sound pid code ts w s is.known);
 }
   where
@@ -95,7 +102,7 @@ sound-calls by w is = record {
     answered bytes a at = holds_ok (λ (a : ConnectAnswer). first (names_connect w by a.message) w.waits ≡ Some a.wait) (answer_test w by bytes) a (named-wait w by bytes) at
 
 -- Lines
-sound-lines : LineLaw HasShutConnects (λ _. Keep IsSoundWorld)
+pub sound-lines : LineLaw HasShutConnects (λ _. Keep IsSoundWorld)
 sound-lines = record {
   tells = λ line w e _ s. s;
   calls = sound-calls;

@@ -9,7 +9,7 @@ use Rattle.lpc_base.proofs.Bools.{first-true, second-true}
 use Rattle.lpc_message.specs.declared.message.ClientId.{ClientId}
 use Rattle.lpc_names.specs.Walk.{LinkTo, Stands}
 use Rattle.lpc_names.specs.declared.names.Found.TheVariants.{Directory, Item}
-use Rattle.lpc_model.specs.World.{Accepted, Bindings, Birth, Connect, Contents, HandleTable, Listen, Message, Node, PortRow, Receive, Request, SectionRow, ThreadRow, UsedThread, ViewRow, WaitKind, WaitRow, World, no_rows}
+use Rattle.lpc_model.specs.World.{Accepted, Bindings, Birth, Connect, Contents, HandleTable, Listen, Message, Node, PortRow, Receive, Request, SectionRow, ThreadRow, UsedThread, ViewTable, WaitKind, WaitRow, World, no_rows}
 use Rattle.lpc_model.specs.Found.{is_live_thread, is_open, is_port, is_table, pair_of, port_row, waits_as}
 use Rattle.lpc_model.specs.Tests.{is_client}
 use Rattle.lpc_model.specs.SoundWaits.{IsSoundWorld, can_stay_sound, has_client_port, has_come, is_answerable, is_joined, is_message_of, is_past, is_sound_connect, is_sound_listen, is_sound_receive, is_sound_request, is_sound_wait, leads_open, waiter_of}
@@ -201,7 +201,7 @@ leads-kept w v opens (Stands Directory) is = refl
 leads-kept w v opens (Stands (Item port)) is = opens port is
 
 -- sections, their bytes and views are no matter
-pub sound-memory : (w : World) (sections : List SectionRow) (contents : Contents) (views : List ViewRow) → IsSoundWorld w → IsSoundWorld (record w { sections = sections; contents = contents; views = views })
+pub sound-memory : (w : World) (sections : List SectionRow) (contents : Contents) (views : List ViewTable) → IsSoundWorld w → IsSoundWorld (record w { sections = sections; contents = contents; views = views })
 sound-memory w sections contents views s = record {
   waits = s.waits;
   stay = s.stay;

@@ -7,7 +7,7 @@ use Rattle.lpc_base.specs.declared.limits.TheConstants.{MESSAGE_LIMIT}
 use Rattle.lpc_base.specs.declared.port_kind.PortKind.TheVariants.{Connection, Unnamed}
 use Rattle.lpc_base.specs.declared.status.Status.{Status}
 use Rattle.lpc_base.specs.declared.status.TheConstants.{LPC_REPLY_LOST, PORT_DISCONNECTED, SUCCESS}
-use Rattle.lpc_model.proofs.Calls.Acts.{Law, accept_act, complete_act, connect_act, create_act, keeps_on, row-stands, outcomes}
+use Rattle.lpc_model.proofs.Calls.Acts.{Law, accept_act, complete_act, connect_act, create_act, keeps_on, row-stands, outcomes, mapped-stands}
 use Rattle.lpc_model.proofs.Calls.Lines.{AnyWorld, Shut, IsCalled, LineLaw, line-does, passing-lines}
 use Rattle.lpc_model.proofs.Steps.Closing.{IsFewer, behind, closed-is, cut-is, ends-pass, fewer-accepted, fewer-uncut, stage_five, takes_away, uncut}
 use Rattle.lpc_model.proofs.Steps.Dying.{accepted_across, asked_across, cut-parts, gone, received_across}
@@ -25,7 +25,7 @@ use Rattle.lpc_model.proofs.Sound.Ties.{joined-birth}
 use Rattle.lpc_model.proofs.Sound.Worlds.{by_kind}
 use Rattle.lpc_model.proofs.Standing.Steps.{AreNaming, cut-names, is_naming, kept, naming-all, object-kept, swept-names}
 use Rattle.lpc_model.proofs.Steps.InTurn.{after-append}
-use Rattle.lpc_model.specs.Basics.{Accepts, AddsHandle, AddsProcess, AddsThread, Awaits, Basic, Binds, Completes, Dies, DrawsIdentifier, DrawsOrdinal, DropsHandle, DropsViewsOf, Empties, Joins, Makes, Receives, Registers, Unbinds, Unregisters, Wakes, Withdraws, basic, completed, end_each, joined, paired, world_after}
+use Rattle.lpc_model.specs.Basics.{Accepts, AddsHandle, AddsProcess, AddsThread, Awaits, Basic, Binds, Completes, Dies, DrawsIdentifier, DrawsOrdinal, DropsHandle, DropsViewsOf, Empties, Joins, Makes, Receives, Registers, Unbinds, Unregisters, Wakes, Withdraws, basic, completed, end_each, joined, paired, world_after, AddsSection, Maps, Unmaps, Writes}
 use Rattle.lpc_model.specs.Close.{close_handle, close_port, closed_row, closing_post, cut_pair, end_accepted, end_request, is_accepted_across, is_across, is_last, is_receive_across, is_receiver, is_request_across, post_closed, server_of, wake}
 use Rattle.lpc_model.specs.Connect.{Completable, answer_of, client_port, connect_wait, connection_request, named_steps, names_connect, new_port, server_port, unnamed_steps}
 use Rattle.lpc_model.specs.Creation.{new_process, new_thread, second_birth}
@@ -35,6 +35,7 @@ use Rattle.lpc_model.specs.Fields.{h, info, max}
 use Rattle.lpc_model.specs.Found.{free_handle, is_born_process, is_born_thread, is_connected_to, is_made_on, is_paired_to, is_port, is_request, is_section, is_the, pair_of, port_name, port_row, same_birth}
 use Rattle.lpc_model.specs.Lines.{ScriptLine}
 use Rattle.lpc_model.specs.Linked.{IsLinked, is_lone_offer, is_unjoined}
+use Rattle.lpc_model.specs.Memory.{mapped_view, new_section}
 use Rattle.lpc_model.specs.Machine.{bare_steps}
 use Rattle.lpc_model.specs.Message.{asks}
 use Rattle.lpc_model.specs.SoundWaits.{HasShutConnects, IsSoundWorld}
@@ -292,11 +293,15 @@ names-law by = record {
   closes = λ w pid r at s _. handle-names w pid r s;
   dies = λ w code t is. die-names code t w is;
   leaves = λ w n b. naming-all w (Unregisters n b ∷ []) refl;
-  unmaps = λ w pid. naming-all w (DropsViewsOf pid ∷ []) refl;
+  vacates = λ w pid. naming-all w (DropsViewsOf pid ∷ []) refl;
+  builds = λ w size prot is. naming-all w (DrawsOrdinal by.number ∷ AddsSection (new_section by size prot) ∷ []) refl;
+  maps = λ w handle offset size prot s rounded base m. naming-all w (Maps by.process (mapped_view s offset rounded prot base) ∷ []) (and_from _ true (mapped-stands w by handle offset size prot s rounded base m) refl);
+  unmaps = λ w pid base. naming-all w (Unmaps pid base ∷ []) refl;
+  writes = λ w b place new. naming-all w (Writes b place new ∷ []) refl;
 }
 
 -- Lines
-names-lines : LineLaw (Shut IsLinked) (λ _. KeepNames)
+pub names-lines : LineLaw (Shut IsLinked) (λ _. KeepNames)
 names-lines = passing-lines (Shut IsLinked) KeepNames is_naming naming-all (λ w. record { tells = λ _. refl; processes = λ _. refl; threads = λ _ _ _. refl; binds = λ _ _. refl }) (λ by. outcomes by (Shut IsLinked) AnyWorld KeepNames (names-law by) (λ w c. (c.0, tt)))
 
 -- before rows go

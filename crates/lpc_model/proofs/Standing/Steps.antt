@@ -8,9 +8,9 @@ use Rattle.lpc_base.proofs.RowWords.{every-any, every-append, every-change, ever
 use Rattle.lpc_base.proofs.RowMaps.{every-both, every-first, every-without_first}
 use Rattle.lpc_base.proofs.Births.{birth-same, births-apart}
 use Rattle.lpc_model.specs.declared.entry.ObjectKind.TheVariants as kind
-use Rattle.lpc_model.specs.World.{Birth, HandleRow, HandleTable, MessageRow, ObjectKind, ObjectName, PortRow, ProcessRow, SectionRow, ThreadRow, ViewRow, WaitRow, World}
-use Rattle.lpc_model.specs.Found.{all_handles, all_registrations, handle_count, has_value, holders, is_born_process, is_born_thread, is_connected_to, is_made_on, is_own_of, is_paired_to, is_port, is_queued, is_queued_connect, is_request, is_section, is_sent_on, is_table, is_the, is_thread, is_view, is_view_in, pointer_count, port_name, port_row, process_name, registered_by, same_birth, same_kind, same_object, section_name, shows_section, thread_name, waits_as, waits_at}
-use Rattle.lpc_model.specs.Basics.{Accepts, AddsHandle, AddsProcess, AddsSection, AddsThread, Awaits, Basic, Binds, Completes, Cuts, Dies, DrawsIdentifier, DrawsOrdinal, DropsHandle, DropsViewsOf, Empties, Enters, Frees, Joins, Makes, Maps, Receives, Registers, Takes, TakesConnect, Tells, Unbinds, Unmaps, Unregisters, Wakes, Withdraws, Writes, accepted, basic, completed, cut, ended, freed, is_end_of, no_handles, past_identifier, past_ordinal, put_handle, received, registering, unregistering, with_handle, without_handle, world_after}
+use Rattle.lpc_model.specs.World.{Birth, HandleRow, HandleTable, MessageRow, ObjectKind, ObjectName, PortRow, ProcessRow, SectionRow, ThreadRow, ViewRow, ViewTable, WaitRow, World}
+use Rattle.lpc_model.specs.Found.{all_handles, all_registrations, all_views, handle_count, has_value, holders, is_born_process, is_born_thread, is_connected_to, is_made_on, is_own_of, is_paired_to, is_port, is_queued, is_queued_connect, is_request, is_section, is_sent_on, is_space, is_table, is_the, is_thread, lies_at, pointer_count, port_name, port_row, process_name, registered_by, same_birth, same_kind, same_object, section_name, shows_section, thread_name, waits_as, waits_at}
+use Rattle.lpc_model.specs.Basics.{Accepts, AddsHandle, AddsProcess, AddsSection, AddsThread, Awaits, Basic, Binds, Completes, Cuts, Dies, DrawsIdentifier, DrawsOrdinal, DropsHandle, DropsViewsOf, Empties, Enters, Frees, Joins, Makes, Maps, Receives, Registers, Takes, TakesConnect, Tells, Unbinds, Unmaps, Unregisters, Wakes, Withdraws, Writes, accepted, basic, completed, cut, ended, freed, is_end_of, no_handles, no_views, past_identifier, past_ordinal, put_handle, received, registering, unregistering, with_handle, with_view, without_handle, without_view, without_views, world_after}
 use Rattle.lpc_model.specs.Sweep.{free_unheld, is_unheld, sweep, unheld}
 use Rattle.lpc_model.specs.Standing.{NamesWhatStands, has_near_queue, is_near, names_object, port_stands, section_stands, shows_standing, stands_as}
 use Rattle.lpc_model.proofs.Steps.Rows.{has-without, passes-change}
@@ -40,6 +40,9 @@ pub record KeepsNames (w v : World) : Type 0 where
 abbrev tables_to_objects : World → HandleTable → Bool
 tables_to_objects w t = every (names_object w) t.rows
 
+abbrev shows_sections : World → ViewTable → Bool
+shows_sections w t = every (shows_standing w) t.rows
+
 abbrev sent_on_port : World → MessageRow → Bool
 sent_on_port w m = has (is_port m.sender) w.ports
 
@@ -61,7 +64,7 @@ to-object-kept w v s = object-kept w v s.ports s.processes s.threads s.sections
 
 pub kept : (w v : World) → StaysNear w v → (every (tables_to_objects w) w.handles ≡ true → every (tables_to_objects w) v.handles ≡ true) → (every (sent_on_port w) w.messages ≡ true → every (sent_on_port w) v.messages ≡ true)
     → (every (has_near_queue w) w.waits ≡ true → every (has_near_queue w) v.waits ≡ true) → (All (port_stands w) w.threads → All (port_stands w) v.threads)
-    → (every (shows_standing w) w.views ≡ true → every (shows_standing w) v.views ≡ true) → KeepsNames w v
+    → (every (shows_sections w) w.views ≡ true → every (shows_sections w) v.views ≡ true) → KeepsNames w v
 kept w v s handles senders queues registrations views = record {
   near = s;
   names = λ n. record {
@@ -69,7 +72,7 @@ kept w v s handles senders queues registrations views = record {
     senders = every-more (sent_on_port w) (sent_on_port v) (λ m is. s.ports m.sender is) v.messages (senders n.senders);
     queues = every-more (has_near_queue w) (has_near_queue v) (λ x is. s.queues x is) v.waits (queues n.queues);
     registrations = every-more (port_stands w) (port_stands v) s.ports (all_registrations v) (registrations n.registrations);
-    views = every-more (shows_standing w) (shows_standing v) (λ x is. s.sections x.section is) v.views (views n.views);
+    views = every-more (shows_sections w) (shows_sections v) (λ t is. every-more (shows_standing w) (shows_standing v) (λ x is. s.sections x.section is) t.rows is) v.views (views n.views);
   };
 }
 
@@ -86,7 +89,7 @@ messages-kept w messages all = let v : World = record w { messages = messages } 
 waits-kept : (w : World) (waits : List WaitRow) → (every (has_near_queue w) w.waits ≡ true → every (has_near_queue w) waits ≡ true) → KeepsNames w (record w { waits = waits })
 waits-kept w waits all = let v : World = record w { waits = waits } in kept w v (record { sections = λ d is. is; ports = λ b is. is; queues = λ x is. is; processes = λ b is. is; threads = λ b is. is }) (λ all. all) (λ all. all) all (λ all. all) (λ all. all)
 
-views-kept : (w : World) (views : List ViewRow) → (every (shows_standing w) w.views ≡ true → every (shows_standing w) views ≡ true) → KeepsNames w (record w { views = views })
+views-kept : (w : World) (views : List ViewTable) → (every (shows_sections w) w.views ≡ true → every (shows_sections w) views ≡ true) → KeepsNames w (record w { views = views })
 views-kept w views all = let v : World = record w { views = views } in kept w v (record { sections = λ d is. is; ports = λ b is. is; queues = λ x is. is; processes = λ b is. is; threads = λ b is. is }) (λ all. all) (λ all. all) (λ all. all) (λ all. all) all
 
 accepted-near : (w : World) (reply : List ℕ) (x : WaitRow) → has_near_queue w x ≡ true → has_near_queue w (accepted reply x) ≡ true
@@ -106,7 +109,7 @@ is_naming w (Enters m) = has (is_port m.sender) w.ports
 is_naming w (AddsHandle pid h) = names_object w h
 is_naming w (AddsThread t) = every (port_stands w) (registered_by t)
 is_naming w (Registers who b) = port_stands w b
-is_naming w (Maps x) = section_stands w x.section
+is_naming w (Maps pid x) = section_stands w x.section
 is_naming w (Joins client server context) = false
 is_naming w (Cuts b) = false
 is_naming w (Frees o) = false
@@ -132,7 +135,7 @@ step-kept w v (DrawsOrdinal who) s is = kept v (basic v (DrawsOrdinal who)) (rec
 step-kept w v (Dies who status) s is = kept v (basic v (Dies who status)) (record { sections = λ d is. is; ports = λ c is. is; queues = λ x is. is; processes = λ c is. is; threads = λ c is. rw (has-change (is_born_thread c) (is_thread who) ended (λ t. refl) v.threads) is }) (λ all. all) (λ all. all) (every-without (has_near_queue v) (waits_as who) v.waits) (all-changed (port_stands v) (is_thread who) ended (λ t all. refl) v.threads) (λ all. all)
 step-kept w v (Registers who b) s is = kept v (basic v (Registers who b)) (record { sections = λ d is. is; ports = λ c is. is; queues = λ x is. is; processes = λ c is. is; threads = λ c is. rw (has-change (is_born_thread c) (is_thread who) (registering b) (λ t. refl) v.threads) is }) (λ all. all) (λ all. all) (λ all. all) (all-changed (port_stands v) (is_thread who) (registering b) (registering-all (port_stands v) b (s.ports b is)) v.threads) (λ all. all)
 step-kept w v (Unregisters who b) s is = kept v (basic v (Unregisters who b)) (record { sections = λ d is. is; ports = λ c is. is; queues = λ x is. is; processes = λ c is. is; threads = λ c is. rw (has-change (is_born_thread c) (is_thread who) (unregistering b) (λ t. refl) v.threads) is }) (λ all. all) (λ all. all) (λ all. all) (all-changed (port_stands v) (is_thread who) (unregistering b) (unregistering-all (port_stands v) b) v.threads) (λ all. all)
-step-kept w v (AddsProcess p) s is = kept v (basic v (AddsProcess p)) (record { sections = λ d is. is; ports = λ b is. is; queues = λ x is. is; processes = λ b is. has-kept (is_born_process b) v.processes p is; threads = λ b is. is }) (λ all. every-push (tables_to_objects v) v.handles (no_handles p.number) all refl) (λ all. all) (λ all. all) (λ all. all) (λ all. all)
+step-kept w v (AddsProcess p) s is = kept v (basic v (AddsProcess p)) (record { sections = λ d is. is; ports = λ b is. is; queues = λ x is. is; processes = λ b is. has-kept (is_born_process b) v.processes p is; threads = λ b is. is }) (λ all. every-push (tables_to_objects v) v.handles (no_handles p.number) all refl) (λ all. all) (λ all. all) (λ all. all) (λ all. every-push (shows_sections v) v.views (no_views p.number) all refl)
 step-kept w v (AddsThread t) s is = kept v (basic v (AddsThread t)) (record { sections = λ d is. is; ports = λ b is. is; queues = λ x is. is; processes = λ b is. is; threads = λ b is. has-kept (is_born_thread b) v.threads t is }) (λ all. all) (λ all. all) (λ all. all) (λ all. all-pushed (port_stands v) v.threads t (every-more (port_stands w) (port_stands v) s.ports (registered_by t) is) all) (λ all. all)
 step-kept w v (Makes p) s is = kept v (basic v (Makes p)) (record { sections = λ d is. is; ports = λ b is. has-kept (is_port b) v.ports p is; queues = λ x is. push-passes v p x.port (is_near x) is; processes = λ b is. is; threads = λ b is. is }) (λ all. all) (λ all. all) (λ all. all) (λ all. all) (λ all. all)
 step-kept w v (Joins client server context) s is = absurd (cc)
@@ -152,9 +155,9 @@ step-kept w v (AddsHandle pid h) s is = handles-kept v _ (every-change (tables_t
 step-kept w v (DropsHandle pid value) s is = handles-kept v _ (every-change (tables_to_objects v) (is_table pid) (without_handle value) (λ t all. every-without_first (names_object v) (has_value value) t.rows all) v.handles)
 step-kept w v (AddsSection x) s is = kept v (basic v (AddsSection x)) (record { sections = λ d is. has-kept (is_section d) v.sections x is; ports = λ b is. is; queues = λ x is. is; processes = λ b is. is; threads = λ b is. is }) (λ all. all) (λ all. all) (λ all. all) (λ all. all) (λ all. all)
 step-kept w v (Writes b place new) s is = kept v (basic v (Writes b place new)) (record { sections = λ d is. is; ports = λ b is. is; queues = λ x is. is; processes = λ b is. is; threads = λ b is. is }) (λ all. all) (λ all. all) (λ all. all) (λ all. all) (λ all. all)
-step-kept w v (Maps x) s is = views-kept v _ (λ all. every-push (shows_standing v) v.views x all (s.sections x.section is))
-step-kept w v (Unmaps pid base) s is = views-kept v _ (every-without (shows_standing v) (is_view pid base) v.views)
-step-kept w v (DropsViewsOf pid) s is = views-kept v _ (every-without (shows_standing v) (is_view_in pid) v.views)
+step-kept w v (Maps pid x) s is = views-kept v _ (every-change (shows_sections v) (is_space pid) (with_view x) (λ t all. every-push (shows_standing v) t.rows x all (s.sections x.section is)) v.views)
+step-kept w v (Unmaps pid base) s is = views-kept v _ (every-change (shows_sections v) (is_space pid) (without_view base) (λ t all. every-without (shows_standing v) (lies_at base) t.rows all) v.views)
+step-kept w v (DropsViewsOf pid) s is = views-kept v _ (every-change (shows_sections v) (is_space pid) without_views (λ t all. refl) v.views)
 
 near-then : (w v u : World) → StaysNear w v → StaysNear v u → StaysNear w u
 near-then w v u a b = record {
@@ -278,13 +281,15 @@ port-names w b few n =
 -- a section that no row counts for goes: no view shows it
 section-names : (w : World) (b : Birth) → pointer_count w (section_name b) ≤ 0 → NamesWhatStands w → NamesWhatStands (basic w (Frees (section_name b)))
 section-names w b few n =
-    let unshown = none-pass (shows_section b) w.views (sum-second (handle_count w (section_name b)) (count (shows_section b) w.views) few) in
+    let gone = basic w (Frees (section_name b)) in
+    let unshown = none-pass (shows_section b) (all_views w) (sum-second (handle_count w (section_name b)) (count (shows_section b) (all_views w)) few) in
+    let left = λ (x : ViewRow) (is : section_stands w x.section ≡ true) (off : not (shows_section b x) ≡ true). born-left (λ (s : SectionRow). s.birth) b x.section w.sections (not-true (same_birth x.section b) off) is in
     record {
       handles = handles-left w (section_name b) few n;
       senders = n.senders;
       queues = n.queues;
       registrations = n.registrations;
-      views = every-both (shows_standing w) (λ v. not (shows_section b v)) (shows_standing (basic w (Frees (section_name b)))) (λ v is off. born-left (λ (s : SectionRow). s.birth) b v.section w.sections (not-true (same_birth v.section b) off) is) w.views n.views unshown;
+      views = every-both (shows_sections w) (λ t. every (λ x. not (shows_section b x)) t.rows) (shows_sections gone) (λ t is off. every-both (shows_standing w) (λ x. not (shows_section b x)) (shows_standing gone) left t.rows is off) w.views n.views (sym (every-each (λ x. not (shows_section b x)) (λ (t : ViewTable). t.rows) w.views) ∙ unshown);
     }
 
 pub gone-names : (w : World) (o : ObjectName) → is_unheld w o ≡ true → NamesWhatStands w → NamesWhatStands (basic w (Frees o))

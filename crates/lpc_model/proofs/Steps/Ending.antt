@@ -56,7 +56,7 @@ is_ending (Binds path node) = false
 is_ending (AddsHandle pid h) = false
 is_ending (AddsSection s) = false
 is_ending (Writes b place new) = false
-is_ending (Maps v) = false
+is_ending (Maps pid v) = false
 is_ending (Unmaps pid base) = false
 is_ending b = true
 

@@ -8,7 +8,7 @@ use Rattle.lpc_base.proofs.RowWords.{count-has, every-more, none-counted}
 use Rattle.lpc_base.proofs.Births.{birth-self}
 use Rattle.lpc_base.proofs.Bools.{number-apart}
 use Rattle.lpc_model.specs.World.{Birth, HandleRow, HandleTable, ObjectName, World}
-use Rattle.lpc_model.specs.Found.{all_handles, free_handle, handles_of, has_handle_to, has_value, is_open, is_table, names_port, port_name, rows_in}
+use Rattle.lpc_model.specs.Found.{all_handles, free_handle, handle_count, handles_of, has_handle_to, has_value, is_open, is_table, names_port, port_name, rows_in, same_object}
 use Rattle.lpc_model.specs.Basics.{AddsHandle, basic, put_handle, with_handle}
 use Rattle.lpc_model.specs.Tests.{handle_row}
 use Rattle.lpc_model.proofs.Steps.Rows.{has-append, has-change_to, has-changed}
@@ -86,3 +86,18 @@ has-each p f (x ∷ xs) = grind (arith, has-append p (f x) (each f xs), has-each
 -- an open port has a handle that counts
 pub open-count : (w : World) (b : Birth) → is_open w b ≡ true → 1 ≤ count (λ h. names_port b h.object) (all_handles w)
 open-count w b is = count-has (λ h. names_port b h.object) (all_handles w) (rw (has-each (λ h. names_port b h.object) (λ t. t.rows) w.handles) is)
+
+-- an object has a handle that counts once a process has one to it
+put-named : (o : ObjectName) (value access : ℕ) → same_object o o ≡ true → (t : HandleTable) → has (λ h. same_object h.object o) (with_handle (handle_row value o access) t).rows ≡ true
+put-named o value access self t =
+    let h = handle_row value o access in
+    let low = which (λ (r : HandleRow). nat_lt r.value h.value) t.rows in
+    let high = which (λ (r : HandleRow). nat_lt h.value r.value) t.rows in
+    let split = has-append (λ (r : HandleRow). same_object r.object o) low (h ∷ high) in
+    grind (arith, split, self)
+
+pub named-new : (w : World) (pid value access : ℕ) (o : ObjectName) → same_object o o ≡ true → has (is_table pid) w.handles ≡ true → 1 ≤ handle_count (basic w (AddsHandle pid (handle_row value o access))) o
+named-new w pid value access o self home =
+    let v = basic w (AddsHandle pid (handle_row value o access)) in
+    let named = has-changed (λ (t : HandleTable). has (λ h. same_object h.object o) t.rows) (is_table pid) (with_handle (handle_row value o access)) (λ t. put-named o value access self t) w.handles home in
+    count-has (λ h. same_object h.object o) (all_handles v) (rw (has-each (λ h. same_object h.object o) (λ t. t.rows) v.handles) named)

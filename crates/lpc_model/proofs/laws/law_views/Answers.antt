@@ -1,0 +1,12 @@
+use Rattle.lpc_model.proofs.Views.Lines.{views_none, views_step}
+use Rattle.lpc_model.proofs.Runs.{views_run}
+use Rattle.lpc_model.proofs.laws.law_views.Goals as goal
+
+pub returns-clause-first : goal.returns-clause-first
+returns-clause-first c = views_none
+
+pub returns-clause-steps : goal.returns-clause-steps
+returns-clause-steps c = views_step
+
+pub returns-clause-runs : goal.returns-clause-runs
+returns-clause-runs c = views_run
