@@ -18,4 +18,7 @@ pub mod Queries
 pub mod Registers
 pub mod Creates
 pub mod Terminates
+pub mod Sections
+pub mod Mappings
+pub mod Memories
 pub mod Instances

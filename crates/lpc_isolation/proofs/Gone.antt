@@ -6,6 +6,8 @@ pub mod Fresh
 pub mod Fine
 pub mod Counted
 pub mod Held
+pub mod ServedLines
+pub mod Loaded
 pub mod Born
 pub mod Grown
 pub mod ThinCalls

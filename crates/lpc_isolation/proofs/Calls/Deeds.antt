@@ -1,39 +1,48 @@
 -- What calls come to in the machine whose rows never go, each with its steps and what its tests found. What holds of each deed
 -- holds of each call that is served.
+use Rattle.lpc_base.specs.Views.{whole_pages}
+use Rattle.lpc_base.specs.declared.limits.TheConstants.{SECTION_LIMIT}
+use Rattle.lpc_model.specs.Refusal.{refuse_if}
 use Rattle.lpc_model.specs.Register.{is_registered, register_steps}
 use Rattle.lpc_model.specs.Counts.{asked, counts_of, duplicate_steps}
-use Rattle.lpc_model.specs.declared.entry.CallName.TheVariants.{NtDuplicateObject, NtQueryObject, NtRegisterThreadTerminatePort}
+use Rattle.lpc_model.specs.declared.entry.CallName.TheVariants.{NtDuplicateObject, NtMapViewOfSection, NtQueryObject, NtReadVirtualMemory, NtRegisterThreadTerminatePort, NtUnmapViewOfSection, NtWriteVirtualMemory}
+use Rattle.lpc_model.specs.Memory.{map_steps, mapped_view, memory_test, read_steps, section_steps, section_test, mapping_right, unmap_steps, write_steps, protection_test, is_transfer}
+use Rattle.lpc_model.proofs.Calls.Outcomes.{IsMapping}
 use Rattle.lpc_base.specs.Rows.{first, when}
 use Rattle.lpc_base.specs.declared.status.Status.{Status}
-use Rattle.lpc_base.specs.declared.status.TheConstants.{INVALID_HANDLE, SUCCESS}
-use Rattle.lpc_isolation.proofs.Gone.Served.{served}
+use Rattle.lpc_base.specs.declared.status.TheConstants.{INVALID_HANDLE, SUCCESS, INVALID_PARAMETER_4, SECTION_TOO_BIG, ACCESS_VIOLATION, INVALID_PARAMETER}
+use Rattle.lpc_isolation.proofs.Gone.Served.{served, standing_load_test}
 use Rattle.lpc_message.specs.declared.kind.TheConstants.{DATAGRAM, REQUEST}
 use Rattle.lpc_model.proofs.Steps.Ending.{answered_end}
-use Rattle.lpc_model.proofs.Calls.Holding.{Holds, bind_holds, holds-more, found_ok}
+use Rattle.lpc_model.proofs.Calls.Holding.{Holds, bind_holds, holds-more, found_ok, found_holds, not_refused}
 use Rattle.lpc_model.proofs.Calls.Outcomes.{AreDoomed, EndCall, IsReceiving, Outcomes, end_call, of_process, of_thread, service-does}
-use Rattle.lpc_model.specs.Basics.{AddsHandle, Basic, DrawsIdentifier, Registers, Tells}
+use Rattle.lpc_model.specs.Basics.{AddsHandle, Basic, DrawsIdentifier, Maps, Registers, Tells, Unmaps, Writes}
 use Rattle.lpc_model.specs.Close.{close_steps}
 use Rattle.lpc_model.specs.Connect.{Completable, ConnectAnswer, accept_steps, answer_test, complete_steps, complete_test, connect_steps, connection_request, create_steps, listen_steps, named_steps, refuse_steps, unnamed_steps}
-use Rattle.lpc_model.specs.Found.{free_handle, handle_at, is_queued, is_queued_connect}
-use Rattle.lpc_model.specs.Lines.{ScriptCall, accept_connect_port, close, complete_connect_port, connect_port, create_port, create_process, create_thread, listen_port, query_object, reply_port, reply_wait_receive_port, request_port, request_wait_reply_port, terminate_process, terminate_thread, duplicate_object, register_thread_terminate_port}
+use Rattle.lpc_model.specs.Found.{free_handle, handle_at, is_queued, is_queued_connect, view_holding}
+use Rattle.lpc_model.specs.Lines.{ScriptCall, accept_connect_port, close, complete_connect_port, connect_port, create_port, create_process, create_thread, listen_port, query_object, reply_port, reply_wait_receive_port, request_port, request_wait_reply_port, terminate_process, terminate_thread, duplicate_object, register_thread_terminate_port, create_section, map_view_of_section, unmap_view_of_section, read_virtual_memory, write_virtual_memory}
 use Rattle.lpc_model.specs.Message.{message_test}
 use Rattle.lpc_model.specs.Named.{free_name, named_port}
 use Rattle.lpc_model.specs.Request.{Sendable, datagram_send_test, datagram_steps, receive_steps, reply_steps, reply_test, request_steps, send_test, sent_by}
-use Rattle.lpc_model.specs.Tests.{next_birth, own_handle, port_test}
-use Rattle.lpc_model.specs.World.{Birth, HandleRow, MessageRow, Path, PortRow, ThreadRow, WaitRow, World}
+use Rattle.lpc_model.specs.Tests.{next_birth, own_handle, port_test, handles_test}
+use Rattle.lpc_model.specs.World.{Birth, HandleRow, MessageRow, Path, PortRow, SectionRow, ThreadRow, ViewRow, WaitRow, World}
 use Rattle.lpc_model.specs.declared.entry.CallName.{CallName}
 use Rattle.lpc_model.specs.declared.entry.Entry.TheVariants.{Answer}
 use Rattle.lpc_model.specs.declared.entry.Field.{Field}
 use Rattle.lpc_model.specs.declared.message.Message.{Message}
 use Rattle.std.proofs.Common.{Bool, List, None, Option, Some, [], false, refl, true, ℕ, ◌∷◌, ◌≡◌, not, subst}
-use Rattle.std.specs.Prelude.{Ok}
+use Rattle.std.specs.Prelude.{Ok, length, ◌==◌, nat_lt}
 
--- Tame calls: they tell an answer, and change rows of their own process alone
--- a step of such a call: a further handle to an object that a handle of the process names, a port registered that one names, a number drawn
+-- Tame calls: they tell an answer, and change rows of their own process alone, or bytes that its views show
+-- a step of such a call: a further handle to an object that a handle of the process names, a port registered that one names, a number drawn;
+-- a view of a section that such a handle names, a view of the process that goes, bytes of a section written
 pub data IsTame (w : World) (by : ThreadRow) : Basic → Type 0 where
   gives : (h r : HandleRow) (value : ℕ) → handle_at w by.process value ≡ Some r → r.object ≡ h.object → IsTame w by (AddsHandle by.process h)
   registers : (p : PortRow) (value : ℕ) → port_test w by value ≡ Ok p → IsTame w by (Registers by.number p.birth)
   numbers : IsTame w by (DrawsIdentifier by.number)
+  maps : (v : ViewRow) (s : SectionRow) (rights value : ℕ) → section_test w by rights value ≡ Ok s → v.section ≡ s.birth → v.owner ≡ None → IsTame w by (Maps by.process v)
+  unmaps : (base : ℕ) → IsTame w by (Unmaps by.process base)
+  writes : (b : Birth) (place : ℕ) (new : List ℕ) → IsTame w by (Writes b place new)
 
 pub data AreTame (w : World) (by : ThreadRow) : List Basic → Type 0 where
   none : AreTame w by []
@@ -56,6 +65,10 @@ abbrev pub is_tame : ScriptCall → Bool
 is_tame (register_thread_terminate_port handle) = true
 is_tame (duplicate_object handle access) = true
 is_tame (query_object handle) = true
+is_tame (map_view_of_section handle offset size prot) = true
+is_tame (unmap_view_of_section address) = true
+is_tame (read_virtual_memory address n) = true
+is_tame (write_virtual_memory address new) = true
 is_tame call = false
 
 pub ends-some : (call : EndCall) → spares (end_call call) ≡ false
@@ -67,6 +80,16 @@ pub record Tames (w : World) (by : ThreadRow) (P : ScriptCall → List Basic →
   pub of_register : (handle : ℕ) (port : PortRow) → port_test w by handle ≡ Ok port → P (register_thread_terminate_port handle) (register_steps by port.birth)
   pub of_duplicate : (handle : ℕ) (access : Option ℕ) (r : HandleRow) → handle_at w by.process handle ≡ Some r → P (duplicate_object handle access) (duplicate_steps by (free_handle w by.process) r (asked r access))
   pub of_query : (handle : ℕ) (r : HandleRow) (fields : List Field) → handle_at w by.process handle ≡ Some r → P (query_object handle) (Tells (Answer by.number NtQueryObject SUCCESS fields) ∷ [])
+  pub of_map : (handle offset size prot : ℕ) (s : SectionRow) (rounded base : ℕ) → IsMapping w by handle offset size prot s rounded base → P (map_view_of_section handle offset size prot) (map_steps by (mapped_view s offset rounded prot base))
+  pub of_unmap : (address : ℕ) (v : ViewRow) → view_holding w by.process address 1 ≡ Some v → P (unmap_view_of_section address) (unmap_steps by v)
+  pub of_read : (address n : ℕ) (v : ViewRow) → memory_test w by address n ≡ Ok v → P (read_virtual_memory address n) (read_steps w.contents by address n v)
+  pub of_write : (address : ℕ) (new : List ℕ) (v : ViewRow) → memory_test w by address (length new) ≡ Ok v → v.writable ≡ true → P (write_virtual_memory address new) (write_steps by address new v)
+
+-- the view in which the bytes of a call lie
+pub memory-held : (w : World) (by : ThreadRow) (address n : ℕ) → Holds (λ v. view_holding w by.process address n ≡ Some v) (memory_test w by address n)
+memory-held w by address n =
+    let P : ViewRow → Type 0 = λ v. view_holding w by.process address n ≡ Some v in
+    bind_holds (refuse_if (not (is_transfer n)) INVALID_PARAMETER) _ P (λ _ _. found_holds P (view_holding w by.process address n) ACCESS_VIOLATION (λ v at. at))
 
 -- what holds of each answer with such steps behind it holds of them
 pub any-tame : {w : World} {by : ThreadRow} {P : ScriptCall → List Basic → Type 0} → ((call : ScriptCall) (name : CallName) (fields : List Field) (bs : List Basic) → is_tame call ≡ true → AreTame w by bs → P call (Tells (Answer by.number name SUCCESS fields) ∷ bs)) → Tames w by P
@@ -74,6 +97,10 @@ any-tame {w} {by} {P} all = record {
   of_register = λ handle port at. all (register_thread_terminate_port handle) NtRegisterThreadTerminatePort [] _ refl (at_most handle port at (not (is_registered port.birth by)));
   of_duplicate = λ handle access r at. all (duplicate_object handle access) NtDuplicateObject _ _ refl (more (gives _ r handle at refl) none);
   of_query = λ handle r fields at. all (query_object handle) NtQueryObject fields [] refl none;
+  of_map = λ handle offset size prot s rounded base is. all (map_view_of_section handle offset size prot) NtMapViewOfSection _ _ refl (more (maps _ s (mapping_right prot) handle is.section refl refl) none);
+  of_unmap = λ address v at. all (unmap_view_of_section address) NtUnmapViewOfSection [] _ refl (more (unmaps v.base) none);
+  of_read = λ address n v at. all (read_virtual_memory address n) NtReadVirtualMemory _ [] refl none;
+  of_write = λ address new v at may. all (write_virtual_memory address new) NtWriteVirtualMemory [] _ refl (more (writes _ _ _) none);
 }
   where
     at_most : (handle : ℕ) (port : PortRow) → port_test w by handle ≡ Ok port → (new : Bool) → AreTame w by (when new (Registers by.number port.birth ∷ []))
@@ -94,12 +121,24 @@ pub record Deeds (w : World) (by : ThreadRow) (P : ScriptCall → List Basic →
   pub replies : (handle : ℕ) (bytes : List ℕ) (port : PortRow) (m : Message) (x : WaitRow) → port_test w by handle ≡ Ok port → message_test bytes ≡ Ok m → reply_test w port m ≡ Ok x → P (reply_port handle bytes) (reply_steps by x m)
   pub receives : (handle : ℕ) (bytes : Option (List ℕ)) (a : Option Message) (port : PortRow) (queue : Birth) (replied : List Basic) (o : Option MessageRow) → IsReceiving w by handle bytes a port queue replied → first (is_queued queue) w.messages ≡ o → P (reply_wait_receive_port handle bytes) (receive_steps by port queue replied o)
   pub closes : (handle : ℕ) (r : HandleRow) → handle_at w by.process handle ≡ Some r → P (close handle) (close_steps by r w)
+  pub makes_section : (size prot : ℕ) → P (create_section size prot) (section_steps by size prot (free_handle w by.process))
   pub tames : Tames w by P
   pub ends : (call : EndCall) (name : CallName) (own : Bool) (pid : ℕ) (code : Status) (ts : List ThreadRow) → AreDoomed w by own pid ts → P (end_call call) (answered_end by name own pid code ts w)
 
 -- what holds of each outcome, and of a query with any fields, holds of each call that is served
 pub served-does : (w : World) (by : ThreadRow) (P : ScriptCall → List Basic → Type 0) → Outcomes w by P → ((handle : ℕ) (r : HandleRow) (fields : List Field) → handle_at w by.process handle ≡ Some r → P (query_object handle) (Tells (Answer by.number NtQueryObject SUCCESS fields) ∷ [])) → (call : ScriptCall) → Holds (P call) (served w by call)
 served-does w by P o queries (query_object handle) = bind_holds (own_handle w by handle) _ (P (query_object handle)) (λ r at. queries handle r _ (found_ok (handle_at w by.process handle) INVALID_HANDLE r at))
+served-does w by P o queries (create_section size prot) =
+    let Q : List Basic → Type 0 = P (create_section size prot) in
+    bind_holds (protection_test prot) _ Q (λ p protected.
+    bind_holds (refuse_if (size == 0) INVALID_PARAMETER_4) _ Q (λ x some.
+    bind_holds (refuse_if (nat_lt SECTION_LIMIT size) SECTION_TOO_BIG) _ Q (λ y most.
+    bind_holds (standing_load_test w by.process (whole_pages size)) _ Q (λ _ _.
+    bind_holds (handles_test w by.process 1) _ Q (λ _ _. o.makes_section size prot (record {
+      protection = protected;
+      some = not_refused _ INVALID_PARAMETER_4 x some;
+      most = not_refused _ SECTION_TOO_BIG y most;
+    }))))))
 served-does w by P o queries call = service-does w by P o call
 
 module _ (w : World) (by : ThreadRow) (P : ScriptCall → List Basic → Type 0) (d : Deeds w by P) where
@@ -129,6 +168,11 @@ module _ (w : World) (by : ThreadRow) (P : ScriptCall → List Basic → Type 0)
     queries = λ handle r at _. d.tames.of_query handle r (counts_of w r) at;
     spawns = λ pid tid new unused off. absurd (cc);
     starts = λ target tid pid at live unused off. absurd (cc);
+    makes_section = λ size prot asked _. d.makes_section size prot;
+    maps_view = λ handle offset size prot s rounded base is _. d.tames.of_map handle offset size prot s rounded base is;
+    unmaps_view = λ address v at _. d.tames.of_unmap address v at;
+    reads_memory = λ address n v at _. d.tames.of_read address n v at;
+    writes_memory = λ address new v at may _. d.tames.of_write address new v at may;
     ends = λ call name own pid code ts doomed _. d.ends call name own pid code ts doomed;
   }
 

@@ -1,4 +1,7 @@
 -- What each call owes the law, and that each does so. A further call adds its tests here, its deeds to each law.
+use Rattle.lpc_isolation.proofs.Each.Memories.{read-calm, write-calm}
+use Rattle.lpc_isolation.proofs.Each.Mappings.{map-calm, unmap-calm}
+use Rattle.lpc_isolation.proofs.Each.Sections.{section-calm}
 use Rattle.lpc_model.specs.Tests.{next_birth}
 use Rattle.lpc_model.specs.Connect.{making}
 use Rattle.lpc_isolation.proofs.Rows.Names.{SeenNames}
@@ -17,7 +20,7 @@ use Rattle.std.proofs.Common.{refl, subst, sym, None, Some}
 use Rattle.lpc_base.specs.declared.status.Status.{Status}
 use Rattle.lpc_model.specs.World.{Birth, Contents, ThreadRow, World}
 use Rattle.lpc_model.specs.Basics.{Basic, world_after}
-use Rattle.lpc_model.specs.Lines.{ScriptCall, accept_connect_port, close, complete_connect_port, connect_port, create_port, duplicate_object, listen_port, query_object, reply_port, reply_wait_receive_port, request_port, request_wait_reply_port, register_thread_terminate_port, create_process, create_thread, terminate_thread, terminate_process}
+use Rattle.lpc_model.specs.Lines.{ScriptCall, accept_connect_port, close, complete_connect_port, connect_port, create_port, duplicate_object, listen_port, query_object, reply_port, reply_wait_receive_port, request_port, request_wait_reply_port, register_thread_terminate_port, create_process, create_thread, terminate_thread, terminate_process, create_section, map_view_of_section, unmap_view_of_section, read_virtual_memory, write_virtual_memory}
 use Rattle.lpc_model.specs.Death.{code_status}
 use Rattle.lpc_isolation.proofs.Gone.Served.{served}
 use Rattle.lpc_model.specs.Circle.{Group, is_fine_call}
@@ -138,7 +141,7 @@ close-calm handle = record {
 ends-calm : (call : ScriptCall) (code : Status) → EndsThreads call code → Calm call
 ends-calm call code e = record {
   refuses = λ w by. refuses-ends call code e w by;
-  members = ends_threads (λ m c u d w by known k a used mine fine right. own-ends call code e m c u d w by known a used mine) (λ m c u d w by known a used by_in other. leads-ends call code e m c u d w by known a used by_in other);
+  members = ends_threads (λ m c u d w by known k a used mine fine right. own-ends call code e m c u d w by known k a used mine) (λ m c u d w by known a used by_in other. leads-ends call code e m c u d w by known a used by_in other);
   alike = λ k u by live c. alike-ends call code e k u by live c;
 }
 
@@ -159,7 +162,7 @@ calm {call} is s = record {
   hears = λ m c d w by known memo a owned n b all out. at-end m c w by known (λ u bs. HasFineRows m c (world_after w bs) → Hears m c u d w memo bs) a (λ u used. deeds-do w by _ (hears-deeds m c u w by d memo (caller m c w by known u a used) owned n b all out) call is);
   notes = λ m c w by known memo a owned n b all by_in. deeds-do w by _ (notes-deeds m c w w by memo (caller m c w by known w a refl) owned n b all by_in) call is;
   alike = s.alike;
-  stands = λ k u by live sound closed room. deeds-do u by _ (stands-deeds k u by live sound closed room.port) call is;
+  stands = λ k u by live sound closed room. deeds-do u by _ (stands-deeds k u by live sound closed room.port room.section) call is;
   fine = λ m c after u by idle f. deeds-do u by _ (fine-deeds m c after u by idle f) call is;
 }
   where
@@ -184,6 +187,11 @@ lawful (close handle) = calm refl (close-calm handle)
 lawful (duplicate_object handle access) = calm refl (duplicate-calm handle access)
 lawful (query_object handle) = calm refl (query-calm handle)
 lawful (register_thread_terminate_port handle) = calm refl (register-calm handle)
+lawful (create_section size prot) = calm refl (section-calm size prot)
+lawful (map_view_of_section handle offset size prot) = calm refl (map-calm handle offset size prot)
+lawful (unmap_view_of_section address) = calm refl (unmap-calm address)
+lawful (read_virtual_memory address n) = calm refl (read-calm address n)
+lawful (write_virtual_memory address new) = calm refl (write-calm address new)
 lawful (create_process pid tid) = process-lawful pid tid
 lawful (create_thread target tid) = thread-lawful target tid
 lawful (terminate_thread target code) = calm refl (ends-calm (terminate_thread target code) (code_status code) (thread-ends-it target code))

@@ -1,13 +1,16 @@
 -- Each service owes what its calls' lines need.
+use Rattle.lpc_base.specs.declared.status.TheConstants.{NOT_MAPPED_VIEW}
+use Rattle.lpc_model.specs.Refusal.{found_or}
+use Rattle.lpc_model.specs.Memory.{nt_map_view_of_section, section_steps, unmap_steps}
 use Rattle.std.proofs.Common.{◌≡◌, ℕ, List, [], true, false, Option, Some, None}
 use Rattle.std.specs.Prelude.{Ok}
 use Rattle.lpc_base.specs.Rows.{every}
 use Rattle.lpc_model.specs.World.{Birth, Contents, ThreadRow, World}
-use Rattle.lpc_model.specs.Found.{free_handle, live_thread, wait_of}
+use Rattle.lpc_model.specs.Found.{free_handle, live_thread, wait_of, view_holding}
 use Rattle.lpc_model.specs.Basics.{Basic, world_after}
 use Rattle.lpc_model.specs.Connect.{ConnectAnswer, answer_test}
 use Rattle.lpc_model.specs.Tests.{own_handle, port_test}
-use Rattle.lpc_model.specs.Lines.{ScriptCall, accept_connect_port, close, complete_connect_port, connect_port, create_port, duplicate_object, listen_port, query_object, reply_port, reply_wait_receive_port, request_port, request_wait_reply_port, register_thread_terminate_port, create_process, create_thread, terminate_thread, terminate_process}
+use Rattle.lpc_model.specs.Lines.{ScriptCall, accept_connect_port, close, complete_connect_port, connect_port, create_port, duplicate_object, listen_port, query_object, reply_port, reply_wait_receive_port, request_port, request_wait_reply_port, register_thread_terminate_port, create_process, create_thread, terminate_thread, terminate_process, create_section, map_view_of_section, unmap_view_of_section, read_virtual_memory, write_virtual_memory}
 use Rattle.lpc_model.specs.Close.{close_steps}
 use Rattle.lpc_model.specs.Counts.{asked, duplicate_steps}
 use Rattle.lpc_model.specs.Death.{terminate_thread_steps, code_status, terminate_process_steps}
@@ -63,6 +66,12 @@ led_end v by target code = on_ok (thread_target v by target) (λ t. terminate_th
 abbrev led_ends : World → ThreadRow → ProcArg → ℕ → List Basic
 led_ends v by target code = on_ok (process_target v by target) (λ pid. terminate_process_steps v by (code_status code) pid v)
 
+abbrev led_map : World → ThreadRow → ℕ → ℕ → ℕ → ℕ → List Basic
+led_map v by handle offset size prot = on_ok (nt_map_view_of_section v by handle offset size prot) (λ bs. bs)
+
+abbrev led_unmap : World → ThreadRow → ℕ → List Basic
+led_unmap v by address = on_ok (found_or (view_holding v by.process address 1) NOT_MAPPED_VIEW) (unmap_steps by)
+
 -- what a member other than c does in a view, by what it was told; the queue of an outsider's connect is known from before
 abbrev pub leads_by : Group → (List ℕ → Birth) → World → ThreadRow → ScriptCall → Entry → List Basic
 leads_by m known v by (create_port name) e = led_create v by name
@@ -80,6 +89,11 @@ leads_by m known v by (query_object handle) e = []
 leads_by m known v by (register_thread_terminate_port handle) e = led_register v by handle
 leads_by m known v by (create_process pid tid) e = making_process v by pid tid
 leads_by m known v by (create_thread target tid) e = led_thread v by target tid
+leads_by m known v by (create_section size prot) e = section_steps by size prot (free_handle v by.process)
+leads_by m known v by (map_view_of_section handle offset size prot) e = led_map v by handle offset size prot
+leads_by m known v by (unmap_view_of_section address) e = led_unmap v by address
+leads_by m known v by (read_virtual_memory address n) e = []
+leads_by m known v by (write_virtual_memory address new) e = []
 leads_by m known v by (terminate_thread target code) e = led_end v by target code
 leads_by m known v by (terminate_process target code) e = led_ends v by target code
 

@@ -1,4 +1,5 @@
 -- NtTerminateThread and NtTerminateProcess in a view.
+use Rattle.lpc_isolation.proofs.Plays.Lines.{seeing}
 use Rattle.std.proofs.Common.{◌≡◌, ℕ, List, [], ◌∷◌, Bool, true, false, not, Some, refl, ap, sym, subst, ◌∙◌}
 use Rattle.std.specs.Prelude.{◌==◌, Result, Ok, Err}
 use Rattle.std.proofs.lemmas.Bool.{not-false}
@@ -11,7 +12,7 @@ use Rattle.lpc_model.specs.declared.entry.Entry.TheVariants.{Answer}
 use Rattle.lpc_model.specs.declared.line.ProcArg.{ProcArg}
 use Rattle.lpc_model.specs.Refusal.{refuse_if}
 use Rattle.lpc_model.specs.Then.{◌>>=◌}
-use Rattle.lpc_model.specs.World.{Birth, ThreadRow, World}
+use Rattle.lpc_model.specs.World.{Birth, ThreadRow, World, Contents}
 use Rattle.lpc_model.specs.Found.{is_live, live_thread, live_threads}
 use Rattle.lpc_model.specs.Basics.{Basic, Tells, world_after}
 use Rattle.lpc_model.specs.Death.{code_status, end_threads, nt_terminate_process, nt_terminate_thread, terminate_process_steps, terminate_thread_steps}
@@ -52,6 +53,8 @@ pub record EndsThreads (call : ScriptCall) (code : Status) : Type 0 where
   pub is : (w : World) (by : ThreadRow) → served w by call ≡ (aim w by >>= (λ a. Ok (answered_end by name a.own a.pid code a.threads w)))
   pub refuses : (w : World) (by : ThreadRow) → Refuses (aim w by)
   pub leads : (m : Group) (known : List ℕ → Birth) (v : World) (by : ThreadRow) (e : Entry) (a : Aim) → aim v by ≡ Ok a → leads_by m known v by call e ≡ answered_end by name a.own a.pid code a.threads v
+  -- it reads no bytes
+  pub blind : (k : Contents) (v : World) → seeing k v call ≡ v
   -- it aims alike in a view, and where rows have gone
   pub seen : (m : Group) (c : ℕ) (w : World) (by : ThreadRow) → m by.process ≡ true → Fair m c w → aim (view m w) by ≡ aim w by
   pub thinly : (k : Alive) (u : World) (by : ThreadRow) → Closed k u → aim (thin k u) by ≡ aim u by
@@ -99,14 +102,15 @@ module _ (call : ScriptCall) (code : Status) (e : EndsThreads call code) where
       by-own true = l
       by-own false = tells-led m c u d w (told_first by) (ends a w) (ends a (view m w)) l
 
-  pub own-ends : (m : Group) (c : ℕ) (u : World) (d : Whose) (w : World) (by : ThreadRow) (known : List ℕ → Birth) → At m c w by known → u.used_threads ≡ w.used_threads → by.process ≡ c → Answered (λ bs led. HasFineRows m c (world_after w bs) → Led m c u d w bs led) (served w by call) (served (view m w) by call)
-  own-ends m c u d w by known a0 used mine =
+  pub own-ends : (m : Group) (c : ℕ) (u : World) (d : Whose) (w : World) (by : ThreadRow) (known : List ℕ → Birth) (k : Contents) → At m c w by known → u.used_threads ≡ w.used_threads → by.process ≡ c → Answered (λ bs led. HasFineRows m c (world_after w bs) → Led m c u d w bs led) (served w by call) (served (seeing k (view m w) call) by call)
+  own-ends m c u d w by known bytes a0 used mine =
       let k = caller m c w by known u a0 used in
       let inside : m by.process ≡ true = ap m mine ∙ a0.c_in in
       let P : List Basic → List Basic → Type 0 = λ bs led. HasFineRows m c (world_after w bs) → Led m c u d w bs led in
-      subst (λ r. Answered P r (served (view m w) by call)) (sym (e.is w by))
+      subst (λ v. Answered P (served w by call) (served v by call)) (sym (e.blind bytes (view m w)))
+      (subst (λ r. Answered P r (served (view m w) by call)) (sym (e.is w by))
       (subst (λ r. Answered P (e.aim w by >>= (λ a. Ok (ends_told by a w))) r) (sym (e.is (view m w) by ∙ ap (λ r. r >>= (λ a. Ok (ends_told by a (view m w)))) (e.seen m c w by inside a0.fair)))
-      (answered-bind P (e.aim w by) (λ a. Ok (ends_told by a w)) (λ a. Ok (ends_told by a (view m w))) (λ a at fine. led-ends m c u d w by a k at inside)))
+      (answered-bind P (e.aim w by) (λ a. Ok (ends_told by a w)) (λ a. Ok (ends_told by a (view m w))) (λ a at fine. led-ends m c u d w by a k at inside))))
 
   pub leads-ends : (m : Group) (c : ℕ) (u : World) (d : Whose) (w : World) (by : ThreadRow) (known : List ℕ → Birth) → At m c w by known → u.used_threads ≡ w.used_threads → m by.process ≡ true → (by.process == c) ≡ false → Holds (λ bs. HasFineRows m c (world_after w bs) → Leading m c u d w by known call bs) (served w by call)
   leads-ends m c u d w by known a0 used by_in other =
@@ -147,6 +151,7 @@ thread-ends-it target code = record {
   is = λ w by. thread-is w by target code;
   refuses = λ w by. bind (thread_target w by target) _ (refuses-thread w by target) (λ t. bind (refuse_if (not t.live) INVALID_CID) _ (if_refuses (not t.live) INVALID_CID refl) (λ _. tt));
   leads = λ m known v by e a at. leads (thread_target v by target) v by a at;
+  blind = λ k v. refl;
   seen = λ m c w by inside f. ap (λ r. r >>= (λ (t : ThreadRow). refuse_if (not t.live) INVALID_CID >>= (λ _. Ok (record { own = t.number == by.number; pid = t.process; threads = t ∷ [] })))) (thread-view m c w by target inside f);
   thinly = λ k u by c. ap (λ r. r >>= (λ (t : ThreadRow). refuse_if (not t.live) INVALID_CID >>= (λ _. Ok (record { own = t.number == by.number; pid = t.process; threads = t ∷ [] })))) (thread-thin k u by target c);
   doomed = λ w by. bind_holds (thread_target w by target) _ (λ (a : Aim). AreDoomed w by a.own a.pid a.threads) (λ t at. bind_holds (refuse_if (not t.live) INVALID_CID) _ (λ (a : Aim). AreDoomed w by a.own a.pid a.threads) (λ v is. one target t at (live-of t v is)));
@@ -186,6 +191,7 @@ process-ends-it target code = record {
   is = λ w by. process-is w by target code;
   refuses = λ w by. bind (process_target w by target) _ (refuses-process w by target) (λ pid. bind (live_test w pid) _ (if_refuses (not (is_live w pid)) INVALID_CID refl) (λ _. tt));
   leads = λ m known v by e a at. leads (process_target v by target) v by a at;
+  blind = λ k v. refl;
   seen = λ m c w by inside f. ap (λ r. r >>= process_aims (view m w) by) (process-view m c w by target inside f)
       ∙ bind-same (process_target w by target) (process_aims (view m w) by) (process_aims w by) (λ pid at. process-seen m w by pid (holds_ok (λ pid. m pid ≡ m by.process) (process_target w by target) pid (process-whose m c w by target f) at ∙ inside));
   thinly = λ k u by c. ap (λ r. r >>= process_aims (thin k u) by) (process-thin k u by target c) ∙ bind-same (process_target u by target) (process_aims (thin k u) by) (process_aims u by) (λ pid at. process-thinly k u by pid c);

@@ -4,8 +4,8 @@ use Rattle.lpc_model.specs.World.{Birth, World, no_rows}
 use Rattle.lpc_model.specs.Lines.{ScriptLine}
 use Rattle.lpc_isolation.proofs.Gone.Served.{served_step, served_steps}
 use Rattle.lpc_model.specs.Run.{said_in}
-use Rattle.lpc_model.specs.Circle.{Event, Group, Ran, inputs, is_fine_line, is_seen, items, line_whose, told_event, members}
-use Rattle.lpc_isolation.proofs.Views.Alone.{HasFineRows, Secluded, WritesOuter, alone}
+use Rattle.lpc_model.specs.Circle.{Event, Group, HasInnerViews, Ran, inputs, is_fine_line, is_seen, items, line_whose, told_event, members}
+use Rattle.lpc_isolation.proofs.Views.Alone.{HasFineRows, WritesOuter, alone}
 
 -- what happens at a line, before rows go
 abbrev pub bare_line_events : World → ScriptLine → List Event
@@ -25,10 +25,10 @@ IsApartAt group outer w line = is_seen group (line_whose w line) ≡ false → W
 
 -- the group is a circle of c in such a run, with these sections as the outer ones
 abbrev pub IsBareCircle : Group → ℕ → (Birth → Bool) → World → List (Option ScriptLine) → Type 0
-IsBareCircle group c outer w [] = HasFineRows group c w × Secluded group c outer w
+IsBareCircle group c outer w [] = HasFineRows group c w × HasInnerViews c outer w
 IsBareCircle group c outer w (None ∷ later) = IsBareCircle group c outer w later
 IsBareCircle group c outer w (Some line ∷ later) =
-    HasFineRows group c w × Secluded group c outer w × (is_fine_line group c w line ≡ true) × IsApartAt group outer w line
+    HasFineRows group c w × HasInnerViews c outer w × (is_fine_line group c w line ≡ true) × IsApartAt group outer w line
     × IsBareCircle group c outer (served_step w line).world later
 
 -- The law

@@ -1,4 +1,5 @@
 -- Births of processes and threads in the run whose rows never go: what is made next has a birth that no row has.
+use Rattle.lpc_model.specs.Memory.{new_section, section_steps, map_steps, mapped_view, unmap_steps, write_steps}
 use Rattle.lpc_model.specs.declared.message.Message.{Message}
 use Rattle.lpc_message.specs.declared.kind.TheConstants.{DATAGRAM, REQUEST}
 use Rattle.lpc_model.specs.Counts.{asked, duplicate_steps}
@@ -29,9 +30,9 @@ use Rattle.lpc_model.specs.declared.entry.ObjectKind.TheVariants as kind
 use Rattle.lpc_model.specs.declared.entry.Word.TheVariants as word
 use Rattle.lpc_model.specs.Grammar.{has_call_ids, has_ids}
 use Rattle.lpc_model.specs.Words.{is_id}
-use Rattle.lpc_model.specs.World.{Birth, ContentRow, Contents, Known, ProcessRow, ThreadRow, Unknown, UsedThread, WaitRow, World, no_rows, MessageRow, PortRow}
+use Rattle.lpc_model.specs.World.{Birth, ContentRow, Contents, Known, ProcessRow, ThreadRow, Unknown, UsedThread, WaitRow, World, no_rows, MessageRow, PortRow, SectionRow}
 use Rattle.lpc_model.specs.Found.{is_content, is_live, is_live_thread, is_section, is_thread, live_thread, same_birth, wait_of, was_process, was_thread, free_handle}
-use Rattle.lpc_model.specs.Basics.{AddsProcess, AddsSection, AddsThread, Basic, Binds, Dies, DrawsIdentifier, DrawsOrdinal, Frees, Registers, Unregisters, Writes, basic, ended, freed, in_known, past_identifier, past_ordinal, registering, unregistering, world_after, written}
+use Rattle.lpc_model.specs.Basics.{AddsProcess, AddsSection, AddsThread, Basic, Binds, Dies, DrawsIdentifier, DrawsOrdinal, Frees, Registers, Unregisters, Writes, basic, ended, freed, in_known, past_identifier, past_ordinal, registering, unregistering, world_after, written, zeros}
 use Rattle.lpc_model.specs.Named.{free_name, spelled_name}
 use Rattle.lpc_model.specs.Lines.{ScriptCall, ScriptLine, boot, dir, link, run, thread}
 use Rattle.lpc_model.specs.Machine.{bare_steps, boot_line, dir_line, directive_birth, link_line, name_of_call, new_process, new_thread, thread_line, thread_test, unused_test}
@@ -88,6 +89,10 @@ drawn-without u b (Known rows) all = every-without (λ c. is_drawn u c.section) 
 drawn-written : (u : World) (b : Birth) (place : ℕ) (new : List ℕ) (k : Contents) → Drawn u k → Drawn u (in_known (change (is_content b) (written place new)) k)
 drawn-written u b place new Unknown all = refl
 drawn-written u b place new (Known rows) all = every-change (λ c. is_drawn u c.section) (is_content b) (written place new) (λ c is. is) rows all
+
+drawn-added : (u : World) (s : SectionRow) (k : Contents) → is_drawn u s.birth ≡ true → Drawn u k → Drawn u (in_known (λ rows. rows ++ zeros s ∷ []) k)
+drawn-added u s Unknown new all = refl
+drawn-added u s (Known rows) new all = every-push (λ c. is_drawn u c.section) rows (zeros s) all new
 
 -- Steps
 changed-born : (u : World) (who : ℕ) (f : ThreadRow → ThreadRow) → ((x : ThreadRow) → (f x).birth ≡ x.birth) → ((x : ThreadRow) → (f x).number ≡ x.number) → ((b : Birth) (x : ThreadRow) → is_before b x ≡ true → is_before b (f x) ≡ true) → Born u → Born (record u { threads = change (is_thread who) f u.threads })
@@ -353,6 +358,24 @@ module _ (u : World) (by : ThreadRow) (live : live_thread u by.number ≡ Some b
       let three = thread-born v (new_thread tid pid (next_birth by)) (made-by v (next_birth by) tid used) next_past unused (is-id tid id) two in
       record { processes = three.processes; threads = three.threads; past = three.past; numbers = three.numbers; uses = three.uses; zero = three.zero; once = three.once; sections = three.sections; contents = three.contents }
 
+  sectioned : (size prot : ℕ) → Born (world_after u (section_steps by size prot (free_handle u by.process)))
+  sectioned size prot =
+      let v : World = basic u (DrawsOrdinal by.number) in
+      let two : Born v = none-born u (DrawsOrdinal by.number) refl o in
+      let next_past : every (is_before (next_birth by)) v.threads ≡ true = drawn-past u by past_ordinal (next_birth by) live refl (λ t. refl) (less-next by.next_ordinal) o in
+      let new : is_drawn v (next_birth by) ≡ true = and_from _ _ used next_past in
+      record {
+        processes = two.processes;
+        threads = two.threads;
+        past = two.past;
+        numbers = two.numbers;
+        uses = two.uses;
+        zero = two.zero;
+        once = two.once;
+        sections = every-push (λ s. is_drawn v s.birth) u.sections (new_section by size prot) two.sections new;
+        contents = drawn-added v (new_section by size prot) u.contents new two.contents;
+      }
+
   nones : (bs : List Basic) → every makes_none bs ≡ true → Born (world_after u bs)
   nones bs all = nones-born u bs all o
 
@@ -384,6 +407,11 @@ module _ (u : World) (by : ThreadRow) (live : live_thread u by.number ≡ Some b
     queries = λ handle r at _. o;
     spawns = λ pid tid new unused ids. spawned pid tid ids unused;
     starts = λ target tid pid at lives unused id. started tid pid id unused;
+    makes_section = λ size prot asked _. sectioned size prot;
+    maps_view = λ handle offset size prot s rounded base is _. nones (map_steps by (mapped_view s offset rounded prot base)) refl;
+    unmaps_view = λ address v at _. nones (unmap_steps by v) refl;
+    reads_memory = λ address n v at _. o;
+    writes_memory = λ address new v at may _. nones (write_steps by address new v) refl;
     ends = λ call name own pid code ts doomed _. let bs = answered_end by name own pid code ts u in nones bs (every-more is_ending makes_none ending-none bs (steps-end u by name own pid code ts));
   }
     where

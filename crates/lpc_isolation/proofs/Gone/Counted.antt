@@ -6,21 +6,21 @@ use Rattle.std.proofs.lemmas.List.Elements.{filter-append}
 use Rattle.std.proofs.Math.Bool.{or-true}
 use Rattle.lpc_base.specs.Rows.{count, each, every, has, which, first, when}
 use Rattle.lpc_base.proofs.RowMaps.{every-both, every-first}
-use Rattle.lpc_base.proofs.RowWords.{every-true, first-passes}
+use Rattle.lpc_base.proofs.RowWords.{count-append, count-none, every-true, first-passes}
 use Rattle.lpc_base.proofs.Bools.{first-true, or-last, or-second, same-number, second-true}
 use Rattle.lpc_base.proofs.Births.{birth-same}
 use Rattle.lpc_base.specs.declared.port_kind.PortKind.TheVariants.{Client, Connection, Server, Unnamed}
 use Rattle.lpc_model.specs.declared.entry.ObjectKind.{ObjectKind}
 use Rattle.lpc_model.specs.declared.entry.ObjectKind.TheVariants as kind
-use Rattle.lpc_model.specs.World.{Birth, HandleRow, HandleTable, MessageRow, ObjectName, PortKind, PortRow, ProcessRow, ViewRow, WaitRow, World, ThreadRow}
-use Rattle.lpc_model.specs.Found.{handle_count, is_client_port, is_connected_to, is_cut, is_life, lives_by, is_made_on, is_paired_to, is_port, is_request, is_sent_on, is_server_port, is_the, port_name, same_birth, same_kind, same_object, shows_section, all_registrations, registered_by}
+use Rattle.lpc_model.specs.World.{Birth, HandleRow, HandleTable, MessageRow, ObjectName, PortKind, PortRow, ProcessRow, ViewRow, ViewTable, WaitRow, World, ThreadRow}
+use Rattle.lpc_model.specs.Found.{all_views, handle_count, is_client_port, is_connected_to, is_cut, is_life, lives_by, is_made_on, is_paired_to, is_port, is_request, is_sent_on, is_server_port, is_the, port_name, same_birth, same_kind, same_object, shows_section, all_registrations, registered_by}
 use Rattle.lpc_model.specs.Standing.{is_near}
 use Rattle.lpc_model.specs.Circle.{Group, is_fine_client, is_fine_port}
 use Rattle.lpc_isolation.proofs.Views.Alone.{HasFineRows}
 use Rattle.lpc_isolation.proofs.Gone.Served.{is_made_to, is_sent_to, is_standing, standing_as, standing_count, standing_holders}
-use Rattle.lpc_isolation.proofs.Views.View.{of_birth, hidden_section, our_message, our_port, our_view, our_wait, seen_pair, seen_port, seen_view, view, our_process, our_thread}
-use Rattle.lpc_isolation.proofs.Views.Filters.{count-inside, first-inside, has-inside, which-where}
-use Rattle.lpc_isolation.proofs.Rows.Fair.{Fair, all_of, is_fair_message, is_fair_pair, is_fair_port, is_fair_view, is_fair_wait, is_fair_life, is_fair_process, is_home, is_fair_thread, together}
+use Rattle.lpc_isolation.proofs.Views.View.{of_birth, hidden_section, our_message, our_port, our_space, our_wait, seen_pair, seen_port, seen_space, seen_view, view, our_process, our_thread}
+use Rattle.lpc_isolation.proofs.Views.Filters.{count-inside, first-inside, has-inside, shown, which-where}
+use Rattle.lpc_isolation.proofs.Rows.Fair.{Fair, all_of, is_fair_message, is_fair_pair, is_fair_port, is_fair_space, is_fair_view, is_fair_wait, is_fair_life, is_fair_process, is_home, is_fair_thread, together}
 use Rattle.lpc_isolation.proofs.Views.Callers.{c-wait}
 use Rattle.lpc_isolation.proofs.Views.Mine.{the-seen}
 use Rattle.lpc_isolation.proofs.Gone.Thin.{Alive, Closed, handle_closed, message_closed, port_alive, port_cut, table_closed, thin, wait_closed, alive_as, lasts, object_alive, port-live, process_alive, registered-thin, thread_alive, thread_closed}
@@ -31,6 +31,13 @@ use Rattle.lpc_isolation.proofs.Each.Closes.{handle_count-view}
 count-shown : {X : Type 0} (p k test other : X → Bool) (e : X → X) → ((x : X) → p x ≡ true → k x ≡ true → other (e x) ≡ test x) → ((x : X) → p x ≡ true → test x ≡ true → k x ≡ true) → (xs : List X) → every p xs ≡ true → count other (map e (which k xs)) ≡ count test xs
 count-shown p k test other e same inside [] all = refl
 count-shown p k test other e same inside (x ∷ xs) all = grind (arith, same x, inside x, count-shown p k test other e same inside xs)
+
+none-of : {X : Type 0} (p t : X → Bool) → ((x : X) → p x ≡ true → t x ≡ false) → (xs : List X) → every p xs ≡ true → has t xs ≡ false
+none-of p t off [] all = refl
+none-of p t off (x ∷ xs) all = grind (arith, off x, none-of p t off xs)
+
+none-before : {X : Type 0} (p : X → Bool) (xs ys : List X) → count p xs ≡ 0 → count p (xs ++ ys) ≡ count p ys
+none-before p xs ys none = let both = count-append p xs ys in omega (arith, both, none)
 
 -- In a view
 -- a port that is connected to c's, and a member's pair
@@ -253,14 +260,42 @@ shows-seen m b v inside = at (m v.section.process) refl
     at true is = refl
     at false out = other (hidden_section v.section) out ∙ sym (other v.section out)
 
-shows_view : (m : Group) (c : ℕ) (w : World) (b : Birth) → m b.process ≡ true → b.process ≡ c → Fair m c w → count (shows_section b) (view m w).views ≡ count (shows_section b) w.views
-shows_view m c w b inside mine f =
-    count-shown (is_fair_view m c) (our_view m) (shows_section b) (shows_section b) (seen_view m) (λ v fair ours. shows-seen m b v inside) (λ v fair is. member v fair is) w.views f.views
+shows-rows : (m : Group) (b : Birth) → m b.process ≡ true → (vs : List ViewRow) → count (shows_section b) (map (seen_view m) vs) ≡ count (shows_section b) vs
+shows-rows m b inside [] = refl
+shows-rows m b inside (v ∷ vs) = grind (arith, shows-seen m b v, shows-rows m b inside vs)
+
+-- none of an outsider's is
+none-shows : (m : Group) (c : ℕ) (b : Birth) (pid : ℕ) (v : ViewRow) → m pid ≡ false → b.process ≡ c → is_fair_view m c pid v ≡ true → shows_section b v ≡ false
+none-shows m c b pid v out mine fair = false_from_ne_true (shows_section b v) (λ is.
+    let own : (v.section.process == c) ≡ true = ap (λ (b : Birth). b.process == c) (birth-same v.section b is) ∙ ap (λ n. n == c) mine ∙ same-number c in
+    let inside : m pid ≡ true = member (v.section.process == c) own (first-true _ _ (second-true (not (pid == c) || m v.section.process) _ fair)) in cc)
   where
-    member : (v : ViewRow) → is_fair_view m c v ≡ true → shows_section b v ≡ true → m v.process ≡ true
-    member v fair is =
-        let own : (v.section.process == c) ≡ true = ap (λ (b : Birth). b.process == c) (birth-same v.section b is) ∙ ap (λ n. n == c) mine ∙ same-number c in
-        grind arith
+    member : (e : Bool) → e ≡ true → (not e || m pid) ≡ true → m pid ≡ true
+    member e is fair = grind arith
+
+shows-tables : (m : Group) (c : ℕ) (b : Birth) → m b.process ≡ true → b.process ≡ c → (ts : List ViewTable) → every (is_fair_space m c) ts ≡ true → count (shows_section b) (each (λ (t : ViewTable). t.rows) (shown (our_space m) (seen_space m) ts)) ≡ count (shows_section b) (each (λ (t : ViewTable). t.rows) ts)
+shows-tables m c b inside mine [] all = refl
+shows-tables m c b inside mine (t ∷ ts) all = at (m t.process) refl (shows-tables m c b inside mine ts (second-true (is_fair_space m c t) _ all))
+  where
+    rest : List ViewRow
+    rest = each (λ (t : ViewTable). t.rows) ts
+
+    kept : List ViewRow
+    kept = each (λ (t : ViewTable). t.rows) (shown (our_space m) (seen_space m) ts)
+
+    at : (e : Bool) → m t.process ≡ e → count (shows_section b) kept ≡ count (shows_section b) rest
+        → count (shows_section b) (each (λ (t : ViewTable). t.rows) (map (seen_space m) (cond e (t ∷ which (our_space m) ts) (which (our_space m) ts)))) ≡ count (shows_section b) (t.rows ++ rest)
+    at true is same =
+        count-append (shows_section b) (map (seen_view m) t.rows) kept
+        ∙ ap (λ n. n + count (shows_section b) kept) (shows-rows m b inside t.rows)
+        ∙ ap (λ n. count (shows_section b) t.rows + n) same
+        ∙ sym (count-append (shows_section b) t.rows rest)
+    at false out same =
+        let none : count (shows_section b) t.rows ≡ 0 = count-none (shows_section b) t.rows (none-of (is_fair_view m c t.process) (shows_section b) (λ v fair. none-shows m c b t.process v out mine fair) t.rows (first-true _ _ all)) in
+        same ∙ sym (none-before (shows_section b) t.rows rest none)
+
+shows_view : (m : Group) (c : ℕ) (w : World) (b : Birth) → m b.process ≡ true → b.process ≡ c → Fair m c w → count (shows_section b) (all_views (view m w)) ≡ count (shows_section b) (all_views w)
+shows_view m c w b inside mine f = shows-tables m c b inside mine w.views f.views
 
 as-view : (m : Group) (c : ℕ) (w : World) (k : ObjectKind) (b : Birth) → m c ≡ true → b.process ≡ c → Fair m c w → HasFineRows m c w → standing_as (view m w) k b ≡ standing_as w k b
 as-view m c w kind.Port b c_in mine f fine = ports-view m c w b c_in mine f fine
@@ -290,10 +325,6 @@ handles-live k b (t ∷ ts) all dead =
     filter-append (λ h. same_object h.object (port_name b)) t.rows (each (λ t. t.rows) ts)
     ∙ ap (λ hs. hs ++ which (λ h. same_object h.object (port_name b)) (each (λ t. t.rows) ts)) (handle-live k b t.rows (first-true _ _ all) dead)
     ∙ handles-live k b ts (second-true _ _ all) dead
-
-none-of : {X : Type 0} (p t : X → Bool) → ((x : X) → p x ≡ true → t x ≡ false) → (xs : List X) → every p xs ≡ true → has t xs ≡ false
-none-of p t off [] all = refl
-none-of p t off (x ∷ xs) all = grind (arith, off x, none-of p t off xs)
 
 standing-live : (k : Alive) (u : World) (b : Birth) (p : PortRow) → Closed k u → port_cut k p ≡ true → is_standing u b p ≡ true → k.ports p.birth ≡ true
 standing-live k u b p c cut is = at (k.ports p.birth) refl

@@ -22,7 +22,7 @@ use Rattle.lpc_model.proofs.Calls.Creating.{tested-further}
 use Rattle.lpc_model.proofs.Calls.Holding.{bind_holds, directed_holds, holds_ok}
 use Rattle.lpc_isolation.proofs.Gone.Served.{served_steps}
 use Rattle.lpc_isolation.proofs.Gone.Fresh.{next-new}
-use Rattle.lpc_isolation.proofs.Gone.Thin.{Alive, Closed, alive_as, all_alive, handle_closed, message_closed, content_alive, port_alive, port_closed, port_cut, process_alive, process_closed, section_alive, table_closed, thin, thread_alive, thread_closed, view_closed, wait_closed}
+use Rattle.lpc_isolation.proofs.Gone.Thin.{Alive, Closed, alive_as, all_alive, handle_closed, message_closed, content_alive, port_alive, port_closed, port_cut, process_alive, process_closed, section_alive, table_closed, thin, thread_alive, thread_closed, space_closed, view_closed, wait_closed}
 use Rattle.lpc_isolation.proofs.Gone.ThinCalls.{AreClosed}
 use Rattle.lpc_isolation.proofs.Calls.Laws.{Room, home-live, is_home}
 use Rattle.lpc_isolation.proofs.Gone.Born.{Born, content_rows, directed-processes, directed-threads, next-contents, next-process, next-sections, next-threads}
@@ -91,7 +91,7 @@ either-closed n k u new c = record {
   cuts = every-more (port_cut k) (port_cut (either n k)) (λ p is. grind arith) u.ports c.cuts;
   threads = every-more (thread_closed k) (thread_closed (either n k)) (thread-more n k) u.threads c.threads;
   processes = every-both (process_closed k) (λ p. not (n.processes p.birth) && not (n.homes p.number)) (process_closed (either n k)) (process-more n k) u.processes c.processes new.processes;
-  views = every-more (view_closed k) (view_closed (either n k)) (λ v is. or_left (k.sections v.section) (n.sections v.section) is) u.views c.views;
+  views = every-more (space_closed k) (space_closed (either n k)) (λ t is. every-more (view_closed k) (view_closed (either n k)) (λ v live. or_left (k.sections v.section) (n.sections v.section) live) t.rows is) u.views c.views;
 }
 
 which-either : {X : Type 0} (k n : X → Bool) (xs : List X) → every (λ x. not (n x)) xs ≡ true → which (λ x. k x || n x) xs ≡ which k xs

@@ -1,27 +1,30 @@
 -- Behind the sweep what counts for a port is what the machine whose rows never go counts.
-use Rattle.std.proofs.Common.{◌≡◌, List, [], ◌∷◌, Bool, true, false, not, Option, Some, None, refl, ap, sym, subst, ◌∙◌, arith}
+use Rattle.std.specs.List.{sum}
+use Rattle.lpc_model.specs.Memory.{is_section_of, section_load}
+use Rattle.std.proofs.Common.{◌≡◌, List, [], ◌∷◌, Bool, true, false, not, Option, Some, None, refl, ap, sym, subst, ◌∙◌, arith, ℕ}
 use Rattle.std.proofs.lemmas.Bool.{and_from, not-true, or_left}
-use Rattle.std.specs.Prelude.{◌&&◌, ◌||◌, ◌==◌, ◌+◌, length}
+use Rattle.std.specs.Prelude.{◌&&◌, ◌||◌, ◌==◌, ◌+◌, length, map}
 use Rattle.lpc_base.specs.Rows.{count, every, first, has, which}
-use Rattle.lpc_base.proofs.RowWords.{first-passes}
+use Rattle.lpc_base.proofs.RowWords.{first-passes, every-more}
 use Rattle.lpc_base.proofs.RowMaps.{every-first}
 use Rattle.lpc_base.proofs.Births.{birth-same}
 use Rattle.lpc_model.specs.declared.entry.ObjectKind.{ObjectKind}
 use Rattle.lpc_model.specs.declared.entry.ObjectKind.TheVariants as kind
-use Rattle.lpc_model.specs.World.{Birth, MessageRow, ObjectName, PortRow, WaitRow, World}
+use Rattle.lpc_model.specs.World.{Birth, MessageRow, ObjectName, PortRow, WaitRow, World, SectionRow}
 use Rattle.lpc_model.specs.Found.{handle_count, is_client_port, is_connected_to, is_cut, is_made_on, is_paired_to, is_port, is_sent_on, is_the, pair_of, pointer_count, port_name, port_row, same_birth, all_registrations}
 use Rattle.lpc_model.specs.Sweep.{is_unheld}
-use Rattle.lpc_model.specs.Linked.{HasHeldPorts, IsLinked, is_mutual, names_nothing}
+use Rattle.lpc_model.specs.Linked.{HasHeldPorts, IsLinked, is_mutual, names_nothing, HasHeldSections}
 use Rattle.lpc_model.specs.Standing.{NamesWhatStands, has_near_queue, is_near}
 use Rattle.lpc_model.proofs.Steps.Rows.{has-found}
 use Rattle.lpc_model.proofs.Held.Ports.{connected-end, found-self, is_held_aside, is_held_by, unheld-parts}
-use Rattle.lpc_isolation.proofs.Gone.Served.{is_aside, is_made_to, is_sent_to, standing_count}
+use Rattle.lpc_isolation.proofs.Gone.Served.{is_aside, is_made_to, is_sent_to, standing_count, is_standing_section, standing_load}
 use Rattle.lpc_isolation.proofs.Rows.Sent.{Sent, is_sent_home, leads_home}
 
 -- what is known of each world between two lines
 pub record Held (w : World) : Type 0 where
   pub linked : IsLinked w
   pub ports : HasHeldPorts w
+  pub sections : HasHeldSections w
   pub names : NamesWhatStands w
   pub sent : Sent w
 
@@ -153,3 +156,11 @@ held-counts w o h = at o.kind o.birth
     at : (k : ObjectKind) (b : Birth) → standing_count w (record { kind = k; birth = b }) ≡ pointer_count w (record { kind = k; birth = b })
     at kind.Port b = ap (λ n. handle_count w (port_name b) + (count (is_paired_to b) w.ports + (n + (count (is_sent_on b) w.messages + (count (is_made_on b) w.waits + count (same_birth b) (all_registrations w)))))) (ap length (which-same (is_connected_to b) (λ p. is_aside w b p || not (is_cut p)) w.ports (all-stand w b h)))
     at e b = refl
+
+-- each section stands
+pub held-load : (w : World) (pid : ℕ) → Held w → section_load w pid ≡ standing_load w pid
+held-load w pid h = ap (λ ss. sum (map (λ (s : SectionRow). s.size) ss)) (sym (which-same (is_section_of pid) (is_standing_section w) w.sections
+    (every-more (is_standing_section w) (λ s. not (is_section_of pid s) || is_standing_section w s) (λ s is. last (is_section_of pid s) (is_standing_section w s) is) w.sections h.sections)))
+  where
+    last : (a b : Bool) → b ≡ true → (not a || b) ≡ true
+    last a b is = grind arith

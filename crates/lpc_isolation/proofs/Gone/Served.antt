@@ -1,21 +1,26 @@
 -- The machine whose rows never go: it counts for an object what counts for it once rows that nothing names have gone.
-use Rattle.std.specs.Prelude.{ℕ, ◌+◌, ◌==◌, ◌&&◌, ◌||◌, Bool, not, List, [], ◌∷◌, Option, None, Some, Result, Ok}
-use Rattle.lpc_base.specs.Rows.{count, has}
+use Rattle.std.specs.List.{sum}
+use Rattle.lpc_base.specs.declared.limits.TheConstants.{SECTION_LIMIT}
+use Rattle.lpc_base.specs.Views.{whole_pages}
+use Rattle.lpc_model.specs.Refusal.{refuse_if}
+use Rattle.lpc_model.specs.Memory.{is_section_of, protection_test, section_steps}
+use Rattle.std.specs.Prelude.{ℕ, ◌+◌, ◌==◌, ◌&&◌, ◌||◌, Bool, not, List, [], ◌∷◌, Option, None, Some, Result, Ok, map, nat_lt}
+use Rattle.lpc_base.specs.Rows.{count, has, which}
 use Rattle.lpc_base.specs.declared.status.Status.{Status}
-use Rattle.lpc_base.specs.declared.status.TheConstants.{SUCCESS}
+use Rattle.lpc_base.specs.declared.status.TheConstants.{SUCCESS, INVALID_PARAMETER_4, QUOTA_EXCEEDED, SECTION_TOO_BIG}
 use Rattle.lpc_model.specs.declared.entry.CallName.TheVariants.{NtQueryObject}
 use Rattle.lpc_model.specs.declared.entry.Entry.TheVariants.{Answer, Busy, NoThread}
 use Rattle.lpc_model.specs.declared.entry.Field.{Field}
 use Rattle.lpc_model.specs.declared.entry.ObjectKind.{ObjectKind}
 use Rattle.lpc_model.specs.declared.entry.ObjectKind.TheVariants as kind
 use Rattle.lpc_model.specs.Then.{◌>>=◌}
-use Rattle.lpc_model.specs.World.{Birth, HandleRow, MessageRow, ObjectName, PortRow, ThreadRow, WaitRow, World}
-use Rattle.lpc_model.specs.Found.{handle_count, is_client_port, is_connected_to, is_cut, is_made_on, is_paired_to, holders, is_queued, is_sent_on, live_thread, port_name, wait_of, same_birth, all_registrations}
+use Rattle.lpc_model.specs.World.{Birth, HandleRow, MessageRow, ObjectName, PortRow, ThreadRow, WaitRow, World, SectionRow}
+use Rattle.lpc_model.specs.Found.{handle_count, is_client_port, is_connected_to, is_cut, is_made_on, is_paired_to, holders, is_queued, is_sent_on, live_thread, port_name, wait_of, same_birth, all_registrations, section_name, free_handle}
 use Rattle.lpc_model.specs.Basics.{Basic, Steps, Tells}
 use Rattle.lpc_model.specs.Fields.{object_fields}
 use Rattle.lpc_model.specs.Standing.{is_near}
-use Rattle.lpc_model.specs.Tests.{own_handle}
-use Rattle.lpc_model.specs.Lines.{ScriptCall, ScriptLine, boot, dir, link, query_object, run, thread}
+use Rattle.lpc_model.specs.Tests.{own_handle, handles_test}
+use Rattle.lpc_model.specs.Lines.{ScriptCall, ScriptLine, boot, dir, link, query_object, run, thread, create_section}
 use Rattle.lpc_model.specs.Machine.{Stepped, bare_steps, landed, name_of_call, service_of, settled}
 
 -- What counts for an object
@@ -62,10 +67,31 @@ query_steps v by r = Tells (Answer by.number NtQueryObject SUCCESS (standing_cou
 abbrev pub standing_query : World → ThreadRow → ℕ → Result (List Basic) Status
 standing_query v by value = own_handle v by value >>= (λ r. Ok (query_steps v by r))
 
+-- NtCreateSection
+-- a section that something counts for: of those that a process made, these are loaded
+abbrev pub is_standing_section : World → SectionRow → Bool
+is_standing_section v s = not (standing_count v (section_name s.birth) == 0)
+
+abbrev pub standing_load : World → ℕ → ℕ
+standing_load v pid = sum (map (λ s. s.size) (which (λ s. is_section_of pid s && is_standing_section v s) v.sections))
+
+abbrev pub standing_load_test : World → ℕ → ℕ → Result Unit Status
+standing_load_test v pid size = refuse_if (nat_lt SECTION_LIMIT (standing_load v pid + size)) QUOTA_EXCEEDED
+
+abbrev pub standing_create : World → ThreadRow → ℕ → ℕ → Result (List Basic) Status
+standing_create v by size prot = do
+  _ ← protection_test prot
+  _ ← refuse_if (size == 0) INVALID_PARAMETER_4
+  _ ← refuse_if (nat_lt SECTION_LIMIT size) SECTION_TOO_BIG
+  _ ← standing_load_test v by.process (whole_pages size)
+  _ ← handles_test v by.process 1
+  Ok (section_steps by size prot (free_handle v by.process))
+
 -- Calls and lines
 -- every other call is served as it is
 abbrev pub served : World → ThreadRow → ScriptCall → Result (List Basic) Status
 served w by (query_object handle) = standing_query w by handle
+served w by (create_section size prot) = standing_create w by size prot
 served w by call = service_of w by call
 
 abbrev pub served_ready : ThreadRow → ScriptCall → Option WaitRow → Steps

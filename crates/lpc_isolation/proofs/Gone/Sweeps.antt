@@ -1,29 +1,29 @@
 -- No run tells when rows go: the machine that sweeps at the end of each line tells what one does whose rows never go.
+use Rattle.lpc_model.specs.Memory.{nt_create_section}
+use Rattle.lpc_isolation.proofs.Gone.ServedLines.{served-firm}
 use Rattle.lpc_isolation.proofs.Gone.Born.{Born, line-born}
 use Rattle.lpc_isolation.proofs.Gone.Grown.{Grows, IsNew, boot-grows, either, either-closed, grown, next-births, next_births, room-of, thread-grows}
 use Rattle.lpc_isolation.proofs.Calls.Laws.{Room}
 use Rattle.lpc_model.specs.Grammar.{has_ids}
 use Rattle.lpc_isolation.proofs.Calls.Services.{lawful}
 use Rattle.std.proofs.Common.{◌≡◌, ℕ, List, [], ◌∷◌, ◌++◌, true, Option, Some, None, refl, ap, sym, subst, ◌∙◌}
-use Rattle.std.specs.Prelude.{Result, Ok, Err}
+use Rattle.std.specs.Prelude.{Ok}
 use Rattle.lpc_base.proofs.RowMaps.{every-both}
 use Rattle.lpc_model.specs.declared.entry.Entry.{Entry}
 use Rattle.lpc_model.specs.declared.entry.Word.TheVariants as word
-use Rattle.lpc_model.specs.World.{HandleRow, ThreadRow, WaitRow, World}
+use Rattle.lpc_model.specs.World.{ThreadRow, WaitRow, World}
 use Rattle.lpc_model.specs.Found.{handle_count, live_thread, wait_of}
 use Rattle.lpc_model.specs.Basics.{Basic, Tells, entries_of, world_after}
 use Rattle.lpc_model.specs.Tests.{own_handle}
 use Rattle.lpc_model.specs.Named.{free_name, spelled_name}
-use Rattle.lpc_model.specs.Lines.{ScriptCall, ScriptLine, boot, dir, link, query_object, run, thread}
-use Rattle.lpc_model.specs.Machine.{bare_step, bare_steps, boot_line, dir_line, link_line, name_of_call, ready_steps, service_of, settled, step, thread_line, thread_steps, thread_test, unused_test}
-use Rattle.lpc_isolation.proofs.Gone.Served.{query_steps, served, served_ready, served_step, served_steps, served_thread}
+use Rattle.lpc_model.specs.Lines.{ScriptCall, ScriptLine, boot, dir, link, query_object, run, thread, create_section}
+use Rattle.lpc_model.specs.Machine.{bare_steps, boot_line, dir_line, link_line, name_of_call, ready_steps, service_of, settled, step, thread_line, thread_steps, thread_test, unused_test}
+use Rattle.lpc_isolation.proofs.Gone.Served.{served, served_ready, served_step, served_steps, served_thread}
 use Rattle.lpc_model.specs.Sweep.{sweep}
 use Rattle.lpc_model.specs.SoundWaits.{IsSoundWorld}
-use Rattle.lpc_model.specs.Linked.{HasHeldPorts}
-use Rattle.lpc_model.specs.Counts.{counts_of, nt_query_object}
+use Rattle.lpc_model.specs.Linked.{HasHeldPorts, HasHeldSections}
+use Rattle.lpc_model.specs.Counts.{nt_query_object}
 use Rattle.lpc_model.specs.Fields.{object_fields}
-use Rattle.lpc_model.specs.Then.{◌>>=◌}
-use Rattle.lpc_base.specs.declared.status.Status.{Status}
 use Rattle.lpc_base.specs.declared.status.TheConstants.{SUCCESS}
 use Rattle.lpc_model.specs.declared.entry.CallName.TheVariants.{NtQueryObject}
 use Rattle.lpc_model.specs.declared.entry.Entry.TheVariants.{Answer}
@@ -31,7 +31,7 @@ use Rattle.lpc_model.proofs.Linked.Lines.{held_step}
 use Rattle.lpc_model.proofs.Calls.Usable.{live-number}
 use Rattle.lpc_isolation.proofs.Views.Seen.{bind-same}
 use Rattle.lpc_isolation.proofs.Rows.Sent.{Sent, are_sent, is_sent_home, run-sent}
-use Rattle.lpc_isolation.proofs.Gone.Held.{Held, held-counts}
+use Rattle.lpc_isolation.proofs.Gone.Held.{Held, held-counts, held-load}
 use Rattle.lpc_model.proofs.Calls.Holding.{bind_holds, directed_holds, settled_holds}
 use Rattle.lpc_model.proofs.Held.FreedPort.{sweep-tells}
 use Rattle.lpc_model.proofs.Steps.InTurn.{after-append, entries-append}
@@ -88,8 +88,13 @@ unfolding nt_query_object
 query-held w by handle h = bind-same (own_handle w by handle) _ _ (λ r at.
     ap (λ n. Ok (Tells (Answer by.number NtQueryObject SUCCESS (object_fields r.object.kind r.access (handle_count w r.object) n)) ∷ [])) (sym (held-counts w r.object h)))
 
+create-held : (w : World) (by : ThreadRow) (size prot : ℕ) → Held w → service_of w by (create_section size prot) ≡ served w by (create_section size prot)
+unfolding nt_create_section
+create-held w by size prot h = rw (held-load w by.process h) refl
+
 call-held : (w : World) (by : ThreadRow) (call : ScriptCall) → Held w → service_of w by call ≡ served w by call
 call-held w by (query_object handle) h = query-held w by handle h
+call-held w by (create_section size prot) h = create-held w by size prot h
 call-held w by call h = refl
 
 thread-held : (w : World) (tid : ℕ) (call : ScriptCall) (o : Option ThreadRow) → Held w → thread_steps tid call o w ≡ served_thread tid call o w
@@ -104,35 +109,6 @@ line-held : (w : World) (line : ScriptLine) → Held w → bare_steps line w ≡
 unfolding bare_steps
 line-held w (run tid call) h = thread-held w tid call (live_thread w tid) h
 line-held w b h = refl
-
--- The two machines leave a world alike
-query-world : (u : World) (by : ThreadRow) (handle : ℕ) → world_after u (settled by NtQueryObject (served u by (query_object handle))) ≡ world_after u (settled by NtQueryObject (service_of u by (query_object handle)))
-unfolding nt_query_object
-query-world u by handle = at (own_handle u by handle)
-  where
-    at : (r : Result HandleRow Status) → world_after u (settled by NtQueryObject (r >>= (λ r. Ok (query_steps u by r)))) ≡ world_after u (settled by NtQueryObject (r >>= (λ r. Ok (Tells (Answer by.number NtQueryObject SUCCESS (counts_of u r)) ∷ []))))
-    at (Ok r) = refl
-    at (Err s) = refl
-
-call-world : (u : World) (by : ThreadRow) (call : ScriptCall) → world_after u (settled by (name_of_call call) (served u by call)) ≡ world_after u (settled by (name_of_call call) (service_of u by call))
-call-world u by (query_object handle) = query-world u by handle
-call-world u by call = refl
-
-thread-world : (u : World) (tid : ℕ) (call : ScriptCall) (o : Option ThreadRow) → world_after u (served_thread tid call o u) ≡ world_after u (thread_steps tid call o u)
-thread-world u tid call None = refl
-thread-world u tid call (Some by) = at (wait_of u tid)
-  where
-    at : (o : Option WaitRow) → world_after u (served_ready by call o u) ≡ world_after u (ready_steps by call o u)
-    at (Some x) = refl
-    at None = call-world u by call
-
-served-world : (u : World) (line : ScriptLine) → (served_step u line).world ≡ (bare_step u line).world
-unfolding bare_steps
-served-world u (run tid call) = thread-world u tid call (live_thread u tid)
-served-world u b = refl
-
-pub served-firm : (u : World) (line : ScriptLine) → Firm u → Firm (served_step u line).world
-served-firm u line f = subst Firm (sym (served-world u line)) (firm-line u line f)
 
 -- What a line sends
 thread-sends : (u : World) (tid : ℕ) (call : ScriptCall) (o : Option ThreadRow) → live_thread u tid ≡ o → IsSoundWorld u → are_sent u (served_thread tid call o u) ≡ true
@@ -163,6 +139,7 @@ sent-thin k u c sent = every-both (message_closed k) (is_sent_home u) (is_sent_h
 pub record Sides (w u : World) : Type 0 where
   pub firm : Firm w
   pub ports : HasHeldPorts w
+  pub sections : HasHeldSections w
   pub bare : Firm u
   pub sent : Sent u
   pub born : Born u
@@ -178,6 +155,7 @@ line-behind w u line ids t = record {
   sides = record {
     firm = firm-step w line t.firm;
     ports = (held_step w line t.firm.sound t.firm.linked).ports;
+    sections = (held_step w line t.firm.sound t.firm.linked).sections;
     bare = served-firm u line t.bare;
     sent = run-sent u (served_steps line u) (line-sends u line t.bare.sound) t.sent;
     born = line-born u line ids t.born;
@@ -195,7 +173,7 @@ line-behind w u line ids t = record {
     here = r.same ∙ ready.same
 
     held : Held w
-    held = record { linked = t.firm.linked; ports = t.ports; names = t.firm.names; sent = subst Sent (sym r.same) (sent-thin r.alive u r.closed t.sent) }
+    held = record { linked = t.firm.linked; ports = t.ports; sections = t.sections; names = t.firm.names; sent = subst Sent (sym r.same) (sent-thin r.alive u r.closed t.sent) }
 
     same : bare_steps line w ≡ served_steps line u
     same = line-held w line held ∙ ap (served_steps line) here ∙ line-thin ready.alive u line ready.closed

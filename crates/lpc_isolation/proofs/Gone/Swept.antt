@@ -3,15 +3,14 @@ use Rattle.lpc_isolation.proofs.Calls.Services.{lawful}
 use Rattle.lpc_isolation.proofs.Gone.Fine.{AreFine, FineAfter, run-fine}
 use Rattle.std.proofs.Common.{◌≡◌, ℕ, List, [], ◌∷◌, ◌++◌, Bool, true, false, cond, not, map, Option, Some, None, refl, ap, sym, subst, ◌∙◌, arith}
 use Rattle.std.specs.Prelude.{◌||◌, ◌==◌}
-use Rattle.std.proofs.lemmas.Bool.{and_from, or_left, or_right}
+use Rattle.std.proofs.lemmas.Bool.{or_left, or_right}
 use Rattle.std.proofs.lemmas.Bool.Decides.{nat_tests}
-use Rattle.lpc_base.specs.Rows.{every, has, passes, which}
-use Rattle.lpc_base.proofs.Births.{birth-self}
+use Rattle.lpc_base.specs.Rows.{has, passes, which}
 use Rattle.lpc_base.proofs.Bools.{first-true, second-true}
 use Rattle.lpc_model.specs.declared.entry.Entry.{Entry}
 use Rattle.lpc_model.specs.declared.entry.Entry.TheVariants as entry
 use Rattle.lpc_model.specs.declared.entry.Word.TheVariants as word
-use Rattle.lpc_model.specs.World.{Birth, ThreadRow, ViewRow, WaitRow, World, no_rows}
+use Rattle.lpc_model.specs.World.{Birth, ThreadRow, WaitRow, World, no_rows}
 use Rattle.lpc_model.specs.Found.{live_thread, wait_of}
 use Rattle.lpc_model.specs.Named.{free_name, spelled_name}
 use Rattle.lpc_model.specs.Lines.{ScriptCall, ScriptLine, accept_connect_port, boot, complete_connect_port, connect_port, create_port, dir, link, listen_port, reply_port, reply_wait_receive_port, request_port, request_wait_reply_port, run, thread}
@@ -24,8 +23,8 @@ use Rattle.lpc_model.specs.Sweep.{sweep}
 use Rattle.lpc_model.specs.Machine.{bare_steps, boot_line, dir_line, link_line, name_of_call, step, steps, thread_line, thread_test, unused_test}
 use Rattle.lpc_isolation.proofs.Gone.Served.{served, served_ready, served_step, served_steps, served_thread}
 use Rattle.lpc_model.specs.Run.{Along, said_in, world_behind}
-use Rattle.lpc_model.specs.Circle.{Event, Everyone, Group, HasInnerViews, IsCircleIn, IsFineAt, IsFineWorld, Isolation, Nobody, Of, Ran, Told, Whose, entry_whose, events, inputs, is_fine_call, is_fine_line, is_inner_view, is_item, is_outer, is_outer_at, is_outsiders_view, is_seen, is_write_of, item_of, items, line_events, line_whose, members, owner, told_event}
-use Rattle.lpc_isolation.proofs.Views.Alone.{HasFineRows, Secluded, alone, is_secluded_view}
+use Rattle.lpc_model.specs.Circle.{Event, Everyone, Group, HasInnerViews, IsCircleIn, IsFineAt, IsFineWorld, Isolation, Nobody, Of, Ran, Told, Whose, entry_whose, events, inputs, is_fine_call, is_fine_line, is_item, is_outer, is_outer_at, is_seen, is_write_of, item_of, items, line_events, line_whose, members, outsider_sees, owner, told_event}
+use Rattle.lpc_isolation.proofs.Views.Alone.{HasFineRows, alone}
 use Rattle.lpc_isolation.proofs.Gone.Bare.{BareIsolation, IsApartAt, IsBareCircle, bare_events, bare_line_events}
 use Rattle.lpc_model.proofs.Calls.Holding.{bind_holds, directed_holds, settled_holds}
 use Rattle.lpc_model.proofs.Calls.Usable.{live-number}
@@ -114,38 +113,19 @@ first-fine m c w [] along last = (last.processes, last.ports)
 first-fine m c w (None ∷ later) along last = first-fine m c w later along last
 first-fine m c w (Some line ∷ later) along last = (along.0.0.processes, along.0.0.ports)
 
--- the views of a world, as the circle has them
-secluded-views : (m : Group) (c : ℕ) (outer : Birth → Bool) (vs : List ViewRow) → every (is_inner_view c outer) vs ≡ true → ((b : Birth) → has (is_outsiders_view m b) vs ≡ true → outer b ≡ true) → every (is_secluded_view m c outer) vs ≡ true
-secluded-views m c outer [] inner all = refl
-secluded-views m c outer (v ∷ vs) inner all = and_from _ _ (at (m v.process) refl) (secluded-views m c outer vs (second-true _ _ inner) (λ b is. all b (later b (is_outsiders_view m b v) refl is)))
-  where
-    at : (e : Bool) → m v.process ≡ e → is_secluded_view m c outer v ≡ true
-    at true is = rw is (first-true _ _ inner)
-    at false out = rw out (all v.section (rw (out, birth-self v.section) refl))
-
-    later : (b : Birth) (e : Bool) → is_outsiders_view m b v ≡ e → has (is_outsiders_view m b) vs ≡ true → has (is_outsiders_view m b) (v ∷ vs) ≡ true
-    later b true here is = rw here refl
-    later b false off is = rw off is
-
 -- what is outer from a line on
 abbrev Covers : Group → (Birth → Bool) → World → List (Option ScriptLine) → Type 0
 Covers m outer w lines = (b : Birth) → is_outer m w lines b ≡ true → outer b ≡ true
 
-first-covers : (m : Group) (outer : Birth → Bool) (w : World) (lines : List (Option ScriptLine)) → Covers m outer w lines → (b : Birth) → has (is_outsiders_view m b) w.views ≡ true → outer b ≡ true
-first-covers m outer w [] covers b is = covers b is
-first-covers m outer w (None ∷ later) covers b is = first-covers m outer w later covers b is
-first-covers m outer w (Some line ∷ later) covers b is = covers b (or_left (is_outer_at m w line b) (is_outer m (step w line).world later b) (or_left (has (is_outsiders_view m b) w.views) _ is))
-
+-- what c has views of, in the run whose rows never go
 first-inner : (c : ℕ) (outer : Birth → Bool) (w : World) (lines : List (Option ScriptLine)) → Along (λ w line. HasInnerViews c outer w) w lines → HasInnerViews c outer (world_behind w lines) → HasInnerViews c outer w
 unfolding world_behind
 first-inner c outer w [] along last = last
 first-inner c outer w (None ∷ later) along last = first-inner c outer w later along last
 first-inner c outer w (Some line ∷ later) along last = along.0
 
-first-secluded : (m : Group) (c : ℕ) (outer : Birth → Bool) (w u : World) (lines : List (Option ScriptLine)) → Behind w u → Covers m outer w lines → Along (λ w line. HasInnerViews c outer w) w lines → HasInnerViews c outer (world_behind w lines) → Secluded m c outer u
-first-secluded m c outer w u lines r covers along last =
-    let same : w.views ≡ u.views = ap (λ (w : World). w.views) r.same in
-    subst (λ vs. every (is_secluded_view m c outer) vs ≡ true) same (secluded-views m c outer w.views (first-inner c outer w lines along last) (first-covers m outer w lines covers))
+inner-bare : (c : ℕ) (outer : Birth → Bool) (w u : World) (lines : List (Option ScriptLine)) → Behind w u → Along (λ w line. HasInnerViews c outer w) w lines → HasInnerViews c outer (world_behind w lines) → HasInnerViews c outer u
+inner-bare c outer w u lines r along last = subst (HasInnerViews c outer) r.same (first-inner c outer w lines along last)
 
 -- what a line writes, it writes before rows go
 writes-first : (b : Birth) (xs ys : List Basic) → has (is_write_of b) xs ≡ true → has (is_write_of b) (xs ++ ys) ≡ true
@@ -162,13 +142,13 @@ line-apart m outer w u line later r a covers out b is =
     let unseen : is_seen m (line_whose w line) ≡ false = ap (is_seen m) whose ∙ out in
     let bare : has (is_write_of b) (bare_steps line w) ≡ true = subst (λ bs. has (is_write_of b) bs ≡ true) (sym a.same) is in
     let writes : has (is_write_of b) (steps line w) ≡ true = writes-first b (bare_steps line w) (sweep (world_after w (bare_steps line w))) bare in
-    let at : is_outer_at m w line b ≡ true = or_right (has (is_outsiders_view m b) w.views) _ (rw unseen writes) in
+    let at : is_outer_at m w line b ≡ true = or_right (has (outsider_sees m b) w.views) _ (rw unseen writes) in
     covers b (or_left (is_outer_at m w line b) (is_outer m (step w line).world later b) at)
 
 circle-same : (m : Group) (c : ℕ) (outer : Birth → Bool) (w u : World) (lines : List (Option ScriptLine)) → are_ok has_ids lines ≡ true → Sides w u → HasFineRows m c u → Along (IsFineAt m c) w lines → IsFineWorld m c (world_behind w lines)
     → Covers m outer w lines → Along (λ w line. HasInnerViews c outer w) w lines → HasInnerViews c outer (world_behind w lines) → IsBareCircle m c outer u lines
 unfolding world_behind
-circle-same m c outer w u [] ids t fine along last covers inner final = (fine, first-secluded m c outer w u [] t.behind covers inner final)
+circle-same m c outer w u [] ids t fine along last covers inner final = (fine, inner-bare c outer w u [] t.behind inner final)
 circle-same m c outer w u (None ∷ later) ids t fine along last covers inner final = circle-same m c outer w u later ids t fine along last covers inner final
 circle-same m c outer w u (Some line ∷ later) ids t fine along last covers inner final =
     let r = t.behind in
@@ -176,7 +156,7 @@ circle-same m c outer w u (Some line ∷ later) ids t fine along last covers inn
     let next : HasFineRows m c (step w line).world = first-fine m c (step w line).world later along.1 last in
     let after : HasFineRows m c (served_step u line).world = run-fine m c u (served_steps line u) (line-fine m c (step w line).world u line next a.sides.behind) fine in (
       fine,
-      first-secluded m c outer w u (Some line ∷ later) r covers inner final,
+      inner-bare c outer w u (Some line ∷ later) r inner final,
       sym (line-inside m c r.alive u line) ∙ sym (ap (λ v. is_fine_line m c v line) r.same) ∙ along.0.1,
       line-apart m outer w u line later r a covers,
       circle-same m c outer (step w line).world (served_step u line).world later (second-true _ _ ids) a.sides after along.1 last (λ b is. covers b (or_right (is_outer_at m w line b) _ is)) inner.1 final,
@@ -187,7 +167,7 @@ behind_none : Behind no_rows no_rows
 behind_none = record { alive = record { ports = λ b. true; sections = λ b. true; processes = λ b. true; threads = λ b. true; homes = λ n. true }; same = refl; closed = record { tables = refl; ports = refl; messages = refl; waits = refl; registrations = refl; cuts = refl; threads = refl; processes = refl; views = refl } }
 
 sides_none : Sides no_rows no_rows
-sides_none = record { firm = firm_none; ports = refl; bare = firm_none; sent = refl; born = born_none; behind = behind_none }
+sides_none = record { firm = firm_none; ports = refl; sections = refl; bare = firm_none; sent = refl; born = born_none; behind = behind_none }
 
 -- the items of a list of one process are those of that process alone
 one-member : (c pid : ℕ) → members (c ∷ []) pid ≡ alone c pid

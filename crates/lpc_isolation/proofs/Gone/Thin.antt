@@ -9,9 +9,9 @@ use Rattle.lpc_base.proofs.Bools.{apart-second, first-true, same-number, second-
 use Rattle.lpc_base.proofs.Births.{birth-same, births-apart}
 use Rattle.lpc_model.specs.declared.entry.ObjectKind.{ObjectKind}
 use Rattle.lpc_model.specs.declared.entry.ObjectKind.TheVariants as kind
-use Rattle.lpc_model.specs.World.{Birth, ContentRow, Contents, HandleRow, HandleTable, Known, MessageRow, ObjectName, PortRow, ProcessRow, SectionRow, ThreadRow, Unknown, ViewRow, WaitRow, World}
-use Rattle.lpc_model.specs.Found.{all_handles, handle_count, has_value, is_connected_to, is_content, is_cut, is_life, is_made_on, is_own_of, is_paired_to, is_port, is_queued, is_section, is_sent_on, is_table, is_the, is_thread, is_view, is_view_in, holders, lives_by, port_name, process_name, same_birth, same_kind, same_object, section_name, shows_section, thread_name, waits_as, waits_at, all_registrations, registered_by, live_thread, live_threads, is_live, is_live_thread, lives_in}
-use Rattle.lpc_model.specs.Basics.{Accepts, AddsHandle, AddsProcess, AddsSection, AddsThread, Awaits, Basic, Binds, Completes, Cuts, DrawsIdentifier, DrawsOrdinal, DropsHandle, DropsViewsOf, Empties, Enters, Frees, Joins, Makes, Maps, Receives, Takes, TakesConnect, Tells, Unbinds, Unmaps, Wakes, Withdraws, Writes, accepted, basic, completed, cut, freed, in_known, is_end_of, joined, no_handles, past_identifier, past_ordinal, received, with_handle, without_handle, world_after, written, zeros, Dies, Registers, Unregisters, ended, registering, unregistering}
+use Rattle.lpc_model.specs.World.{Birth, ContentRow, Contents, HandleRow, HandleTable, Known, MessageRow, ObjectName, PortRow, ProcessRow, SectionRow, ThreadRow, Unknown, ViewRow, ViewTable, WaitRow, World}
+use Rattle.lpc_model.specs.Found.{all_handles, all_views, handle_count, has_value, is_connected_to, is_content, is_cut, is_life, is_made_on, is_own_of, is_paired_to, is_port, is_queued, is_section, is_sent_on, is_table, is_the, is_thread, lies_at, is_space, holders, lives_by, port_name, process_name, same_birth, same_kind, same_object, section_name, shows_section, thread_name, waits_as, waits_at, all_registrations, registered_by, live_thread, live_threads, is_live, is_live_thread, lives_in}
+use Rattle.lpc_model.specs.Basics.{Accepts, AddsHandle, AddsProcess, AddsSection, AddsThread, Awaits, Basic, Binds, Completes, Cuts, DrawsIdentifier, DrawsOrdinal, DropsHandle, DropsViewsOf, Empties, Enters, Frees, Joins, Makes, Maps, Receives, Takes, TakesConnect, Tells, Unbinds, Unmaps, Wakes, Withdraws, Writes, accepted, basic, completed, cut, freed, in_known, is_end_of, joined, no_handles, no_views, past_identifier, past_ordinal, received, with_handle, with_view, without_handle, without_view, without_views, world_after, written, zeros, Dies, Registers, Unregisters, ended, registering, unregistering}
 use Rattle.lpc_model.specs.Sweep.{free_unheld, is_unheld, sweep, unheld}
 use Rattle.lpc_model.specs.SoundWaits.{IsSoundWorld}
 use Rattle.lpc_model.specs.Linked.{IsLinked}
@@ -91,10 +91,17 @@ wait_closed k x = k.ports x.port
 abbrev pub view_closed : Alive → ViewRow → Bool
 view_closed k v = k.sections v.section
 
+abbrev pub space_closed : Alive → ViewTable → Bool
+space_closed k t = every (view_closed k) t.rows
+
 -- a port that a handle names is alive
 kind-live : (k : Alive) (s : ObjectKind) (b : Birth) → alive_as k s b ≡ true → same_kind s kind.Port ≡ true → k.ports b ≡ true
 kind-live k kind.Port b live port = live
 kind-live k e b live port = absurd (cc)
+
+pub section-live-as : (k : Alive) (s : ObjectKind) (b : Birth) → alive_as k s b ≡ true → same_kind s kind.Section ≡ true → k.sections b ≡ true
+section-live-as k kind.Section b live section = live
+section-live-as k e b live section = absurd (cc)
 
 pub port-live : (k : Alive) (o : ObjectName) → object_alive k o ≡ true → same_kind o.kind kind.Port ≡ true → k.ports o.birth ≡ true
 port-live k o live port = kind-live k o.kind o.birth live port
@@ -120,7 +127,7 @@ pub record Closed (k : Alive) (u : World) : Type 0 where
   pub cuts : every (port_cut k) u.ports ≡ true
   pub threads : every (thread_closed k) u.threads ≡ true
   pub processes : every (process_closed k) u.processes ≡ true
-  pub views : every (view_closed k) u.views ≡ true
+  pub views : every (space_closed k) u.views ≡ true
 
 -- a step that names what is alive alone
 abbrev pub is_closed : Alive → Basic → Bool
@@ -152,7 +159,7 @@ is_closed k (Unbinds b) = true
 is_closed k (DropsHandle pid value) = true
 is_closed k (AddsSection s) = k.sections s.birth
 is_closed k (Writes b place new) = true
-is_closed k (Maps v) = view_closed k v
+is_closed k (Maps pid v) = view_closed k v
 is_closed k (Unmaps pid base) = true
 is_closed k (DropsViewsOf pid) = true
 
@@ -245,10 +252,10 @@ keeps-closed k u (Unbinds b) ok c = record { tables = c.tables; ports = c.ports;
 keeps-closed k u (DropsHandle pid value) ok c = record { tables = every-change (table_closed k) (is_table pid) (without_handle value) (λ t all. every-without_first (handle_closed k) (has_value value) t.rows all) u.handles c.tables; ports = c.ports; messages = c.messages; waits = c.waits; registrations = c.registrations; cuts = c.cuts; threads = c.threads; processes = c.processes; views = c.views }
 keeps-closed k u (AddsSection s) ok c = record { tables = c.tables; ports = c.ports; messages = c.messages; waits = c.waits; registrations = c.registrations; cuts = c.cuts; threads = c.threads; processes = c.processes; views = c.views }
 keeps-closed k u (Writes b place new) ok c = record { tables = c.tables; ports = c.ports; messages = c.messages; waits = c.waits; registrations = c.registrations; cuts = c.cuts; threads = c.threads; processes = c.processes; views = c.views }
-keeps-closed k u (Maps v) ok c = record { tables = c.tables; ports = c.ports; messages = c.messages; waits = c.waits; registrations = c.registrations; cuts = c.cuts; threads = c.threads; processes = c.processes; views = every-push (view_closed k) u.views v c.views ok }
-keeps-closed k u (Unmaps pid base) ok c = record { tables = c.tables; ports = c.ports; messages = c.messages; waits = c.waits; registrations = c.registrations; cuts = c.cuts; threads = c.threads; processes = c.processes; views = every-without (view_closed k) (is_view pid base) u.views c.views }
-keeps-closed k u (DropsViewsOf pid) ok c = record { tables = c.tables; ports = c.ports; messages = c.messages; waits = c.waits; registrations = c.registrations; cuts = c.cuts; threads = c.threads; processes = c.processes; views = every-without (view_closed k) (is_view_in pid) u.views c.views }
-keeps-closed k u (AddsProcess p) ok c = record { tables = every-push (table_closed k) u.handles (no_handles p.number) c.tables refl; ports = c.ports; messages = c.messages; waits = c.waits; registrations = c.registrations; cuts = c.cuts; threads = c.threads; processes = every-push (process_closed k) u.processes p c.processes (or-last (not (k.homes p.number)) ok); views = c.views }
+keeps-closed k u (Maps pid v) ok c = record { tables = c.tables; ports = c.ports; messages = c.messages; waits = c.waits; registrations = c.registrations; cuts = c.cuts; threads = c.threads; processes = c.processes; views = every-change (space_closed k) (is_space pid) (with_view v) (λ t all. every-push (view_closed k) t.rows v all ok) u.views c.views }
+keeps-closed k u (Unmaps pid base) ok c = record { tables = c.tables; ports = c.ports; messages = c.messages; waits = c.waits; registrations = c.registrations; cuts = c.cuts; threads = c.threads; processes = c.processes; views = every-change (space_closed k) (is_space pid) (without_view base) (λ t all. every-without (view_closed k) (lies_at base) t.rows all) u.views c.views }
+keeps-closed k u (DropsViewsOf pid) ok c = record { tables = c.tables; ports = c.ports; messages = c.messages; waits = c.waits; registrations = c.registrations; cuts = c.cuts; threads = c.threads; processes = c.processes; views = every-change (space_closed k) (is_space pid) without_views (λ t all. refl) u.views c.views }
+keeps-closed k u (AddsProcess p) ok c = record { tables = every-push (table_closed k) u.handles (no_handles p.number) c.tables refl; ports = c.ports; messages = c.messages; waits = c.waits; registrations = c.registrations; cuts = c.cuts; threads = c.threads; processes = every-push (process_closed k) u.processes p c.processes (or-last (not (k.homes p.number)) ok); views = every-push (space_closed k) u.views (no_views p.number) c.views refl }
 keeps-closed k u (AddsThread t) ok c = record { tables = c.tables; ports = c.ports; messages = c.messages; waits = c.waits; registrations = all-pushed k.ports u.threads t (second-true (thread_closed k t) _ (second-true (k.threads t.birth) _ ok)) c.registrations; cuts = c.cuts; threads = every-push (thread_closed k) u.threads t c.threads (first-true _ _ (second-true (k.threads t.birth) _ ok)); processes = c.processes; views = c.views }
 keeps-closed k u (Wakes who call status fields) ok c = record { tables = c.tables; ports = c.ports; messages = c.messages; waits = every-without (wait_closed k) (waits_as who) u.waits c.waits; registrations = c.registrations; cuts = c.cuts; threads = c.threads; processes = c.processes; views = c.views }
 keeps-closed k u (Receives who q) ok c = record { tables = c.tables; ports = c.ports; messages = c.messages; waits = every-change (wait_closed k) (waits_at who q) received (λ x is. is) u.waits c.waits; registrations = c.registrations; cuts = c.cuts; threads = c.threads; processes = c.processes; views = c.views }
@@ -511,7 +518,7 @@ frees-thread k u b none c =
 frees-section : (k : Alive) (u : World) (b : Birth) → is_unheld (thin k u) (section_name b) ≡ true → Closed k u → Closed (but_section b k) u
 frees-section k u b none c =
     let v : World = thin k u in
-    let few = sum-second (handle_count v (section_name b)) (count (shows_section b) v.views) (is-zero (handle_count v (section_name b) + count (shows_section b) v.views) none) in
+    let few = sum-second (handle_count v (section_name b)) (count (shows_section b) (all_views v)) (is-zero (handle_count v (section_name b) + count (shows_section b) (all_views v)) none) in
     record {
       tables = tables-off k (but_section b k) (section_name b) u (section-apart k b) (none-handles v (section_name b) none) c.tables;
       ports = c.ports;
@@ -521,7 +528,9 @@ frees-section k u b none c =
       cuts = c.cuts;
       threads = c.threads;
       processes = c.processes;
-      views = every-both (view_closed k) (λ x. not (shows_section b x)) (view_closed (but_section b k)) (λ x live off. and_from _ _ live off) u.views c.views (none-pass (shows_section b) u.views few);
+      views = every-both (space_closed k) (λ t. every (λ x. not (shows_section b x)) t.rows) (space_closed (but_section b k))
+          (λ t closed apart. every-both (view_closed k) (λ x. not (shows_section b x)) (view_closed (but_section b k)) (λ x live off. and_from _ _ live off) t.rows closed apart) u.views c.views
+          (every-each (λ x. not (shows_section b x)) (λ (t : ViewTable). t.rows) u.views (none-pass (shows_section b) (all_views u) few));
     }
 
 bytes-but : (k : Alive) (b : Birth) (c : Contents) → in_known (without (is_content b)) (in_known (which (content_alive k)) c) ≡ in_known (which (content_alive (but_section b k))) c

@@ -1,4 +1,5 @@
 -- What each call does in a world without some rows that no row names: the same.
+use Rattle.lpc_model.specs.Memory.{section_test}
 use Rattle.std.proofs.Common.{◌≡◌, ℕ, List, [], ◌∷◌, ◌++◌, Bool, true, false, not, Option, Some, None, refl, ap, ◌∙◌, arith}
 use Rattle.std.proofs.lemmas.Bool.{and_from}
 use Rattle.lpc_base.specs.Rows.{every, first, given}
@@ -10,8 +11,8 @@ use Rattle.lpc_model.specs.declared.entry.ObjectKind.TheVariants as kind
 use Rattle.lpc_model.specs.declared.message.Message.{Message}
 use Rattle.lpc_model.specs.Message.{asks, message_test}
 use Rattle.lpc_model.specs.Refusal.{found_or, refuse_if}
-use Rattle.lpc_model.specs.World.{Accepted, Birth, Connect, HandleTable, Listen, MessageRow, PortRow, Receive, Request, ThreadRow, WaitKind, WaitRow, World}
-use Rattle.lpc_model.specs.Found.{fits, fitted, handle_at, handles_of, has_value, is_port, is_table, port_row, rows_in, same_kind}
+use Rattle.lpc_model.specs.World.{Accepted, Birth, Connect, HandleTable, Listen, MessageRow, PortRow, Receive, Request, ThreadRow, WaitKind, WaitRow, World, SectionRow}
+use Rattle.lpc_model.specs.Found.{fits, fitted, handle_at, handles_of, has_value, is_port, is_table, port_row, rows_in, same_kind, is_section, section_row}
 use Rattle.lpc_model.specs.Basics.{Basic}
 use Rattle.lpc_model.specs.Entering.{enter, given_steps, shown, takes, woken}
 use Rattle.lpc_model.specs.Tests.{includes, object_test, own_handle, port_test}
@@ -20,7 +21,7 @@ use Rattle.lpc_model.specs.Request.{given_reply, nt_reply_port, nt_reply_wait_re
 use Rattle.lpc_model.proofs.Calls.Holding.{Holds, bind_holds, found_holds, found_ok, holds_ok, not_refused}
 use Rattle.lpc_isolation.proofs.Views.Seen.{bind-same}
 use Rattle.lpc_isolation.proofs.Views.Filters.{first-inside}
-use Rattle.lpc_isolation.proofs.Gone.Thin.{client-thin, Alive, Closed, all_alive, handle_closed, is_closed, message_closed, port_alive, port_closed, table_closed, thin, wait_closed, port-live}
+use Rattle.lpc_isolation.proofs.Gone.Thin.{client-thin, Alive, Closed, all_alive, handle_closed, is_closed, message_closed, port_alive, port_closed, table_closed, thin, wait_closed, port-live, section-live-as, section_alive}
 
 -- Look-ups
 pub row-thin : (k : Alive) (u : World) (b : Birth) → k.ports b ≡ true → port_row (thin k u) b ≡ port_row u b
@@ -61,6 +62,32 @@ pub port-thin : (k : Alive) (u : World) (by : ThreadRow) (value : ℕ) → Close
 port-thin k u by value c =
     bind-same (object_test u by kind.Port _ value) (λ b. found_or (port_row (thin k u) b) INVALID_HANDLE) (λ b. found_or (port_row u b) INVALID_HANDLE)
     (λ b at. ap (λ o. found_or o INVALID_HANDLE) (row-thin k u b (holds_ok (λ b. k.ports b ≡ true) (object_test u by kind.Port _ value) b (object-is k u by _ value c) at)))
+
+-- and so does a section
+section-object : (k : Alive) (u : World) (by : ThreadRow) (rights value : ℕ) → Closed k u → Holds (λ b. k.sections b ≡ true) (object_test u by kind.Section rights value)
+section-object k u by rights value c =
+    let P : Birth → Type 0 = λ b. k.sections b ≡ true in
+    bind_holds (own_handle u by value) _ P (λ h at.
+    bind_holds (refuse_if (not (same_kind h.object.kind kind.Section)) OBJECT_TYPE_MISMATCH) _ P (λ _ section.
+    bind_holds (refuse_if (not (includes h.access rights)) ACCESS_DENIED) _ P (λ _ _.
+    let closed : handle_closed k h ≡ true = every-first (handle_closed k) (has_value value) (handles_of u by.process) h (rows-closed k by.process u.handles (first (is_table by.process) u.handles) refl c.tables) (found_ok (handle_at u by.process value) INVALID_HANDLE h at) in
+    let off : not (same_kind h.object.kind kind.Section) ≡ false = not_refused (not (same_kind h.object.kind kind.Section)) OBJECT_TYPE_MISMATCH _ section in
+    let here : same_kind h.object.kind kind.Section ≡ true = grind arith in
+    section-live-as k h.object.kind h.object.birth closed here)))
+
+pub section-live : (k : Alive) (u : World) (by : ThreadRow) (rights value : ℕ) → Closed k u → Holds (λ s. k.sections s.birth ≡ true) (section_test u by rights value)
+section-live k u by rights value c =
+    let P : SectionRow → Type 0 = λ s. k.sections s.birth ≡ true in
+    bind_holds (object_test u by kind.Section rights value) _ P (λ b at.
+    found_holds P (section_row u b) INVALID_HANDLE (λ s row.
+    ap k.sections (birth-same s.birth b (first-passes (is_section b) u.sections s row)) ∙ holds_ok (λ b. k.sections b ≡ true) (object_test u by kind.Section rights value) b (section-object k u by rights value c) at))
+
+pub section-thin : (k : Alive) (u : World) (by : ThreadRow) (rights value : ℕ) → Closed k u → section_test (thin k u) by rights value ≡ section_test u by rights value
+section-thin k u by rights value c =
+    bind-same (object_test u by kind.Section rights value) (λ b. found_or (section_row (thin k u) b) INVALID_HANDLE) (λ b. found_or (section_row u b) INVALID_HANDLE)
+    (λ b at.
+    let live : k.sections b ≡ true = holds_ok (λ b. k.sections b ≡ true) (object_test u by kind.Section rights value) b (section-object k u by rights value c) at in
+    ap (λ o. found_or o INVALID_HANDLE) (first-inside (section_alive k) (is_section b) (λ s its. ap k.sections (birth-same s.birth b its) ∙ live) u.sections))
 
 first-same : {X : Type 0} (p f g : X → Bool) → ((x : X) → p x ≡ true → f x ≡ g x) → (xs : List X) → every p xs ≡ true → first f xs ≡ first g xs
 first-same p f g same [] all = refl

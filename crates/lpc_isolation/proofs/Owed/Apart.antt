@@ -7,7 +7,7 @@ use Rattle.lpc_isolation.proofs.Each.Closes.{caller-sure, handle-good}
 use Rattle.lpc_isolation.proofs.Each.Completes.{complete-apart, found-completion}
 use Rattle.lpc_isolation.proofs.Each.Connects.{connect-apart, connect-fine}
 use Rattle.lpc_isolation.proofs.Each.Create.{named-apart, unnamed-apart}
-use Rattle.lpc_isolation.proofs.Calls.Deeds.{AreTame, Deeds, gives, more, none, numbers, registers, any-tame}
+use Rattle.lpc_isolation.proofs.Calls.Deeds.{AreTame, Deeds, gives, more, none, numbers, registers, any-tame, maps, unmaps, writes}
 use Rattle.lpc_isolation.proofs.Calls.Doomed.{doomed-part, doomed-whose, ended, steady}
 use Rattle.lpc_isolation.proofs.Rows.Fair.{Fair, keeps-fair}
 use Rattle.lpc_isolation.proofs.Each.Listens.{listen-apart}
@@ -16,7 +16,7 @@ use Rattle.lpc_isolation.proofs.Each.Reply.{wakes-apart}
 use Rattle.lpc_isolation.proofs.Each.Requests.{request-apart}
 use Rattle.lpc_isolation.proofs.Views.Seen.{handle-own}
 use Rattle.lpc_isolation.proofs.Each.Sends.{Caller, datagram-apart, found-port, found-request, found-datagram}
-use Rattle.lpc_isolation.proofs.Owed.Fair.{object-own, registers-own}
+use Rattle.lpc_isolation.proofs.Owed.Fair.{object-own, registers-own, map-own}
 use Rattle.lpc_model.specs.Basics.{Basic, basic, world_after}
 use Rattle.lpc_model.specs.Circle.{Group, Whose, owner}
 use Rattle.lpc_model.specs.Connect.{ConnectAnswer, answer_test}
@@ -30,14 +30,19 @@ use Rattle.std.proofs.lemmas.Bool.{and_from}
 use Rattle.std.specs.Prelude.{Ok}
 
 -- of tame steps of an outsider nothing is seen
-aparts : (m : Group) (c : ℕ) (u : World) (d : Whose) (w : World) (by : ThreadRow) (v : World) (bs : List Basic) → AreTame w by bs → m by.process ≡ false → Fair m c w → Fair m c v → owner v by.number ≡ Some by.process → are_apart m c u d v bs ≡ true
-aparts m c u d w by v [] none out f g own = refl
-aparts m c u d w by v (b ∷ bs) (more (gives h r value at same) t) out f g own =
-    rw out (aparts m c u d w by (basic v b) bs t out f (keeps-fair m c v b (object-own m c w by h r value f at same) g) own)
-aparts m c u d w by v (b ∷ bs) (more (registers p value at) t) out f g own =
-    rw (unseen-thread m c v by.number by.process g own out) (aparts m c u d w by (basic v b) bs t out f (keeps-fair m c v b (registers-own m c w v by p value f own at) g) own)
-aparts m c u d w by v (b ∷ bs) (more numbers t) out f g own =
-    rw (unseen-thread m c v by.number by.process g own out) (aparts m c u d w by (basic v b) bs t out f (keeps-fair m c v b refl g) own)
+aparts : (m : Group) (c : ℕ) (u : World) (d : Whose) (w : World) (by : ThreadRow) (v : World) (bs : List Basic) → AreTame w by bs → m c ≡ true → m by.process ≡ false → Fair m c w → Fair m c v → owner v by.number ≡ Some by.process → are_apart m c u d v bs ≡ true
+aparts m c u d w by v [] none c_in out f g own = refl
+aparts m c u d w by v (b ∷ bs) (more (gives h r value at same) t) c_in out f g own =
+    rw out (aparts m c u d w by (basic v b) bs t c_in out f (keeps-fair m c v b (object-own m c w by h r value f at same) g) own)
+aparts m c u d w by v (b ∷ bs) (more (registers p value at) t) c_in out f g own =
+    rw (unseen-thread m c v by.number by.process g own out) (aparts m c u d w by (basic v b) bs t c_in out f (keeps-fair m c v b (registers-own m c w v by p value f own at) g) own)
+aparts m c u d w by v (b ∷ bs) (more numbers t) c_in out f g own =
+    rw (unseen-thread m c v by.number by.process g own out) (aparts m c u d w by (basic v b) bs t c_in out f (keeps-fair m c v b refl g) own)
+aparts m c u d w by v (b ∷ bs) (more (maps x s rights value at section owner) t) c_in out f g own =
+    rw out (aparts m c u d w by (basic v b) bs t c_in out f (keeps-fair m c v b (map-own m c w by x s rights value c_in f at section owner) g) own)
+aparts m c u d w by v (b ∷ bs) (more (unmaps base) t) c_in out f g own =
+    rw out (aparts m c u d w by (basic v b) bs t c_in out f (keeps-fair m c v b refl g) own)
+aparts m c u d w by v (b ∷ bs) (more (writes s place new) t) c_in out f g own = aparts m c u d w by (basic v b) bs t c_in out f (keeps-fair m c v b refl g) own
 
 pub apart-deeds : (m : Group) (c : ℕ) (u : World) (d : Whose) (w : World) (by : ThreadRow) → Caller m c u w by → m by.process ≡ false → Deeds w by (λ _ bs. HasFineRows m c (world_after w bs) → are_apart m c u d w bs ≡ true)
 apart-deeds m c u d w by k out = record {
@@ -66,7 +71,8 @@ apart-deeds m c u d w by k out = record {
       let here : r.object.birth.process ≡ by.process = handle-own m c w by.process handle r k.fair at in
       let g = handle-good m c by.process r here in
       and_from _ _ (rw (k.here, out) refl) (g.apart u d w (caller-sure m c u w by k) (ap m here ∙ out));
-  tames = any-tame (λ call name fields bs tame t _. rw (k.here, out) (aparts m c u d w by w bs t out k.fair k.fair k.own));
+  makes_section = λ size prot _. rw (k.here, out, unseen-thread m c w by.number by.process k.fair k.own out) refl;
+  tames = any-tame (λ call name fields bs tame t _. rw (k.here, out) (aparts m c u d w by w bs t k.c_in out k.fair k.fair k.own));
   ends = λ call name own pid code ts doomed _.
       let p = doomed-part m c u w by own pid code ts k doomed in
       let is = p.apart d w (steady m c u w by k) (doomed-whose m c w by own pid ts k.fair doomed ∙ out) in

@@ -1,7 +1,8 @@
 -- Each call keeps it that a queued message that asks is its thread's own.
+use Rattle.lpc_model.specs.Memory.{section_steps}
 use Rattle.lpc_isolation.proofs.Views.Seen.{handle-own}
 use Rattle.lpc_isolation.proofs.Calls.Doomed.{doomed-part, ended, steady}
-use Rattle.lpc_isolation.proofs.Calls.Deeds.{AreTame, Deeds, gives, more, none, numbers, registers, any-tame}
+use Rattle.lpc_isolation.proofs.Calls.Deeds.{AreTame, Deeds, gives, more, none, numbers, registers, any-tame, maps, unmaps, writes}
 use Rattle.lpc_isolation.proofs.Each.Closes.{caller-sure, handle-good}
 use Rattle.lpc_base.proofs.RowWords.{every-push}
 use Rattle.lpc_base.proofs.RowWords.{first-passes}
@@ -96,6 +97,9 @@ keeps-asked w by v [] none a = a
 keeps-asked w by v (b ∷ bs) (more (gives h r value at same) t) a = keeps-asked w by (basic v b) bs t (basic-asked v b refl a)
 keeps-asked w by v (b ∷ bs) (more (registers p value at) t) a = keeps-asked w by (basic v b) bs t (basic-asked v b refl a)
 keeps-asked w by v (b ∷ bs) (more numbers t) a = keeps-asked w by (basic v b) bs t (basic-asked v b refl a)
+keeps-asked w by v (b ∷ bs) (more (maps x s rights value at section owner) t) a = keeps-asked w by (basic v b) bs t (basic-asked v b refl a)
+keeps-asked w by v (b ∷ bs) (more (unmaps base) t) a = keeps-asked w by (basic v b) bs t (basic-asked v b refl a)
+keeps-asked w by v (b ∷ bs) (more (writes s place new) t) a = keeps-asked w by (basic v b) bs t (basic-asked v b refl a)
 
 -- Each deed
 pub asked-deeds : (m : Group) (c : ℕ) (w : World) (by : ThreadRow) → Asked w → Caller m c w w by → Deeds w by (λ _ bs. Asked (world_after w bs))
@@ -125,6 +129,7 @@ asked-deeds m c w by a k = record {
       (λ none. after (receive_steps by p q [] o) (receive-parts w by p q [] o refl (taken-asked w w by p q o first refl a)))
       (λ d x some at. after (receive_steps by p q (reply x d ∷ []) o) (receive-parts w by p q (reply x d ∷ []) o (rw (fit-quiet m c w by p d x a k at) refl) (taken-asked w (world_after w (reply x d ∷ [])) by p q o first refl a)));
   closes = λ handle r at. let g = handle-good m c by.process r (handle-own m c w by.process handle r k.fair at) in g.asked w w (caller-sure m c w w by k);
+  makes_section = λ size prot. after (section_steps by size prot (free_handle w by.process)) refl;
   tames = any-tame (λ call name fields bs tame t. keeps-asked w by w bs t a);
   ends = λ call name own pid code ts doomed.
       let p = doomed-part m c w w by own pid code ts k doomed in

@@ -1,4 +1,5 @@
 -- A call's steps keep the rows fair.
+use Rattle.lpc_model.specs.Memory.{section_test}
 use Rattle.lpc_base.proofs.Bools.{same-number}
 use Rattle.lpc_isolation.proofs.Each.Accepts.{accept-fair, found-answer}
 use Rattle.lpc_isolation.proofs.Views.Alone.{HasFineRows}
@@ -6,13 +7,13 @@ use Rattle.lpc_isolation.proofs.Each.Closes.{caller-sure, handle-good}
 use Rattle.lpc_isolation.proofs.Each.Completes.{complete-fair, found-completion}
 use Rattle.lpc_isolation.proofs.Each.Connects.{connect-fair, connect-fine}
 use Rattle.lpc_isolation.proofs.Each.Create.{named-fair, unnamed-fair}
-use Rattle.lpc_isolation.proofs.Calls.Deeds.{AreTame, Deeds, gives, more, none, numbers, registers, any-tame}
+use Rattle.lpc_isolation.proofs.Calls.Deeds.{AreTame, Deeds, gives, more, none, numbers, registers, any-tame, maps, unmaps, writes}
 use Rattle.lpc_isolation.proofs.Calls.Doomed.{doomed-part, ended, steady}
-use Rattle.lpc_isolation.proofs.Rows.Fair.{Fair, are_fair, is_fair_step, is_own, owner-used}
+use Rattle.lpc_isolation.proofs.Rows.Fair.{implies, Fair, are_fair, is_fair_step, is_own, owner-used, is_fair_view}
 use Rattle.lpc_isolation.proofs.Each.Listens.{listen-fair}
 use Rattle.lpc_isolation.proofs.Each.Receive.{queue-own, receivable, received-fair, replied-as, replied-fair}
 use Rattle.lpc_isolation.proofs.Each.Requests.{request-fair}
-use Rattle.lpc_isolation.proofs.Views.Seen.{handle-own, port-own}
+use Rattle.lpc_isolation.proofs.Views.Seen.{handle-own, port-own, mapped-own}
 use Rattle.lpc_isolation.proofs.Each.Sends.{Caller, datagram-fair, found-datagram, found-port, found-request}
 use Rattle.lpc_model.proofs.Calls.Holding.{holds_ok}
 use Rattle.lpc_model.specs.Basics.{Basic, Registers, basic, world_after}
@@ -20,10 +21,10 @@ use Rattle.lpc_model.specs.Circle.{Group, owner}
 use Rattle.lpc_model.specs.Found.{free_handle, handle_at}
 use Rattle.lpc_model.specs.Request.{receive_steps}
 use Rattle.lpc_model.specs.Tests.{port_test}
-use Rattle.lpc_model.specs.World.{HandleRow, ObjectName, PortRow, ThreadRow, World}
-use Rattle.std.proofs.Common.{List, Some, [], ap, refl, subst, sym, true, ℕ, ◌∙◌, ◌∷◌, ◌≡◌}
-use Rattle.std.proofs.lemmas.Bool.{and_from}
-use Rattle.std.specs.Prelude.{Ok}
+use Rattle.lpc_model.specs.World.{HandleRow, ObjectName, PortRow, ThreadRow, World, SectionRow, ViewRow}
+use Rattle.std.proofs.Common.{List, Some, [], ap, refl, subst, sym, true, ℕ, ◌∙◌, ◌∷◌, ◌≡◌, None, Bool, false}
+use Rattle.std.proofs.lemmas.Bool.{and_from, eqb-true}
+use Rattle.std.specs.Prelude.{Ok, ◌==◌}
 
 -- what tame steps name is of the caller's process
 pub object-own : (m : Group) (c : ℕ) (w : World) (by : ThreadRow) (h r : HandleRow) (value : ℕ) → Fair m c w → handle_at w by.process value ≡ Some r → r.object ≡ h.object → is_own by.process h ≡ true
@@ -33,11 +34,24 @@ object-own m c w by h r value f at same =
 pub registers-own : (m : Group) (c : ℕ) (w v : World) (by : ThreadRow) (p : PortRow) (value : ℕ) → Fair m c w → owner v by.number ≡ Some by.process → port_test w by value ≡ Ok p → is_fair_step m c v (Registers by.number p.birth) ≡ true
 registers-own m c w v by p value f own at = owner-used v by.number p.birth.process (own ∙ ap (λ n. Some n) (sym (holds_ok _ (port_test w by value) p (port-own m c w by value f) at).0))
 
-fairs : (m : Group) (c : ℕ) (w : World) (by : ThreadRow) (v : World) (bs : List Basic) → AreTame w by bs → Fair m c w → owner v by.number ≡ Some by.process → are_fair m c v bs ≡ true
-fairs m c w by v [] none f own = refl
-fairs m c w by v (b ∷ bs) (more (gives h r value at same) t) f own = and_from _ _ (object-own m c w by h r value f at same) (fairs m c w by (basic v b) bs t f own)
-fairs m c w by v (b ∷ bs) (more (registers p value at) t) f own = and_from _ _ (registers-own m c w v by p value f own at) (fairs m c w by (basic v b) bs t f own)
-fairs m c w by v (b ∷ bs) (more numbers t) f own = fairs m c w by (basic v b) bs t f own
+-- a view of a section of the caller's process
+pub map-own : (m : Group) (c : ℕ) (w : World) (by : ThreadRow) (v : ViewRow) (s : SectionRow) (rights value : ℕ) → m c ≡ true → Fair m c w → section_test w by rights value ≡ Ok s → v.section ≡ s.birth → v.owner ≡ None → is_fair_view m c by.process v ≡ true
+map-own m c w by v s rights value c_in f at section owner =
+    let own : v.section.process ≡ by.process = mapped-own m c w by v s rights value f at section in
+    and_from _ _ (implied (by.process == c) refl refl own) (and_from _ _ (implied (by.process == c) refl own refl) (rw owner refl))
+  where
+    implied : (e : Bool) → (by.process == c) ≡ e → {a b : ℕ} → a ≡ by.process → b ≡ by.process → implies (a == c) (m b) ≡ true
+    implied true is {a} {b} one two = let inside : m b ≡ true = ap m (two ∙ eqb-true by.process c is) ∙ c_in in rw (one, is, inside) refl
+    implied false off {a} {b} one two = rw (one, off) refl
+
+fairs : (m : Group) (c : ℕ) (w : World) (by : ThreadRow) (v : World) (bs : List Basic) → AreTame w by bs → m c ≡ true → Fair m c w → owner v by.number ≡ Some by.process → are_fair m c v bs ≡ true
+fairs m c w by v [] none c_in f own = refl
+fairs m c w by v (b ∷ bs) (more (gives h r value at same) t) c_in f own = and_from _ _ (object-own m c w by h r value f at same) (fairs m c w by (basic v b) bs t c_in f own)
+fairs m c w by v (b ∷ bs) (more (registers p value at) t) c_in f own = and_from _ _ (registers-own m c w v by p value f own at) (fairs m c w by (basic v b) bs t c_in f own)
+fairs m c w by v (b ∷ bs) (more numbers t) c_in f own = fairs m c w by (basic v b) bs t c_in f own
+fairs m c w by v (b ∷ bs) (more (maps x s rights value at section owner) t) c_in f own = and_from _ _ (map-own m c w by x s rights value c_in f at section owner) (fairs m c w by (basic v b) bs t c_in f own)
+fairs m c w by v (b ∷ bs) (more (unmaps base) t) c_in f own = fairs m c w by (basic v b) bs t c_in f own
+fairs m c w by v (b ∷ bs) (more (writes s place new) t) c_in f own = fairs m c w by (basic v b) bs t c_in f own
 
 -- Each deed
 pub fair-deeds : (m : Group) (c : ℕ) (w : World) (by : ThreadRow) → Caller m c w w by → Deeds w by (λ _ bs. HasFineRows m c (world_after w bs) → are_fair m c w bs ≡ true)
@@ -59,7 +73,8 @@ fair-deeds m c w by k = record {
       (λ none. received-fair m c w by p q o k.c_in r.named.process queue)
       (λ b y some at. replied-fair m c w by p q y b o k.c_in r.named.process queue);
   closes = λ handle r at _. let g = handle-good m c by.process r (handle-own m c w by.process handle r k.fair at) in g.fair w w (caller-sure m c w w by k);
-  tames = any-tame (λ call name fields bs tame t _. fairs m c w by w bs t k.fair k.own);
+  makes_section = λ size prot _. rw (same-number by.process) refl;
+  tames = any-tame (λ call name fields bs tame t _. fairs m c w by w bs t k.c_in k.fair k.own);
   ends = λ call name own pid code ts doomed _.
       let p = doomed-part m c w w by own pid code ts k doomed in
       let is = p.fair w (steady m c w w by k) in ended (λ bs. are_fair m c w bs ≡ true) by name own pid code ts w (λ _. is) (λ _. is);

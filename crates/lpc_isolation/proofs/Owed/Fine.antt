@@ -7,7 +7,7 @@ use Rattle.lpc_base.specs.declared.status.TheConstants.{SUCCESS}
 use Rattle.lpc_isolation.proofs.Views.Alone.{HasFineRows}
 use Rattle.lpc_isolation.proofs.Each.Closes.{handle-mild}
 use Rattle.lpc_isolation.proofs.Each.Connects.{enter-ports, row, starting, steps_of}
-use Rattle.lpc_isolation.proofs.Calls.Deeds.{AreTame, Deeds, gives, more, none, numbers, registers, any-tame}
+use Rattle.lpc_isolation.proofs.Calls.Deeds.{AreTame, Deeds, gives, more, none, numbers, registers, any-tame, maps, unmaps, writes}
 use Rattle.lpc_isolation.proofs.Calls.Doomed.{ended}
 use Rattle.lpc_isolation.proofs.Endings.Threads.{ends-mild}
 use Rattle.lpc_isolation.proofs.Views.Filters.{first-push_off}
@@ -127,6 +127,9 @@ keeps-fine m c w by [] none = refl
 keeps-fine m c w by (b ∷ bs) (more (gives h r value at same) t) = keeps-fine m c w by bs t
 keeps-fine m c w by (b ∷ bs) (more (registers p value at) t) = keeps-fine m c w by bs t
 keeps-fine m c w by (b ∷ bs) (more numbers t) = keeps-fine m c w by bs t
+keeps-fine m c w by (b ∷ bs) (more (maps x s rights value at section owner) t) = keeps-fine m c w by bs t
+keeps-fine m c w by (b ∷ bs) (more (unmaps base) t) = keeps-fine m c w by bs t
+keeps-fine m c w by (b ∷ bs) (more (writes s place new) t) = keeps-fine m c w by bs t
 
 -- Each deed
 are-fine : (m : Group) (c : ℕ) (bs : List Basic) → AreMild bs → AreFine m c bs
@@ -146,6 +149,7 @@ fine-deeds m c after u by idle f = record {
   replies = λ handle bytes p b x at read fits _. refl;
   receives = λ handle bytes a p q replied o is first _. received-fine m c by p q replied o (holds_ok (AreFine m c) (given_reply u p a) replied (replied-fine m c u p a) is.reply_made);
   closes = λ handle r at _. are-fine m c (close_handle by.process r u) (handle-mild u by.process r);
+  makes_section = λ size prot _. refl;
   tames = any-tame (λ call name fields bs tame t _. keeps-fine m c u by bs t);
   ends = λ call name own pid code ts doomed _. let is = are-fine m c (end_threads pid code ts u) (ends-mild pid code ts u) in ended (AreFine m c) by name own pid code ts u (λ _. is) (λ _. is);
 }

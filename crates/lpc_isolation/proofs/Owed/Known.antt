@@ -1,4 +1,5 @@
 -- What a call tells keeps it that what is remembered of outsiders' connects is right.
+use Rattle.lpc_model.specs.Memory.{section_steps}
 use Rattle.lpc_model.specs.Death.{end_threads}
 use Rattle.lpc_model.specs.Close.{close_handle, close_steps}
 use Rattle.lpc_model.proofs.Calls.Outcomes.{EndCall, end_call, of_thread, of_process}
@@ -8,7 +9,7 @@ use Rattle.lpc_isolation.proofs.Endings.Threads.{ends-mild}
 use Rattle.lpc_isolation.proofs.Closings.Mild.{mild-known}
 use Rattle.lpc_isolation.proofs.Each.Closes.{caller-sure, handle-good, handle-mild}
 use Rattle.lpc_isolation.proofs.Calls.Doomed.{doomed-part, doomed-whose, ended, steady}
-use Rattle.lpc_isolation.proofs.Calls.Deeds.{AreTame, Deeds, gives, more, none, numbers, registers, is_tame, any-tame}
+use Rattle.lpc_isolation.proofs.Calls.Deeds.{AreTame, Deeds, gives, more, none, numbers, registers, is_tame, any-tame, maps, unmaps, writes}
 use Rattle.lpc_isolation.proofs.Memory.Calls.{Hears, Still, still-hears, unnoted, wake-silent, answer-silent, sent-known, sent-hears, datagram-sent, request-sent, connect-sent, fits-outside, fits-c, noted, listened-known, listened-silent, received-known, received-silent, no-reply, one-reply, IsReply}
 use Rattle.std.proofs.Common.{◌≡◌, ℕ, List, [], ◌∷◌, Bool, true, false, cond, not, Option, Some, None, refl, ap, sym, subst, ◌∙◌, arith}
 use Rattle.std.specs.Prelude.{◌||◌, ◌==◌, Ok}
@@ -34,7 +35,7 @@ use Rattle.lpc_model.specs.Entering.{enter, row_of}
 use Rattle.lpc_model.specs.Connect.{is_accepted_on, listen_steps, names_connect, ConnectAnswer, answer_test, accept_steps, refuse_steps, complete_steps, create_steps, unnamed_steps, named_steps}
 use Rattle.lpc_model.specs.Request.{datagram_start, datagram_steps, receive_steps, reply, request_start, request_steps, sent_by, reply_steps}
 use Rattle.lpc_model.specs.Tests.{port_test, next_birth}
-use Rattle.lpc_model.specs.Lines.{ScriptCall, accept_connect_port, complete_connect_port, connect_port, create_port, listen_port, reply_port, reply_wait_receive_port, request_port, request_wait_reply_port, close}
+use Rattle.lpc_model.specs.Lines.{ScriptCall, accept_connect_port, complete_connect_port, connect_port, create_port, listen_port, reply_port, reply_wait_receive_port, request_port, request_wait_reply_port, close, create_section}
 use Rattle.lpc_model.specs.Circle.{Group, Whose, owner}
 use Rattle.lpc_isolation.proofs.Views.Alone.{HasFineRows}
 use Rattle.lpc_isolation.proofs.Views.View.{seen_port, view}
@@ -59,12 +60,18 @@ knows m memo w by v [] none = refl
 knows m memo w by v (b ∷ bs) (more (gives h r value at same) t) = knows m memo w by (basic v b) bs t
 knows m memo w by v (b ∷ bs) (more (registers p value at) t) = knows m memo w by (basic v b) bs t
 knows m memo w by v (b ∷ bs) (more numbers t) = knows m memo w by (basic v b) bs t
+knows m memo w by v (b ∷ bs) (more (maps x s rights value at section owner) t) = knows m memo w by (basic v b) bs t
+knows m memo w by v (b ∷ bs) (more (unmaps base) t) = knows m memo w by (basic v b) bs t
+knows m memo w by v (b ∷ bs) (more (writes s place new) t) = knows m memo w by (basic v b) bs t
 
 silent : (v w : World) (by : ThreadRow) (bs : List Basic) → AreTame w by bs → every (is_silent_step v) bs ≡ true
 silent v w by [] none = refl
 silent v w by (b ∷ bs) (more (gives h r value at same) t) = silent v w by bs t
 silent v w by (b ∷ bs) (more (registers p value at) t) = silent v w by bs t
 silent v w by (b ∷ bs) (more numbers t) = silent v w by bs t
+silent v w by (b ∷ bs) (more (maps x s rights value at section owner) t) = silent v w by bs t
+silent v w by (b ∷ bs) (more (unmaps base) t) = silent v w by bs t
+silent v w by (b ∷ bs) (more (writes s place new) t) = silent v w by bs t
 
 tame-unnoted : (m : Group) (v : World) (by : ThreadRow) (call : ScriptCall) (e : Entry) (memo : List Heard) → is_tame call ≡ true → call_memo m v by call e memo ≡ memo
 tame-unnoted m v by (listen_port handle) e memo tame = absurd (cc)
@@ -138,6 +145,7 @@ module _ (m : Group) (c : ℕ) (u w : World) (by : ThreadRow) (d : Whose) (memo 
         let mute : entries_memo m (view m w) memo (told_inputs m c u d (entries_of (close_handle by.process r w))) ≡ memo = g.mute u d w memo (caller-sure m c u w by k) numbers (ap m own ∙ out) in
         let behind : AllKnown m memo (world_after w (close_handle by.process r w)) = run-known m memo w (close_handle by.process r w) (mild-known m memo w (close_handle by.process r w) (handle-mild w by.process r)) all in
         rw (k.here, out) (subst (λ n. AllKnown m n (world_after w (close_handle by.process r w))) (sym mute) behind);
+    makes_section = λ size prot _. still (section_steps by size prot (free_handle w by.process)) (refl, refl);
     tames = any-tame (λ call name fields bs tame t _. still (Tells (entry.Answer by.number name SUCCESS fields) ∷ bs) (knows m memo w by w bs t, silent (view m w) w by bs t));
     ends = λ call name own pid code ts doomed _.
         let p = doomed-part m c u w by own pid code ts k doomed in
@@ -242,6 +250,7 @@ module _ (m : Group) (c : ℕ) (u w : World) (by : ThreadRow) (memo : List Heard
         (λ none. receives handle bytes b p q replied [] r no-reply o first)
         (λ e x some at. receives handle bytes b p q replied (reply x e ∷ []) r (one-reply x e) o first);
     closes = λ handle r at. quiet (close handle) (close_steps by r w) (λ e. refl) (mild-known m memo w (close_handle by.process r w) (handle-mild w by.process r));
+    makes_section = λ size prot. quiet (create_section size prot) (section_steps by size prot (free_handle w by.process)) (λ e. refl) refl;
     tames = any-tame (λ call name fields bs tame t. quiet call (Tells (entry.Answer by.number name SUCCESS fields) ∷ bs) (λ e. tame-unnoted m (view m w) by call e memo tame) (knows m memo w by w bs t));
     ends = λ call name own pid code ts doomed.
         let known : are_known m memo w (end_threads pid code ts w) ≡ true = mild-known m memo w (end_threads pid code ts w) (ends-mild pid code ts w) in

@@ -1,4 +1,6 @@
 -- A call of another member than c that ends no thread: the view and what c is told follow from the view and the answer.
+use Rattle.lpc_model.specs.Memory.{map_steps, mapped_view, mapping_right, section_steps, unmap_steps}
+use Rattle.lpc_isolation.proofs.Each.Mappings.{holding-view, mapping-ok, same-map, unmapped-same}
 use Rattle.lpc_base.specs.Rows.{when}
 use Rattle.lpc_base.specs.declared.status.TheConstants.{SUCCESS}
 use Rattle.lpc_isolation.proofs.Each.Accepts.{accept-led, found-answer, refuse-led}
@@ -16,7 +18,7 @@ use Rattle.lpc_isolation.proofs.Each.Listens.{listen-led}
 use Rattle.lpc_isolation.proofs.Each.Receive.{received-as-led}
 use Rattle.lpc_isolation.proofs.Each.Reply.{answered-fit, led-wakes}
 use Rattle.lpc_isolation.proofs.Each.Requests.{request-led}
-use Rattle.lpc_isolation.proofs.Views.Seen.{free-view, handle-own, handle-view, port_test-view}
+use Rattle.lpc_isolation.proofs.Views.Seen.{free-view, handle-own, handle-view, port_test-view, mapped-own}
 use Rattle.lpc_isolation.proofs.Each.Sends.{Caller, datagram-led, found-datagram, found-request}
 use Rattle.lpc_isolation.proofs.Gone.Served.{served}
 use Rattle.lpc_isolation.proofs.Views.View.{view}
@@ -66,11 +68,20 @@ module _ (m : Group) (c : ℕ) (u : World) (d : Whose) (w : World) (by : ThreadR
         let own : r.object.birth.process ≡ by.process = handle-own m c w by.process handle r k.fair at in
         let g = handle-good m c by.process r own in
         rw (handle-view m w by.process handle by_in, at) (tells-led m c u d w (Answer by.number NtClose SUCCESS []) (close_handle by.process r w) (close_handle by.process r (view m w)) (g.led u d w (caller-sure m c u w by k) (ap m own ∙ by_in)));
+    makes_section = λ size prot _ _. rw (free-view m w by.process by_in) (led-same m c u d w (section_steps by size prot (free_handle w by.process)) (rw by_in refl));
     tames = record {
       of_register = λ handle p at _ _.
           rw (port_test-view m c w by handle k.fair by_in, at) (led-same m c u d w (register_steps by p.birth) (register-ours m w by (Answer by.number NtRegisterThreadTerminatePort SUCCESS []) p.birth (not (is_registered p.birth by))));
       of_duplicate = λ handle access r at _ _. rw (handle-view m w by.process handle by_in, at, free-view m w by.process by_in) (led-same m c u d w (duplicate_steps by (free_handle w by.process) r (asked r access)) refl);
       of_query = λ handle r fields at _ _. record { world = refl; told = rw (k.here, other) refl };
+      of_map = λ handle offset size prot s rounded base is _ _.
+          rw (same-map m c w by handle offset size prot k.fair by_in, mapping-ok w by handle offset size prot s rounded base is)
+          (led-same m c u d w (map_steps by (mapped_view s offset rounded prot base)) (rw (by_in, ap m (mapped-own m c w by (mapped_view s offset rounded prot base) s (mapping_right prot) handle k.fair is.section refl) ∙ by_in) refl));
+      of_unmap = λ address v at _ _.
+          rw (holding-view m w by.process address 1 by_in, at, unmapped-same m by v)
+          (led-same m c u d w (unmap_steps by v) refl);
+      of_read = λ address n v at _ _. record { world = refl; told = rw (k.here, other) refl };
+      of_write = λ address new v at may _ _. record { world = refl; told = rw (k.here, other) refl };
     };
     ends = λ call name own pid code ts doomed spared. let some = ends-some call in absurd (cc);
   }

@@ -18,7 +18,7 @@ use Rattle.lpc_isolation.proofs.Each.Reply.{answered-fit}
 use Rattle.lpc_isolation.proofs.Each.Sends.{Caller}
 use Rattle.lpc_isolation.proofs.Each.Receive.{replied-as}
 use Rattle.lpc_isolation.proofs.Calls.Serves.{is_call_of, is_orderly, tells_own}
-use Rattle.lpc_isolation.proofs.Calls.Deeds.{AreTame, Deeds, gives, more, none, numbers, registers, any-tame}
+use Rattle.lpc_isolation.proofs.Calls.Deeds.{AreTame, Deeds, gives, more, none, numbers, registers, any-tame, maps, unmaps, writes}
 use Rattle.lpc_isolation.proofs.Calls.Doomed.{doomed-heads, ended, heads_own}
 use Rattle.lpc_isolation.proofs.Closings.Mild.{AreMild, mild-orderly}
 use Rattle.lpc_isolation.proofs.Each.Closes.{handle-mild}
@@ -86,6 +86,9 @@ tame-orderly w by [] none = refl
 tame-orderly w by (b ∷ bs) (more (gives h r value at same) t) = tame-orderly w by bs t
 tame-orderly w by (b ∷ bs) (more (registers p value at) t) = tame-orderly w by bs t
 tame-orderly w by (b ∷ bs) (more numbers t) = tame-orderly w by bs t
+tame-orderly w by (b ∷ bs) (more (maps v s rights value at section owner) t) = tame-orderly w by bs t
+tame-orderly w by (b ∷ bs) (more (unmaps base) t) = tame-orderly w by bs t
+tame-orderly w by (b ∷ bs) (more (writes s place new) t) = tame-orderly w by bs t
 
 -- its first step ends a thread of the caller's process
 abbrev starts : World → ℕ → List Basic → Bool
@@ -119,6 +122,7 @@ orderly-deeds m c u w by k = record {
       (λ none. received-orderly w by p q o)
       (λ b y some at. replied-orderly w by p q y b o (asked-by o) (other-thread w by.number (fits w p.birth b) y k.idle (answered-fit w p b y at)) (λ x there. asked-is o x there));
   closes = λ handle r at. and_from _ _ (and_from _ _ (same-number by.number) refl) (mild-orderly (close_handle by.process r w) (handle-mild w by.process r));
+  makes_section = λ size prot. rw (same-number by.number) refl;
   tames = any-tame (λ call name fields bs tame t. rw (same-number by.number) (tame-orderly w by bs t));
   ends = λ call name own pid code ts doomed. ended (λ bs. is_call_of w by.number bs ≡ true) by name own pid code ts w
       (λ mine. ends-orderly w pid by.number code ts (doomed-heads m c w by own pid ts k.fair k.live k.own doomed mine))

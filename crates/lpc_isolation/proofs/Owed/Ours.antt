@@ -1,4 +1,5 @@
 -- A call of c that ends no thread: its steps are members', so the view changes as the world does.
+use Rattle.lpc_isolation.proofs.Rows.Fair.{Fair}
 use Rattle.lpc_base.proofs.Bools.{same-number}
 use Rattle.lpc_isolation.proofs.Each.Accepts.{accept-ours, c-side, refuse-ours, found-answer}
 use Rattle.lpc_isolation.proofs.Views.Alone.{HasFineRows}
@@ -7,13 +8,13 @@ use Rattle.lpc_isolation.proofs.Calls.Calm.{Own, Members, answers_alike, ends_th
 use Rattle.lpc_isolation.proofs.Each.Closes.{caller-sure, handle-good}
 use Rattle.lpc_isolation.proofs.Each.Connects.{connect-fine, connect-ours}
 use Rattle.lpc_isolation.proofs.Each.Create.{named-ours, unnamed-ours}
-use Rattle.lpc_isolation.proofs.Calls.Deeds.{AreTame, Deeds, deeds-do, ends-some, gives, is_calm, more, none, numbers, registers, spares, any-tame}
+use Rattle.lpc_isolation.proofs.Calls.Deeds.{AreTame, Deeds, deeds-do, ends-some, gives, is_calm, more, none, numbers, registers, spares, any-tame, maps, unmaps, writes}
 use Rattle.lpc_isolation.proofs.Each.Instances.{caller, own-same}
 use Rattle.lpc_isolation.proofs.Each.Listens.{c-listened-ours}
 use Rattle.lpc_isolation.proofs.Each.Receive.{c-rest-ours, queue-own, receivable, receive-as, replied-as}
 use Rattle.lpc_isolation.proofs.Each.Requests.{request-ours}
 use Rattle.lpc_isolation.proofs.Each.Routes.{routed-in}
-use Rattle.lpc_isolation.proofs.Views.Seen.{handle-own}
+use Rattle.lpc_isolation.proofs.Views.Seen.{handle-own, mapped-own}
 use Rattle.lpc_isolation.proofs.Each.Sends.{Caller, IsSendable, datagram-ours, found-port, found-request, found-datagram}
 use Rattle.lpc_isolation.proofs.Gone.Served.{served}
 use Rattle.lpc_model.proofs.Calls.Holding.{holds-more}
@@ -27,11 +28,16 @@ use Rattle.lpc_model.specs.World.{ThreadRow, World}
 use Rattle.std.proofs.Common.{List, [], ap, refl, true, ℕ, ◌∙◌, ◌∷◌, ◌≡◌}
 use Rattle.std.specs.Prelude.{◌==◌}
 
-are-ours : (m : Group) (w : World) (by : ThreadRow) (v : World) (bs : List Basic) → AreTame w by bs → are_ours m v bs ≡ true
-are-ours m w by v [] none = refl
-are-ours m w by v (b ∷ bs) (more (gives h r value at same) t) = are-ours m w by (basic v b) bs t
-are-ours m w by v (b ∷ bs) (more (registers p value at) t) = are-ours m w by (basic v b) bs t
-are-ours m w by v (b ∷ bs) (more numbers t) = are-ours m w by (basic v b) bs t
+are-ours : (m : Group) (c : ℕ) (w : World) (by : ThreadRow) (v : World) (bs : List Basic) → AreTame w by bs → m by.process ≡ true → Fair m c w → are_ours m v bs ≡ true
+are-ours m c w by v [] none inside f = refl
+are-ours m c w by v (b ∷ bs) (more (gives h r value at same) t) inside f = are-ours m c w by (basic v b) bs t inside f
+are-ours m c w by v (b ∷ bs) (more (registers p value at) t) inside f = are-ours m c w by (basic v b) bs t inside f
+are-ours m c w by v (b ∷ bs) (more numbers t) inside f = are-ours m c w by (basic v b) bs t inside f
+are-ours m c w by v (b ∷ bs) (more (maps x s rights value at section owner) t) inside f =
+    let own : m x.section.process ≡ true = ap m (mapped-own m c w by x s rights value f at section) ∙ inside in
+    rw (inside, own) (are-ours m c w by (basic v b) bs t inside f)
+are-ours m c w by v (b ∷ bs) (more (unmaps base) t) inside f = are-ours m c w by (basic v b) bs t inside f
+are-ours m c w by v (b ∷ bs) (more (writes s place new) t) inside f = are-ours m c w by (basic v b) bs t inside f
 
 pub ours-deeds : (m : Group) (c : ℕ) (w : World) (by : ThreadRow) → Caller m c w w by → by.process ≡ c → Deeds w by (λ call bs. spares call ≡ true → HasFineRows m c (world_after w bs) → are_ours m w bs ≡ true)
 ours-deeds m c w by k mine = record {
@@ -61,7 +67,8 @@ ours-deeds m c w by k mine = record {
       let here : r.object.birth.process ≡ by.process = handle-own m c w by.process handle r k.fair at in
       let g = handle-good m c by.process r here in
       g.ours w w (caller-sure m c w w by k) (ap m (here ∙ mine) ∙ k.c_in);
-  tames = any-tame (λ call name fields bs tame t _ _. are-ours m w by w bs t);
+  makes_section = λ size prot _ _. rw inside refl;
+  tames = any-tame (λ call name fields bs tame t _ _. are-ours m c w by w bs t inside k.fair);
   ends = λ call name own pid code ts doomed spared. let some = ends-some call in absurd (cc);
 }
   where

@@ -6,7 +6,7 @@ use Rattle.lpc_base.specs.Rows.{change, every, first, has}
 use Rattle.lpc_isolation.proofs.Each.Accepts.{found-answer}
 use Rattle.lpc_isolation.proofs.Each.Closes.{handle-mild}
 use Rattle.lpc_isolation.proofs.Each.Connects.{row, starting}
-use Rattle.lpc_isolation.proofs.Calls.Deeds.{AreTame, Deeds, gives, more, none, numbers, registers, any-tame}
+use Rattle.lpc_isolation.proofs.Calls.Deeds.{AreTame, Deeds, gives, more, none, numbers, registers, any-tame, maps, unmaps, writes}
 use Rattle.lpc_isolation.proofs.Calls.Doomed.{ended}
 use Rattle.lpc_isolation.proofs.Endings.Threads.{ends-mild}
 use Rattle.lpc_isolation.proofs.Gone.Fresh.{is_new, next-new}
@@ -39,6 +39,9 @@ keeps-paths w by v [] none = refl
 keeps-paths w by v (b ∷ bs) (more (gives h r value at same) t) = keeps-paths w by (basic v b) bs t
 keeps-paths w by v (b ∷ bs) (more (registers p value at) t) = keeps-paths w by (basic v b) bs t
 keeps-paths w by v (b ∷ bs) (more numbers t) = keeps-paths w by (basic v b) bs t
+keeps-paths w by v (b ∷ bs) (more (maps x s rights value at section owner) t) = keeps-paths w by (basic v b) bs t
+keeps-paths w by v (b ∷ bs) (more (unmaps base) t) = keeps-paths w by (basic v b) bs t
+keeps-paths w by v (b ∷ bs) (more (writes s place new) t) = keeps-paths w by (basic v b) bs t
 
 -- an accept joins neither end of such a path
 off-client : (w : World) (y : WaitRow) → IsSoundWorld w → has (is_connect_on y.port) w.waits ≡ true → (p : PortRow) (b : Birth) → port_row w b ≡ Some p → is_server_port p ≡ true → is_port y.port p ≡ false
@@ -115,6 +118,7 @@ paths-deeds m c w by all k = record {
   replies = λ handle bytes p b x at read fits. refl;
   receives = λ handle bytes a p q replied o is first. still-paths w (receive_steps by p q replied o) (received-still by p q replied o (holds_ok AreStill (given_reply w p a) replied (replied-still w p a) is.reply_made));
   closes = λ handle r at. mild-paths w (close_handle by.process r w) (handle-mild w by.process r);
+  makes_section = λ size prot. refl;
   tames = any-tame (λ call name fields bs tame t. keeps-paths w by w bs t);
   ends = λ call name own pid code ts doomed. let is = mild-paths w (end_threads pid code ts w) (ends-mild pid code ts w) in ended (λ bs. are_paths w bs ≡ true) by name own pid code ts w (λ _. is) (λ _. is);
 }

@@ -16,7 +16,7 @@ use Rattle.lpc_model.proofs.Calls.Holding.{holds_ok}
 use Rattle.lpc_model.proofs.Steps.Rows.{has-off}
 use Rattle.lpc_isolation.proofs.Each.Closes.{handle-sent}
 use Rattle.lpc_isolation.proofs.Each.Connects.{row, starting}
-use Rattle.lpc_isolation.proofs.Calls.Deeds.{AreTame, Deeds, gives, more, none, numbers, registers, any-tame}
+use Rattle.lpc_isolation.proofs.Calls.Deeds.{AreTame, Deeds, gives, more, none, numbers, registers, any-tame, maps, unmaps, writes}
 use Rattle.lpc_isolation.proofs.Calls.Doomed.{ended}
 use Rattle.lpc_isolation.proofs.Endings.Threads.{ends-sent}
 use Rattle.lpc_isolation.proofs.Gone.Fresh.{next-new}
@@ -29,6 +29,9 @@ keeps-sent w by v [] none = refl
 keeps-sent w by v (b ∷ bs) (more (gives h r value at same) t) = keeps-sent w by (basic v b) bs t
 keeps-sent w by v (b ∷ bs) (more (registers p value at) t) = keeps-sent w by (basic v b) bs t
 keeps-sent w by v (b ∷ bs) (more numbers t) = keeps-sent w by (basic v b) bs t
+keeps-sent w by v (b ∷ bs) (more (maps x s rights value at section owner) t) = keeps-sent w by (basic v b) bs t
+keeps-sent w by v (b ∷ bs) (more (unmaps base) t) = keeps-sent w by (basic v b) bs t
+keeps-sent w by v (b ∷ bs) (more (writes s place new) t) = keeps-sent w by (basic v b) bs t
 
 pub sent-deeds : (u : World) (by : ThreadRow) → IsSoundWorld u → live_thread u by.number ≡ Some by → Deeds u by (λ _ bs. are_sent u bs ≡ true)
 sent-deeds u by s live = record {
@@ -48,6 +51,7 @@ sent-deeds u by s live = record {
   replies = λ handle bytes p m x at read fits. refl;
   receives = λ handle bytes a p q replied o is first. still-sent u (receive_steps by p q replied o) (received-still by p q replied o (holds_ok AreStill (given_reply u p a) replied (replied-still u p a) is.reply_made));
   closes = λ handle r at. handle-sent u by.process r;
+  makes_section = λ size prot. refl;
   tames = any-tame (λ call name fields bs tame t. keeps-sent u by u bs t);
   ends = λ call name own pid code ts doomed. let is = ends-sent pid code ts u in ended (λ bs. are_sent u bs ≡ true) by name own pid code ts u (λ _. is) (λ _. is);
 }

@@ -1,4 +1,5 @@
 -- A call names what stands alone, where rows that nothing names are to go.
+use Rattle.lpc_model.specs.Memory.{section_test}
 use Rattle.std.proofs.Common.{◌≡◌, ℕ, List, [], ◌∷◌, ◌++◌, Bool, true, false, not, Option, Some, None, refl, ap, sym, subst, ◌∙◌, arith}
 use Rattle.std.proofs.lemmas.Bool.{and_from}
 use Rattle.std.specs.Prelude.{◌&&◌, Result, Ok, Err}
@@ -18,7 +19,7 @@ use Rattle.lpc_model.specs.declared.message.Message.{Message}
 use Rattle.lpc_model.specs.Message.{asks, message_test}
 use Rattle.lpc_model.specs.Refusal.{found_or, refuse_if}
 use Rattle.lpc_model.specs.Then.{◌>>=◌}
-use Rattle.lpc_model.specs.World.{Birth, Connect, HandleRow, HandleTable, MessageRow, PortRow, ThreadRow, WaitKind, WaitRow, World, ObjectName}
+use Rattle.lpc_model.specs.World.{Birth, Connect, HandleRow, HandleTable, MessageRow, PortRow, ThreadRow, WaitKind, WaitRow, World, ObjectName, SectionRow}
 use Rattle.lpc_model.specs.Found.{free_handle, handles_of, has_handle_to, has_value, is_offered, is_open, is_server_port, is_table, live_thread, names_port, route}
 use Rattle.lpc_model.specs.Basics.{Basic, world_after}
 use Rattle.lpc_model.specs.Named.{as_status, named_port, port_found}
@@ -30,8 +31,8 @@ use Rattle.lpc_model.specs.SoundWaits.{IsSoundWorld, is_sound_as, is_sound_wait,
 use Rattle.lpc_model.proofs.Calls.Holding.{Holds, bind_holds, found_ok, holds_ok}
 use Rattle.lpc_names.proofs.Bound.{nameless-is-not-found}
 use Rattle.lpc_isolation.proofs.Gone.Thin.{Alive, Closed, all_alive, handle_closed, is_closed, message_closed, table_closed, wait_closed, port-live}
-use Rattle.lpc_isolation.proofs.Calls.Deeds.{AreTame, gives, more, none, numbers, registers, Deeds, any-tame}
-use Rattle.lpc_isolation.proofs.Gone.ThinCalls.{AreClosed, StandsBy, port-stands, rows-closed, enter-closed}
+use Rattle.lpc_isolation.proofs.Calls.Deeds.{AreTame, gives, more, none, numbers, registers, Deeds, any-tame, maps, unmaps, writes}
+use Rattle.lpc_isolation.proofs.Gone.ThinCalls.{AreClosed, StandsBy, port-stands, rows-closed, enter-closed, section-live}
 use Rattle.lpc_isolation.proofs.Calls.Doomed.{doomed-remains, ended}
 use Rattle.lpc_isolation.proofs.Each.Closes.{handle-stands}
 
@@ -134,10 +135,15 @@ closeds k w by (b ∷ bs) (more (gives h r value at same) t) c =
     and_from _ _ (subst (λ (o : ObjectName). handle_closed k (record h { object = o }) ≡ true) same live) (closeds k w by bs t c)
 closeds k w by (b ∷ bs) (more (registers p value at) t) c = and_from _ _ (holds_ok (StandsBy k) (port_test w by value) p (port-stands k w by value c) at).here (closeds k w by bs t c)
 closeds k w by (b ∷ bs) (more numbers t) c = closeds k w by bs t c
+closeds k w by (b ∷ bs) (more (maps x s rights value at section owner) t) c =
+    let live : k.sections s.birth ≡ true = holds_ok (λ (s : SectionRow). k.sections s.birth ≡ true) (section_test w by rights value) s (section-live k w by rights value c) at in
+    and_from _ _ (subst (λ b. k.sections b ≡ true) (sym section) live) (closeds k w by bs t c)
+closeds k w by (b ∷ bs) (more (unmaps base) t) c = closeds k w by bs t c
+closeds k w by (b ∷ bs) (more (writes s place new) t) c = closeds k w by bs t c
 
 -- Each deed
-pub stands-deeds : (k : Alive) (u : World) (by : ThreadRow) → live_thread u by.number ≡ Some by → IsSoundWorld u → Closed k u → k.ports (next_birth by) ≡ true → Deeds u by (λ _. AreClosed k)
-stands-deeds k u by live s c new = record {
+pub stands-deeds : (k : Alive) (u : World) (by : ThreadRow) → live_thread u by.number ≡ Some by → IsSoundWorld u → Closed k u → k.ports (next_birth by) ≡ true → k.sections (next_birth by) ≡ true → Deeds u by (λ _. AreClosed k)
+stands-deeds k u by live s c new made = record {
   creates = rw new refl;
   founds = λ name path free. rw new refl;
   connects = λ name bytes q at.
@@ -163,6 +169,7 @@ stands-deeds k u by live s c new = record {
   replies = λ handle bytes p m x at read fits. refl;
   receives = λ handle bytes a p q replied o is first. received-closed k by p q replied o (stands handle p is.port_found).here (holds_ok (AreClosed k) (given_reply u p a) replied (replied-closed k u p a) is.reply_made);
   closes = λ handle r at. handle-stands k u by.process r c (every-first (handle_closed k) (has_value handle) (handles_of u by.process) r (rows-closed k by.process u.handles (first (is_table by.process) u.handles) refl c.tables) at);
+  makes_section = λ size prot. rw made refl;
   tames = any-tame (λ call name fields bs tame t. closeds k u by bs t c);
   ends = λ call name own pid code ts doomed.
       let r = doomed-remains k u by own pid code ts live c doomed in let is = r.stands u c in ended (AreClosed k) by name own pid code ts u (λ _. is) (λ _. is);

@@ -1,26 +1,30 @@
 -- What a call writes to sections is told by its words: the steps of it that change bytes are these.
-use Rattle.std.proofs.Common.{◌≡◌, List, [], ◌∷◌, Bool, true, not, Option, Some, None, refl, arith}
-use Rattle.std.specs.Prelude.{Ok}
-use Rattle.lpc_base.specs.Rows.{every, which}
+use Rattle.lpc_model.specs.Found.{view_holding}
+use Rattle.lpc_model.specs.Memory.{new_section, place_in, memory_test, write_steps}
+use Rattle.std.proofs.Common.{◌≡◌, List, [], ◌∷◌, Bool, true, not, Option, Some, None, refl, arith, ℕ, sym, ◌∙◌}
+use Rattle.std.specs.Prelude.{Ok, length}
+use Rattle.lpc_base.specs.Rows.{every, which, given}
 use Rattle.lpc_base.proofs.RowWords.{every-append, every-more}
 use Rattle.lpc_message.specs.declared.kind.TheConstants.{DATAGRAM, REQUEST}
 use Rattle.lpc_model.specs.declared.message.Message.{Message}
-use Rattle.lpc_model.specs.World.{MessageRow, PortRow, ThreadRow, World}
+use Rattle.lpc_model.specs.World.{MessageRow, PortRow, ThreadRow, World, ViewRow}
 use Rattle.lpc_model.specs.Basics.{AddsSection, Basic, Frees, Writes, world_after}
 use Rattle.lpc_model.specs.Close.{close_handle, close_steps}
 use Rattle.lpc_model.specs.Connect.{client_port, connect_start, connect_steps, connection_request, listen_steps}
 use Rattle.lpc_model.specs.Entering.{enter, received_steps, row_of}
-use Rattle.lpc_model.specs.Lines.{ScriptCall}
+use Rattle.lpc_model.specs.Lines.{ScriptCall, create_section, write_virtual_memory}
 use Rattle.lpc_model.specs.Request.{datagram_start, datagram_steps, given_reply, receive_steps, reply_test, request_start, request_steps, sent_by}
 use Rattle.lpc_model.proofs.Calls.Holding.{Holds, bind_holds, holds_ok}
-use Rattle.lpc_model.proofs.Calls.Outcomes.{Outcomes}
+use Rattle.lpc_model.proofs.Calls.Outcomes.{Outcomes, EndCall, end_call, of_process, of_thread}
 use Rattle.lpc_model.proofs.Steps.Ending.{answered_end, ending-enter, ending-receipt, handle-ending, is_ending, steps-end}
-use Rattle.lpc_isolation.proofs.Calls.Deeds.{served-does}
+use Rattle.lpc_isolation.proofs.Calls.Deeds.{served-does, memory-held}
 use Rattle.lpc_isolation.proofs.Gone.Served.{served}
 use Rattle.lpc_isolation.proofs.Views.Bytes.{is_byte_step}
 
 -- what a call writes where it is served
 abbrev pub written_by : World → ThreadRow → ScriptCall → List Basic
+written_by w by (create_section size prot) = AddsSection (new_section by size prot) ∷ []
+written_by w by (write_virtual_memory address new) = given (view_holding w by.process address (length new)) (λ v. Writes v.section (place_in v address) new ∷ [])
 written_by w by call = []
 
 -- Steps that change no bytes
@@ -65,8 +69,8 @@ module _ (w : World) (by : ThreadRow) where
     sends = λ handle bytes s at. let y = sent_by by DATAGRAM s.message in blank-none (datagram_steps by s.port s.queue y w) (enter-blank (row_of s.queue s.port y) (world_after w (datagram_start by)));
     asks = λ handle bytes s at. let y = sent_by by REQUEST s.message in blank-none (request_steps by s.port s.queue y w) (enter-blank (row_of s.queue s.port y) (world_after w (request_start by s.port.birth s.queue y)));
     replies = λ handle bytes port m x at read fits. refl;
-    receives = λ handle bytes a port queue replied m r at. blank-none (receive_steps by port queue replied (Some m)) (every-append is_blank replied _ (given port a replied r.reply_made) (taken-blank m));
-    awaits_message = λ handle bytes a port queue replied r at. blank-none (receive_steps by port queue replied None) (every-append is_blank replied _ (given port a replied r.reply_made) refl);
+    receives = λ handle bytes a port queue replied m r at. blank-none (receive_steps by port queue replied (Some m)) (every-append is_blank replied _ (replied-blank port a replied r.reply_made) (taken-blank m));
+    awaits_message = λ handle bytes a port queue replied r at. blank-none (receive_steps by port queue replied None) (every-append is_blank replied _ (replied-blank port a replied r.reply_made) refl);
     registers = λ handle port at new few. refl;
     repeats = λ handle port at known. refl;
     closes = λ handle r at. blank-none (close_steps by r w) (every-more is_ending is_blank ending-blank (close_handle by.process r w) (handle-ending by.process r w));
@@ -74,11 +78,25 @@ module _ (w : World) (by : ThreadRow) where
     queries = λ handle r at. refl;
     spawns = λ pid tid new unused. refl;
     starts = λ target tid pid at lives unused. refl;
-    ends = λ call name own pid code ts doomed. let bs = answered_end by name own pid code ts w in blank-none bs (every-more is_ending is_blank ending-blank bs (steps-end w by name own pid code ts));
+    makes_section = λ size prot asked. refl;
+    maps_view = λ handle offset size prot s rounded base is. refl;
+    unmaps_view = λ address v at. refl;
+    reads_memory = λ address n v at. refl;
+    writes_memory = λ address new v at may. wrote address new v at;
+    ends = λ call name own pid code ts doomed. let bs = answered_end by name own pid code ts w in blank-none bs (every-more is_ending is_blank ending-blank bs (steps-end w by name own pid code ts)) ∙ sym (ends-write call);
   }
     where
-      given : (port : PortRow) (a : Option Message) (replied : List Basic) → given_reply w port a ≡ Ok replied → AreBlank replied
-      given port a replied at = holds_ok AreBlank (given_reply w port a) replied (given-blank w port a) at
+      replied-blank : (port : PortRow) (a : Option Message) (replied : List Basic) → given_reply w port a ≡ Ok replied → AreBlank replied
+      replied-blank port a replied at = holds_ok AreBlank (given_reply w port a) replied (given-blank w port a) at
+
+      wrote : (address : ℕ) (new : List ℕ) (v : ViewRow) → memory_test w by address (length new) ≡ Ok v → which is_byte_step (write_steps by address new v) ≡ written_by w by (write_virtual_memory address new)
+      wrote address new v at =
+          let found : view_holding w by.process address (length new) ≡ Some v = holds_ok (λ v. view_holding w by.process address (length new) ≡ Some v) (memory_test w by address (length new)) v (memory-held w by address (length new)) at in
+          rw found refl
+
+      ends-write : (call : EndCall) → written_by w by (end_call call) ≡ []
+      ends-write (of_thread target code) = refl
+      ends-write (of_process target code) = refl
 
   pub writes : (call : ScriptCall) → Holds (λ bs. which is_byte_step bs ≡ written_by w by call) (served w by call)
   writes call = served-does w by (λ call bs. which is_byte_step bs ≡ written_by w by call) written-outcomes (λ handle r fields at. refl) call

@@ -3,9 +3,9 @@ use Rattle.std.proofs.Common.{◌≡◌, ℕ, ◌≤◌, List, [], ◌++◌, Boo
 use Rattle.lpc_model.specs.World.{Birth, Contents, Unknown, World, no_rows}
 use Rattle.lpc_model.specs.Lines.{ScriptLine}
 use Rattle.lpc_isolation.proofs.Gone.Served.{served_step}
-use Rattle.lpc_isolation.proofs.Gone.Sweeps.{served-firm, served-firm}
-use Rattle.lpc_model.specs.Circle.{Group, is_fine_line, is_seen, line_whose}
-use Rattle.lpc_isolation.proofs.Views.Alone.{HasFineRows, Secluded}
+use Rattle.lpc_isolation.proofs.Gone.ServedLines.{served-firm}
+use Rattle.lpc_model.specs.Circle.{Group, HasInnerViews, is_fine_line, is_seen, line_whose}
+use Rattle.lpc_isolation.proofs.Views.Alone.{HasFineRows}
 use Rattle.lpc_isolation.proofs.Gone.Bare.{BareIsolation, IsApartAt}
 use Rattle.lpc_isolation.proofs.Views.View.{view}
 use Rattle.lpc_isolation.proofs.Views.Bytes.{Agree, agree-right}
@@ -25,9 +25,9 @@ record StoodAll (m : Group) (c : ℕ) (outer : Birth → Bool) (w : World) (s : 
   stood : Stood m c w s
   agree : Agree m outer s.bytes w.contents
 
-keeps-view : (m : Group) (c : ℕ) (outer : Birth → Bool) → m c ≡ true → (w : World) (t : List Heard) (k : Contents) (line : ScriptLine) → StoodAll m c outer w (record { seen = view m w; memo = t; bytes = k }) → HasFineRows m c w → HasFineRows m c (served_step w line).world → Secluded m c outer (served_step w line).world
+keeps-view : (m : Group) (c : ℕ) (outer : Birth → Bool) → m c ≡ true → (w : World) (t : List Heard) (k : Contents) (line : ScriptLine) → StoodAll m c outer w (record { seen = view m w; memo = t; bytes = k }) → HasFineRows m c w → HasFineRows m c (served_step w line).world → HasInnerViews c outer (served_step w line).world
     → is_fine_line m c w line ≡ true → IsApartAt m outer w line → has_ids line ≡ true → Played (player m c) (StoodAll m c outer) m c w (record { seen = view m w; memo = t; bytes = k }) line
-keeps-view m c outer c_in w t k line all fine next secluded ok apart fits = at (is_seen m (line_whose w line)) refl
+keeps-view m c outer c_in w t k line all fine next inner ok apart fits = at (is_seen m (line_whose w line)) refl
   where
     st : Stood m c w (record { seen = view m w; memo = t; bytes = k })
     st = all.stood
@@ -49,7 +49,7 @@ keeps-view m c outer c_in w t k line all fine next secluded ok apart fits = at (
 
     stands : (v : State) → v.seen ≡ view m (served_step w line).world → AllKnown m v.memo (served_step w line).world → Agree m outer v.bytes (served_step w line).world.contents → StoodAll m c outer (served_step w line).world v
     stands v seen known agree = record {
-      stood = record { seen = seen; firm = served-firm w line st.firm; kept = n; known = known; right = agree-right m c outer (served_step w line).world v.bytes c_in n.fair secluded agree };
+      stood = record { seen = seen; firm = served-firm w line st.firm; kept = n; known = known; right = agree-right m c outer (served_step w line).world v.bytes c_in n.fair inner agree };
       agree = agree;
     }
 
@@ -72,9 +72,9 @@ keeps-view m c outer c_in w t k line all fine next secluded ok apart fits = at (
     })
 
 keeps-all : (m : Group) (c : ℕ) (outer : Birth → Bool) → m c ≡ true → Keeps (player m c) (StoodAll m c outer) has_ids m c outer
-keeps-all m c outer c_in w s line all fine next secluded ok apart fits =
+keeps-all m c outer c_in w s line all fine next inner ok apart fits =
     from (view m w) (sym all.stood.seen)
-    (keeps-view m c outer c_in w s.memo s.bytes line (record { stood = record { seen = refl; firm = all.stood.firm; kept = all.stood.kept; known = all.stood.known; right = all.stood.right }; agree = all.agree }) fine next secluded ok apart fits)
+    (keeps-view m c outer c_in w s.memo s.bytes line (record { stood = record { seen = refl; firm = all.stood.firm; kept = all.stood.kept; known = all.stood.known; right = all.stood.right }; agree = all.agree }) fine next inner ok apart fits)
   where
     from : (v : World) → v ≡ s.seen → Played (player m c) (StoodAll m c outer) m c w (record { seen = v; memo = s.memo; bytes = s.bytes }) line → Played (player m c) (StoodAll m c outer) m c w s line
     from v same p = subst (λ v. Played (player m c) (StoodAll m c outer) m c w (record { seen = v; memo = s.memo; bytes = s.bytes }) line) same p
@@ -100,7 +100,7 @@ stood_none m c = record {
     asked = record { sorts = refl; own = refl; one = none-once };
   };
   known = refl;
-  right = λ test v at mine. refl;
+  right = λ test v at. refl;
 }
 
 pub bare-isolation : BareIsolation

@@ -3,12 +3,12 @@ use Rattle.std.proofs.Common.{◌≡◌, ℕ, List, [], ◌∷◌, ◌++◌, Boo
 use Rattle.std.specs.Prelude.{◌&&◌, ◌||◌, ◌==◌, is_none, option_map, nat_lt}
 use Rattle.std.proofs.lemmas.Bool.{and_from, eqb-true}
 use Rattle.lpc_base.specs.Rows.{every, first, has, passes}
-use Rattle.lpc_base.proofs.RowWords.{every-append, every-change, every-more, every-push, every-which, every-without, first-kept, first-push}
-use Rattle.lpc_base.proofs.RowMaps.{every-both, every-change_to, every-map, every-without_first}
+use Rattle.lpc_base.proofs.RowWords.{every-append, every-change, every-more, every-push, every-which, every-without, first-kept, first-passes, first-push}
+use Rattle.lpc_base.proofs.RowMaps.{every-both, every-change_to, every-first, every-map, every-without_first}
 use Rattle.lpc_base.proofs.Bools.{first-true, same-number, second-true}
-use Rattle.lpc_model.specs.World.{Accepted, Birth, Connect, Creator, HandleRow, HandleTable, Listen, MessageRow, PortRow, ProcessRow, Receive, Request, ThreadRow, UsedThread, ViewRow, WaitKind, WaitRow, World}
-use Rattle.lpc_model.specs.Found.{has_value, is_client_port, is_connect, is_listen, is_own_of, is_port, is_queued, is_receive, is_server_port, is_table, is_thread, is_used_thread, is_view, is_view_in, same_birth, waits_as, waits_at}
-use Rattle.lpc_model.specs.Basics.{Accepts, AddsHandle, AddsProcess, AddsSection, AddsThread, Awaits, Basic, Binds, Completes, Cuts, DrawsIdentifier, DrawsOrdinal, DropsHandle, DropsViewsOf, Empties, Enters, Frees, Joins, Makes, Maps, Receives, Takes, TakesConnect, Tells, Unbinds, Unmaps, Wakes, Withdraws, Writes, accepted, accepted_as, basic, completed, cut, is_end_of, joined, no_handles, past_identifier, past_ordinal, received, used, with_handle, without_handle, world_after, Dies, Registers, Unregisters, ended, registering, unregistering}
+use Rattle.lpc_model.specs.World.{Accepted, Birth, Connect, Creator, HandleRow, HandleTable, Listen, MessageRow, PortRow, ProcessRow, Receive, Request, ThreadRow, UsedThread, ViewRow, ViewTable, WaitKind, WaitRow, World}
+use Rattle.lpc_model.specs.Found.{has_value, is_client_port, is_connect, is_listen, is_own_of, is_port, is_queued, is_receive, is_server_port, is_table, is_thread, is_space, is_used_thread, lies_at, same_birth, views_in, views_of, waits_as, waits_at}
+use Rattle.lpc_model.specs.Basics.{Accepts, AddsHandle, AddsProcess, AddsSection, AddsThread, Awaits, Basic, Binds, Completes, Cuts, DrawsIdentifier, DrawsOrdinal, DropsHandle, DropsViewsOf, Empties, Enters, Frees, Joins, Makes, Maps, Receives, Takes, TakesConnect, Tells, Unbinds, Unmaps, Wakes, Withdraws, Writes, accepted, accepted_as, basic, completed, cut, is_end_of, joined, no_handles, no_views, past_identifier, past_ordinal, received, used, with_handle, with_view, without_handle, without_view, without_views, world_after, Dies, Registers, Unregisters, ended, registering, unregistering}
 use Rattle.lpc_model.specs.Circle.{Group, owner}
 use Rattle.lpc_isolation.proofs.Views.View.{of_birth}
 
@@ -91,10 +91,13 @@ abbrev pub is_created : List UsedThread → PortRow → Bool
 is_created used p = all_of p.creator (λ by. (by.client.process == p.birth.process) && passes (first (is_used_thread by.client.thread) used) (λ u. u.process == by.client.process))
 
 -- Views of c's are of members' sections, and views of its sections are members'. A view's owner is a port of its process.
-abbrev pub is_fair_view : Group → ℕ → ViewRow → Bool
-is_fair_view m c v =
-    implies (v.process == c) (m v.section.process)
-    && (implies (v.section.process == c) (m v.process) && all_of v.owner (λ (b : Birth). b.process == v.process))
+abbrev pub is_fair_view : Group → ℕ → ℕ → ViewRow → Bool
+is_fair_view m c pid v =
+    implies (pid == c) (m v.section.process)
+    && (implies (v.section.process == c) (m pid) && all_of v.owner (λ (b : Birth). b.process == pid))
+
+abbrev pub is_fair_space : Group → ℕ → ViewTable → Bool
+is_fair_space m c t = every (is_fair_view m c t.process) t.rows
 
 pub record Fair (m : Group) (c : ℕ) (w : World) : Type 0 where
   pub tables : every is_fair_table w.handles ≡ true
@@ -107,7 +110,7 @@ pub record Fair (m : Group) (c : ℕ) (w : World) : Type 0 where
   pub registrations : every is_fair_thread w.threads ≡ true
   pub processes : every (is_fair_process m) w.processes ≡ true
   pub lives : every (is_fair_life m) w.threads ≡ true
-  pub views : every (is_fair_view m c) w.views ≡ true
+  pub views : every (is_fair_space m c) w.views ≡ true
 
 -- what a step must be, so that it stays so
 abbrev pub is_server_at : Birth → PortRow → Bool
@@ -147,7 +150,7 @@ is_fair_step m c w (DropsHandle pid value) = true
 is_fair_step m c w (Binds path node) = true
 is_fair_step m c w (AddsSection s) = true
 is_fair_step m c w (Writes b place new) = true
-is_fair_step m c w (Maps v) = is_fair_view m c v
+is_fair_step m c w (Maps pid v) = is_fair_view m c pid v
 is_fair_step m c w (Unmaps pid base) = true
 is_fair_step m c w (DropsViewsOf pid) = true
 
@@ -167,6 +170,9 @@ with-handle pid h own t is its =
     let same : t.process ≡ pid = eqb-true _ _ its in
     every-append (is_own t.process) _ _ (every-which (is_own t.process) (λ r. nat_lt r.value h.value) t.rows is)
     (and_from _ _ (rw same own) (every-which (is_own t.process) (λ r. nat_lt h.value r.value) t.rows is))
+
+with-view : (m : Group) (c pid : ℕ) (v : ViewRow) → is_fair_view m c pid v ≡ true → (t : ViewTable) → is_fair_space m c t ≡ true → is_space pid t ≡ true → is_fair_space m c (with_view v t) ≡ true
+with-view m c pid v ok t is its = every-push (is_fair_view m c t.process) t.rows v is (subst (λ n. is_fair_view m c n v ≡ true) (sym (eqb-true t.process pid its)) ok)
 
 joined-fair : (m : Group) (c : ℕ) (client server : Birth) (context : ℕ) → implies (m client.process) (m server.process) ≡ true → implies (server.process == c) (m client.process) ≡ true → (p : PortRow) → (is_no_server_at client p && is_server_at server p) ≡ true → is_fair_port m c p ≡ true → is_fair_port m c (joined client server context p) ≡ true
 joined-fair m c client server context one two p kinds is = at (is_port client p) (is_port server p) refl refl
@@ -287,7 +293,7 @@ keeps-fair m c w (Registers who b) ok f = record {
       (every-both (is_homed w.used_threads) is_fair_thread _ (λ t one two. and_from _ _ one two) w.threads f.threads f.registrations);
 }
 keeps-fair m c w (Unregisters who b) ok f = record { tables = f.tables; ports = f.ports; messages = f.messages; waits = f.waits; threads = every-change (is_homed w.used_threads) (is_thread who) (unregistering b) (λ t is. is) w.threads f.threads; senders = f.senders; creators = f.creators; registrations = every-change is_fair_thread (is_thread who) (unregistering b) (λ t is. every-without (λ c. c.process == t.process) (same_birth b) t.registrations is) w.threads f.registrations; processes = f.processes; lives = every-change (is_fair_life m) (is_thread who) (unregistering b) (λ t is. is) w.threads f.lives; views = f.views }
-keeps-fair m c w (AddsProcess p) ok f = record { tables = every-push is_fair_table w.handles (no_handles p.number) f.tables refl; ports = f.ports; messages = f.messages; waits = f.waits; threads = f.threads; senders = f.senders; creators = f.creators; registrations = f.registrations; processes = every-push (is_fair_process m) w.processes p f.processes ok; lives = f.lives; views = f.views }
+keeps-fair m c w (AddsProcess p) ok f = record { tables = every-push is_fair_table w.handles (no_handles p.number) f.tables refl; ports = f.ports; messages = f.messages; waits = f.waits; threads = f.threads; senders = f.senders; creators = f.creators; registrations = f.registrations; processes = every-push (is_fair_process m) w.processes p f.processes ok; lives = f.lives; views = every-push (is_fair_space m c) w.views (no_views p.number) f.views refl }
 keeps-fair m c w (AddsThread t) ok f = record {
   views = f.views;
   processes = f.processes;
@@ -329,9 +335,17 @@ keeps-fair m c w (Unbinds b) ok f = record { tables = f.tables; ports = f.ports;
 keeps-fair m c w (DropsHandle pid value) ok f = record { tables = every-change is_fair_table (is_table pid) (without_handle value) (λ t is. every-without_first (is_own t.process) (has_value value) t.rows is) w.handles f.tables; ports = f.ports; messages = f.messages; waits = f.waits; threads = f.threads; senders = f.senders; creators = f.creators; registrations = f.registrations; processes = f.processes; lives = f.lives; views = f.views }
 keeps-fair m c w (AddsSection s) ok f = record { tables = f.tables; ports = f.ports; messages = f.messages; waits = f.waits; threads = f.threads; senders = f.senders; creators = f.creators; registrations = f.registrations; processes = f.processes; lives = f.lives; views = f.views }
 keeps-fair m c w (Writes b place new) ok f = record { tables = f.tables; ports = f.ports; messages = f.messages; waits = f.waits; threads = f.threads; senders = f.senders; creators = f.creators; registrations = f.registrations; processes = f.processes; lives = f.lives; views = f.views }
-keeps-fair m c w (Maps v) ok f = record { tables = f.tables; ports = f.ports; messages = f.messages; waits = f.waits; threads = f.threads; senders = f.senders; creators = f.creators; registrations = f.registrations; processes = f.processes; lives = f.lives; views = every-push (is_fair_view m c) w.views v f.views ok }
-keeps-fair m c w (Unmaps pid base) ok f = record { tables = f.tables; ports = f.ports; messages = f.messages; waits = f.waits; threads = f.threads; senders = f.senders; creators = f.creators; registrations = f.registrations; processes = f.processes; lives = f.lives; views = every-without (is_fair_view m c) (is_view pid base) w.views f.views }
-keeps-fair m c w (DropsViewsOf pid) ok f = record { tables = f.tables; ports = f.ports; messages = f.messages; waits = f.waits; threads = f.threads; senders = f.senders; creators = f.creators; registrations = f.registrations; processes = f.processes; lives = f.lives; views = every-without (is_fair_view m c) (is_view_in pid) w.views f.views }
+keeps-fair m c w (Maps pid v) ok f = record { tables = f.tables; ports = f.ports; messages = f.messages; waits = f.waits; threads = f.threads; senders = f.senders; creators = f.creators; registrations = f.registrations; processes = f.processes; lives = f.lives; views = every-change_to (is_fair_space m c) (is_fair_space m c) (is_space pid) (with_view v) (λ t is its. with-view m c pid v ok t is its) (λ t is off. is) w.views f.views }
+keeps-fair m c w (Unmaps pid base) ok f = record { tables = f.tables; ports = f.ports; messages = f.messages; waits = f.waits; threads = f.threads; senders = f.senders; creators = f.creators; registrations = f.registrations; processes = f.processes; lives = f.lives; views = every-change (is_fair_space m c) (is_space pid) (without_view base) (λ t is. every-without (is_fair_view m c t.process) (lies_at base) t.rows is) w.views f.views }
+keeps-fair m c w (DropsViewsOf pid) ok f = record { tables = f.tables; ports = f.ports; messages = f.messages; waits = f.waits; threads = f.threads; senders = f.senders; creators = f.creators; registrations = f.registrations; processes = f.processes; lives = f.lives; views = every-change (is_fair_space m c) (is_space pid) without_views (λ t is. refl) w.views f.views }
+
+-- the views of one process
+pub views-fair : (m : Group) (c : ℕ) (w : World) (pid : ℕ) → Fair m c w → every (is_fair_view m c pid) (views_of w pid) ≡ true
+views-fair m c w pid f = at (first (is_space pid) w.views) refl
+  where
+    at : (o : Option ViewTable) → first (is_space pid) w.views ≡ o → every (is_fair_view m c pid) (views_in o) ≡ true
+    at None none = refl
+    at (Some t) some = subst (λ n. every (is_fair_view m c n) t.rows ≡ true) (eqb-true t.process pid (first-passes (is_space pid) w.views t some)) (every-first (is_fair_space m c) (is_space pid) w.views t f.views some)
 
 abbrev pub are_fair : Group → ℕ → World → List Basic → Bool
 are_fair m c w [] = true

@@ -68,7 +68,11 @@ bound-law by = record {
   closes = λ w pid r at s _. ended-bound w (close_handle pid r w) (handle-ending pid r w);
   dies = λ w code t is. ended-bound w (die code t w) (die-ending code t w);
   leaves = λ w n b once. once;
-  unmaps = λ w pid once. once;
+  vacates = λ w pid once. once;
+  builds = λ w size prot asked once. once;
+  maps = λ w handle offset size prot s rounded base is once. once;
+  unmaps = λ w pid base once. once;
+  writes = λ w b place new once. once;
 }
 
 pub bound-call : (m : Group) (c : ℕ) (w : World) (by : ThreadRow) (known : List ℕ → Birth) (call : ScriptCall) → At m c w by known → Holds (λ bs. OnceBound (world_after w bs).bindings) (served w by call)

@@ -1,9 +1,10 @@
--- Short words for the law's proof: a process alone, and what the circle says of a world's processes, ports and views.
-use Rattle.std.specs.Prelude.{◌≡◌, ℕ, ◌==◌, Bool, List, cond, true}
+-- Short words for the law's proof: a process alone, and what the circle says of a world's processes and ports and of what
+-- outsiders write.
+use Rattle.std.specs.Prelude.{◌≡◌, ℕ, ◌==◌, Bool, List, true}
 use Rattle.lpc_base.specs.Rows.{every, has}
-use Rattle.lpc_model.specs.World.{Birth, ViewRow, World}
+use Rattle.lpc_model.specs.World.{Birth, World}
 use Rattle.lpc_model.specs.Basics.{Basic}
-use Rattle.lpc_model.specs.Circle.{Group, is_fine_port, is_fine_process, is_inner_view, is_write_of}
+use Rattle.lpc_model.specs.Circle.{Group, is_fine_port, is_fine_process, is_write_of}
 
 -- the group of one process
 abbrev pub alone : ℕ → Group
@@ -13,13 +14,6 @@ alone c = λ p. p == c
 abbrev pub HasFineRows : Group → ℕ → World → Type 0
 HasFineRows group c w = (every (is_fine_process group) w.processes ≡ true) × (every (is_fine_port group c) w.ports ≡ true)
 
--- what it says of the views: outsiders have views of outer sections alone, and c has none of these
-abbrev pub is_secluded_view : Group → ℕ → (Birth → Bool) → ViewRow → Bool
-is_secluded_view m c outer v = cond (m v.process) (is_inner_view c outer v) (outer v.section)
-
-abbrev pub Secluded : Group → ℕ → (Birth → Bool) → World → Type 0
-Secluded m c outer w = every (is_secluded_view m c outer) w.views ≡ true
-
--- and of what an outsider's steps write: it is outer
+-- what an outsider's steps write is outer
 abbrev pub WritesOuter : (Birth → Bool) → List Basic → Type 0
 WritesOuter outer bs = (b : Birth) → has (is_write_of b) bs ≡ true → outer b ≡ true

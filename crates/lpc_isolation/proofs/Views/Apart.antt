@@ -82,7 +82,7 @@ is_apart m c u d w (Unbinds b) = not (sees m w (Unbinds b))
 is_apart m c u d w (DropsHandle pid value) = not (sees m w (DropsHandle pid value))
 is_apart m c u d w (AddsSection s) = not (sees m w (AddsSection s))
 is_apart m c u d w (Writes b place new) = not (sees m w (Writes b place new))
-is_apart m c u d w (Maps v) = not (sees m w (Maps v))
+is_apart m c u d w (Maps pid v) = not (sees m w (Maps pid v))
 is_apart m c u d w (Unmaps pid base) = not (sees m w (Unmaps pid base))
 is_apart m c u d w (DropsViewsOf pid) = not (sees m w (DropsViewsOf pid))
 

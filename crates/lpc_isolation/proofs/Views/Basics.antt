@@ -9,12 +9,12 @@ use Rattle.lpc_base.proofs.Bools.{first-true, second-true}
 use Rattle.lpc_names.specs.Binding.{is_name}
 use Rattle.lpc_names.specs.Walk.{LinkTo, Stands}
 use Rattle.lpc_names.specs.declared.names.Found.TheVariants.{Directory, Item}
-use Rattle.lpc_model.specs.World.{Birth, HandleTable, MessageRow, Node, Path, PortRow, ViewRow, World}
-use Rattle.lpc_model.specs.Found.{is_own_of, is_the, same_birth, is_port, is_queued, is_queued_connect, is_table, is_thread, is_view, is_view_in, waits_as, waits_at}
-use Rattle.lpc_model.specs.Basics.{Accepts, AddsHandle, AddsProcess, AddsSection, AddsThread, Awaits, Basic, Binds, Completes, Cuts, DrawsIdentifier, DrawsOrdinal, DropsHandle, DropsViewsOf, Empties, Enters, Frees, Joins, Makes, Maps, Receives, Takes, TakesConnect, Tells, Unbinds, Unmaps, Wakes, Withdraws, Writes, accepted, basic, completed, cut, is_end_of, joined, no_handles, past_identifier, past_ordinal, received, used, with_handle, without_handle, world_after, Dies, Registers, Unregisters, ended, registering, unregistering}
+use Rattle.lpc_model.specs.World.{Birth, HandleTable, MessageRow, Node, Path, PortRow, ViewRow, ViewTable, World}
+use Rattle.lpc_model.specs.Found.{is_own_of, is_the, same_birth, is_port, is_queued, is_queued_connect, is_space, is_table, is_thread, lies_at, waits_as, waits_at}
+use Rattle.lpc_model.specs.Basics.{Accepts, AddsHandle, AddsProcess, AddsSection, AddsThread, Awaits, Basic, Binds, Completes, Cuts, DrawsIdentifier, DrawsOrdinal, DropsHandle, DropsViewsOf, Empties, Enters, Frees, Joins, Makes, Maps, Receives, Takes, TakesConnect, Tells, Unbinds, Unmaps, Wakes, Withdraws, Writes, accepted, basic, completed, cut, is_end_of, joined, no_handles, no_views, past_identifier, past_ordinal, received, used, with_handle, with_view, without_handle, without_view, without_views, world_after, Dies, Registers, Unregisters, ended, registering, unregistering}
 use Rattle.lpc_model.specs.Circle.{Group}
-use Rattle.lpc_isolation.proofs.Views.Filters.{kept-change, kept-push, kept-push_out, kept-without_out, kept-without_first, kept-without_first_out, shown, shown-change, shown-map, shown-push, shown-push_out, shown-change_out, shown-map_out, shown-without, shown-without_out, kept-change_out}
-use Rattle.lpc_isolation.proofs.Views.View.{of_birth, our_binding, our_message, our_node, our_port, our_process, our_section, our_table, our_thread, our_used, our_view, our_wait, hidden_section, seen_port, seen_view, view}
+use Rattle.lpc_isolation.proofs.Views.Filters.{kept-change, kept-push, kept-push_out, kept-without_out, kept-without_first, kept-without_first_out, shown, shown-change, shown-map, shown-push, shown-push_out, shown-change_out, shown-map_out, kept-change_out, mapped-without}
+use Rattle.lpc_isolation.proofs.Views.View.{of_birth, our_binding, our_message, our_node, our_port, our_process, our_section, our_space, our_table, our_thread, our_used, our_wait, hidden_section, seen_port, seen_space, seen_view, view}
 
 -- a thread's wait is in the view, and so is its row
 abbrev pub sees_wait : Group → World → ℕ → Bool
@@ -60,7 +60,7 @@ sees m w (Unbinds b) = m b.process
 sees m w (DropsHandle pid value) = m pid
 sees m w (AddsSection s) = m s.birth.process
 sees m w (Writes b place new) = false
-sees m w (Maps v) = m v.process
+sees m w (Maps pid v) = m pid
 sees m w (Unmaps pid base) = m pid
 sees m w (DropsViewsOf pid) = m pid
 
@@ -94,7 +94,7 @@ is_regular m w (Unbinds b) = true
 is_regular m w (DropsHandle pid value) = true
 is_regular m w (AddsSection s) = true
 is_regular m w (Writes b place new) = true
-is_regular m w (Maps v) = not (m v.process) || m v.section.process
+is_regular m w (Maps pid v) = not (m pid) || m v.section.process
 is_regular m w (Unmaps pid base) = true
 is_regular m w (DropsViewsOf pid) = true
 
@@ -161,7 +161,7 @@ is_ours m w (Unbinds b) = true
 is_ours m w (DropsHandle pid value) = true
 is_ours m w (AddsSection s) = m s.birth.process
 is_ours m w (Writes b place new) = true
-is_ours m w (Maps v) = m v.process
+is_ours m w (Maps pid v) = m pid
 is_ours m w (Unmaps pid base) = true
 is_ours m w (DropsViewsOf pid) = true
 
@@ -201,25 +201,25 @@ shown-cut : (m : Group) (b : Birth) → m b.process ≡ true → (ps : List Port
 shown-cut m b is ps = shown-map (our_port m) (seen_port m) (cut_if b) (cut_if b) (cut-birth m b) (λ p kept. cut-seen m b p is) ps
 
 -- Views
-own-view : (m : Group) (v : ViewRow) → m v.process ≡ true → (not (m v.process) || m v.section.process) ≡ true → seen_view m v ≡ v
-own-view m v is ok = let inside : m v.section.process ≡ true = grind arith in rw inside refl
+own-view : (m : Group) (v : ViewRow) → m v.section.process ≡ true → seen_view m v ≡ v
+own-view m v inside = rw inside refl
 
-view-same : (m : Group) (pid base : ℕ) (v : ViewRow) → is_view pid base (seen_view m v) ≡ is_view pid base v
-view-same m pid base v = at (m v.section.process)
+base-same : (m : Group) (base : ℕ) (v : ViewRow) → lies_at base (seen_view m v) ≡ lies_at base v
+base-same m base v = at (m v.section.process)
   where
-    at : (e : Bool) → is_view pid base (cond e v (record v { section = hidden_section v.section; offset = 0 })) ≡ is_view pid base v
+    at : (e : Bool) → lies_at base (cond e v (record v { section = hidden_section v.section; offset = 0 })) ≡ lies_at base v
     at true = refl
     at false = refl
 
-home-same : (m : Group) (pid : ℕ) (v : ViewRow) → is_view_in pid (seen_view m v) ≡ is_view_in pid v
-home-same m pid v = at (m v.section.process)
-  where
-    at : (e : Bool) → is_view_in pid (cond e v (record v { section = hidden_section v.section; offset = 0 })) ≡ is_view_in pid v
-    at true = refl
-    at false = refl
+-- one more, of a member's section; and without one
+more-seen : (m : Group) (v : ViewRow) → m v.section.process ≡ true → (t : ViewTable) → seen_space m (with_view v t) ≡ with_view v (seen_space m t)
+more-seen m v inside t = ap (λ rows. record t { rows = rows }) (push-map (seen_view m) t.rows v ∙ ap (λ x. map (seen_view m) t.rows ++ x ∷ []) (own-view m v inside))
 
-home-out : (m : Group) (pid : ℕ) → m pid ≡ false → (v : ViewRow) → is_view_in pid v ≡ true → our_view m v ≡ false
-home-out m pid out v is = ap m (eqb-true _ _ is) ∙ out
+less-seen : (m : Group) (base : ℕ) (t : ViewTable) → seen_space m (without_view base t) ≡ without_view base (seen_space m t)
+less-seen m base t = ap (λ rows. record t { rows = rows }) (mapped-without (lies_at base) (seen_view m) (base-same m base) t.rows)
+
+mapped-inside : (m : Group) (pid : ℕ) (v : ViewRow) → m pid ≡ true → (not (m pid) || m v.section.process) ≡ true → m v.section.process ≡ true
+mapped-inside m pid v is ok = grind arith
 
 -- such a step does to the view what it does to the world
 pub basic-ours : (m : Group) (w : World) (b : Basic) → is_ours m w b ≡ true → is_regular m w b ≡ true → view m (basic w b) ≡ basic (view m w) b
@@ -237,7 +237,7 @@ basic-ours m w (DrawsOrdinal who) is ok = rw (kept-change (our_thread m) (is_thr
 basic-ours m w (Dies who status) is ok = rw (kept-change (our_thread m) (is_thread who) ended (λ t. refl) w.threads, which-without (our_wait m) (waits_as who) w.waits) refl
 basic-ours m w (Registers who b) is ok = rw (kept-change (our_thread m) (is_thread who) (registering b) (λ t. refl) w.threads) refl
 basic-ours m w (Unregisters who b) is ok = rw (kept-change (our_thread m) (is_thread who) (unregistering b) (λ t. refl) w.threads) refl
-basic-ours m w (AddsProcess p) is ok = rw (kept-push (our_process m) w.processes p is, kept-push m w.used_processes p.number is, kept-push (our_table m) w.handles (no_handles p.number) is) refl
+basic-ours m w (AddsProcess p) is ok = rw (kept-push (our_process m) w.processes p is, kept-push m w.used_processes p.number is, kept-push (our_table m) w.handles (no_handles p.number) is, shown-push (our_space m) (seen_space m) w.views (no_views p.number) is) refl
 basic-ours m w (AddsThread t) is ok = rw (kept-push (our_thread m) w.threads t is, kept-push (our_used m) w.used_threads (used t) is) refl
 basic-ours m w (Makes p) is ok = rw (shown-push (our_port m) (seen_port m) w.ports p is, new-port m p ok) refl
 basic-ours m w (Joins client server context) is ok = rw (shown-map (our_port m) (seen_port m) (joined client server context) (joined client server context) (joined-birth m client server context) (λ p kept. joined-seen m client server context (first-true _ _ is) (second-true _ _ is) p) w.ports) refl
@@ -251,9 +251,9 @@ basic-ours m w (Unbinds b) is ok = rw (which-without (our_binding m) (is_name sa
 basic-ours m w (DropsHandle pid value) is ok = rw (kept-change (our_table m) (is_table pid) (without_handle value) (λ t. refl) w.handles) refl
 basic-ours m w (AddsSection s) is ok = rw (kept-push (our_section m) w.sections s is) refl
 basic-ours m w (Writes b place new) is ok = refl
-basic-ours m w (Maps v) is ok = rw (shown-push (our_view m) (seen_view m) w.views v is, own-view m v is ok) refl
-basic-ours m w (Unmaps pid base) is ok = rw (shown-without (our_view m) (is_view pid base) (seen_view m) (view-same m pid base) w.views) refl
-basic-ours m w (DropsViewsOf pid) is ok = rw (shown-without (our_view m) (is_view_in pid) (seen_view m) (home-same m pid) w.views) refl
+basic-ours m w (Maps pid v) is ok = rw (shown-change (our_space m) (is_space pid) (seen_space m) (with_view v) (λ t. refl) (λ t. refl) (more-seen m v (mapped-inside m pid v is ok)) w.views) refl
+basic-ours m w (Unmaps pid base) is ok = rw (shown-change (our_space m) (is_space pid) (seen_space m) (without_view base) (λ t. refl) (λ t. refl) (less-seen m base) w.views) refl
+basic-ours m w (DropsViewsOf pid) is ok = rw (shown-change (our_space m) (is_space pid) (seen_space m) without_views (λ t. refl) (λ t. refl) (λ t. refl) w.views) refl
 
 -- Unseen steps
 joined-out : (m : Group) (client server : Birth) (context : ℕ) → m client.process ≡ false → m server.process ≡ false → (p : PortRow) → our_port m p ≡ true → seen_port m (joined client server context p) ≡ seen_port m p
@@ -302,6 +302,9 @@ named-out m b out p is = of_birth m p.birth b is ∙ out
 table-out : (m : Group) (pid : ℕ) → m pid ≡ false → (t : HandleTable) → is_table pid t ≡ true → our_table m t ≡ false
 table-out m pid out t is = ap m (eqb-true _ _ is) ∙ out
 
+space-out : (m : Group) (pid : ℕ) → m pid ≡ false → (t : ViewTable) → is_space pid t ≡ true → our_space m t ≡ false
+space-out m pid out t is = ap m (eqb-true _ _ is) ∙ out
+
 queued-out : (m : Group) (q : Birth) → m q.process ≡ false → (x : MessageRow) → is_queued q x ≡ true → our_message m x ≡ false
 queued-out m q out x is = let x_out : m x.queue.process ≡ false = of_birth m x.queue q is ∙ out in grind arith
 
@@ -345,7 +348,7 @@ basic-unseen m w (DrawsOrdinal who) out ok = rw (kept-change (our_thread m) (is_
 basic-unseen m w (Dies who status) out ok = rw (kept-change (our_thread m) (is_thread who) ended (λ t. refl) w.threads, change-none (is_thread who) ended (which (our_thread m) w.threads) (or_parts (sees_wait m w who) (sees_thread m w who) out).1, which-without (our_wait m) (waits_as who) w.waits, without-none (waits_as who) (which (our_wait m) w.waits) (or_parts (sees_wait m w who) (sees_thread m w who) out).0) refl
 basic-unseen m w (Registers who b) out ok = rw (kept-change (our_thread m) (is_thread who) (registering b) (λ t. refl) w.threads, change-none (is_thread who) (registering b) (which (our_thread m) w.threads) out) refl
 basic-unseen m w (Unregisters who b) out ok = rw (kept-change (our_thread m) (is_thread who) (unregistering b) (λ t. refl) w.threads, change-none (is_thread who) (unregistering b) (which (our_thread m) w.threads) out) refl
-basic-unseen m w (AddsProcess p) out ok = rw (kept-push_out (our_process m) w.processes p out, kept-push_out m w.used_processes p.number out, kept-push_out (our_table m) w.handles (no_handles p.number) out) refl
+basic-unseen m w (AddsProcess p) out ok = rw (kept-push_out (our_process m) w.processes p out, kept-push_out m w.used_processes p.number out, kept-push_out (our_table m) w.handles (no_handles p.number) out, shown-push_out (our_space m) (seen_space m) w.views (no_views p.number) out) refl
 basic-unseen m w (AddsThread t) out ok = rw (kept-push_out (our_thread m) w.threads t out, kept-push_out (our_used m) w.used_threads (used t) out) refl
 basic-unseen m w (Makes p) out ok = rw (shown-push_out (our_port m) (seen_port m) w.ports p out) refl
 basic-unseen m w (Joins client server context) out ok = rw (joins-unseen m w client server context (m client.process) (m server.process) refl refl out ok) refl
@@ -359,9 +362,9 @@ basic-unseen m w (Unbinds b) out ok = rw (kept-without_out (our_binding m) (is_n
 basic-unseen m w (DropsHandle pid value) out ok = rw (kept-change_out (our_table m) (is_table pid) (without_handle value) (λ t. refl) (table-out m pid out) w.handles) refl
 basic-unseen m w (AddsSection s) out ok = rw (kept-push_out (our_section m) w.sections s out) refl
 basic-unseen m w (Writes b place new) out ok = refl
-basic-unseen m w (Maps v) out ok = rw (shown-push_out (our_view m) (seen_view m) w.views v out) refl
-basic-unseen m w (Unmaps pid base) out ok = rw (shown-without_out (our_view m) (is_view pid base) (seen_view m) (λ v is. home-out m pid out v (first-true _ _ is)) w.views) refl
-basic-unseen m w (DropsViewsOf pid) out ok = rw (shown-without_out (our_view m) (is_view_in pid) (seen_view m) (home-out m pid out) w.views) refl
+basic-unseen m w (Maps pid v) out ok = rw (shown-change_out (our_space m) (is_space pid) (seen_space m) (with_view v) (λ t. refl) (space-out m pid out) w.views) refl
+basic-unseen m w (Unmaps pid base) out ok = rw (shown-change_out (our_space m) (is_space pid) (seen_space m) (without_view base) (λ t. refl) (space-out m pid out) w.views) refl
+basic-unseen m w (DropsViewsOf pid) out ok = rw (shown-change_out (our_space m) (is_space pid) (seen_space m) without_views (λ t. refl) (space-out m pid out) w.views) refl
 
 -- Lists of steps
 -- steps that are all members'

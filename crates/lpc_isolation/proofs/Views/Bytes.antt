@@ -1,6 +1,8 @@
 -- The bytes of sections: what steps do to them, and what of them is known from the inputs.
-use Rattle.std.proofs.Common.{◌≡◌, ℕ, List, [], ◌∷◌, ◌++◌, Bool, true, false, cond, not, Option, Some, None, refl, ap, sym, subst, ◌∙◌, arith}
-use Rattle.std.specs.Prelude.{◌==◌, ◌||◌, option_map}
+use Rattle.lpc_base.proofs.RowWords.{first-kept}
+use Rattle.lpc_model.specs.Memory.{place_in}
+use Rattle.std.proofs.Common.{◌≡◌, ℕ, List, [], ◌∷◌, ◌++◌, Bool, true, false, not, Option, Some, None, refl, ap, sym, subst, ◌∙◌, arith, ◌+◌}
+use Rattle.std.specs.Prelude.{◌==◌, ◌||◌, option_map, ◌-◌}
 use Rattle.std.proofs.lemmas.Bool.{false_from_ne_true, not-true}
 use Rattle.lpc_base.specs.Rows.{change, first, has, which, without}
 use Rattle.lpc_base.proofs.RowMaps.{every-first}
@@ -9,14 +11,14 @@ use Rattle.lpc_base.proofs.Births.{birth-same, birth-self}
 use Rattle.lpc_model.specs.declared.entry.ObjectKind.{ObjectKind}
 use Rattle.lpc_model.specs.declared.entry.ObjectKind.TheVariants as kind
 use Rattle.lpc_model.specs.World.{Birth, ContentRow, Contents, Known, SectionRow, Unknown, ViewRow, World}
-use Rattle.lpc_model.specs.Found.{is_content, same_birth}
-use Rattle.lpc_model.specs.Basics.{AddsSection, Basic, Frees, Writes, basic, freed, in_known, world_after, written, zeros}
-use Rattle.lpc_model.specs.Circle.{Group, Whose, is_write_of}
-use Rattle.lpc_isolation.proofs.Views.Alone.{Secluded, WritesOuter, is_secluded_view}
+use Rattle.lpc_model.specs.Found.{is_content, same_birth, views_of}
+use Rattle.lpc_model.specs.Basics.{AddsSection, Basic, Frees, Writes, basic, freed, in_known, world_after, written, zeros, overwritten}
+use Rattle.lpc_model.specs.Circle.{Group, HasInnerViews, Whose, is_inner_view, is_write_of}
+use Rattle.lpc_isolation.proofs.Views.Alone.{WritesOuter}
 use Rattle.lpc_isolation.proofs.Views.Filters.{first-push_off}
-use Rattle.lpc_isolation.proofs.Views.View.{of_birth}
+use Rattle.lpc_isolation.proofs.Views.View.{of_birth, hidden_section, seen_view}
 use Rattle.lpc_isolation.proofs.Views.Apart.{are_apart, is_apart}
-use Rattle.lpc_isolation.proofs.Rows.Fair.{Fair, is_fair_view}
+use Rattle.lpc_isolation.proofs.Rows.Fair.{Fair, is_fair_view, views-fair}
 
 -- What steps do to bytes
 abbrev freed_bytes : Contents → ObjectKind → Birth → Contents
@@ -91,7 +93,7 @@ Agree m outer k w = (is_known k ≡ true) × (is_known w ≡ true) × ((b : Birt
 
 -- the bytes of each section that a view of c's shows are those of the world
 abbrev pub Right : ℕ → Contents → World → Type 0
-Right c k w = (test : ViewRow → Bool) (v : ViewRow) → first test w.views ≡ Some v → v.process ≡ c → held_bytes k v.section ≡ held_bytes w.contents v.section
+Right c k w = (test : ViewRow → Bool) (v : ViewRow) → first test (views_of w c) ≡ Some v → held_bytes k v.section ≡ held_bytes w.contents v.section
 
 known-in : (f : List ContentRow → List ContentRow) (k : Contents) → is_known (in_known f k) ≡ is_known k
 known-in f Unknown = refl
@@ -156,17 +158,85 @@ agree-outside m c u d outer k w (b ∷ bs) apart writes a =
     agree-outside m c u d outer k (basic w b) bs (second-true _ _ apart) (λ s is. writes s (has-later s b bs is))
     (subst (Agree m outer k) (sym (step-contents w b)) (step-outside m c u d outer k w b (first-true _ _ (first-true _ _ apart)) (λ s is. writes s (has-here s b bs is)) a))
 
+-- A member's steps
+pushed : {X Y : Type 0} (p : X → Bool) (f : X → Y) (xs ys : List X) (z : X) → option_map f (first p xs) ≡ option_map f (first p ys) → option_map f (first p (xs ++ z ∷ [])) ≡ option_map f (first p (ys ++ z ∷ []))
+pushed {X} {Y} p f xs ys z same = by (first p xs) (first p ys) refl refl same
+  where
+    by : (a b : Option X) → first p xs ≡ a → first p ys ≡ b → option_map f a ≡ option_map f b → option_map f (first p (xs ++ z ∷ [])) ≡ option_map f (first p (ys ++ z ∷ []))
+    by None None one two same = ap (option_map f) (behind xs one ∙ sym (behind ys two))
+      where
+        behind : (xs : List X) → first p xs ≡ None → first p (xs ++ z ∷ []) ≡ first p (z ∷ [])
+        behind [] none = refl
+        behind (x ∷ xs) none = grind (arith, behind xs)
+    by None (Some y) one two same = absurd (cc)
+    by (Some x) None one two same = absurd (cc)
+    by (Some x) (Some y) one two same = ap (option_map f) (first-kept p xs z x one) ∙ same ∙ sym (ap (option_map f) (first-kept p ys z y two))
+
+add-same : (k w : Contents) (s : SectionRow) (d : Birth) → is_known k ≡ true → is_known w ≡ true → held_bytes k d ≡ held_bytes w d → held_bytes (contents_step k (AddsSection s)) d ≡ held_bytes (contents_step w (AddsSection s)) d
+add-same Unknown w s d one two same = absurd (cc)
+add-same (Known rows) Unknown s d one two same = absurd (cc)
+add-same (Known rows) (Known others) s d one two same = pushed (is_content d) (λ (c : ContentRow). c.bytes) rows others (zeros s) same
+
+change-here : (b : Birth) (f : ContentRow → ContentRow) → ((c : ContentRow) → (f c).section ≡ c.section) → (cs : List ContentRow) → first (is_content b) (change (is_content b) f cs) ≡ option_map f (first (is_content b) cs)
+change-here b f same [] = refl
+change-here b f same (c ∷ cs) = at (is_content b c) refl (change-here b f same cs)
+  where
+    at : (x : Bool) → is_content b c ≡ x → first (is_content b) (change (is_content b) f cs) ≡ option_map f (first (is_content b) cs) → first (is_content b) (change (is_content b) f (c ∷ cs)) ≡ option_map f (first (is_content b) (c ∷ cs))
+    at true is rest = rw (is, ap (λ s. same_birth s b) (same c), is) refl
+    at false off rest = rw (off, off) rest
+
+bytes-written : (place : ℕ) (new : List ℕ) (o : Option ContentRow) → option_map (λ (c : ContentRow). c.bytes) (option_map (written place new) o) ≡ option_map (overwritten place new) (option_map (λ (c : ContentRow). c.bytes) o)
+bytes-written place new None = refl
+bytes-written place new (Some c) = refl
+
+write-here : (k : Contents) (b : Birth) (place : ℕ) (new : List ℕ) → held_bytes (contents_step k (Writes b place new)) b ≡ option_map (overwritten place new) (held_bytes k b)
+write-here Unknown b place new = refl
+write-here (Known rows) b place new = ap (option_map (λ (c : ContentRow). c.bytes)) (change-here b (written place new) (λ c. refl) rows) ∙ bytes-written place new (first (is_content b) rows)
+
+write-same : (k w : Contents) (b d : Birth) (place : ℕ) (new : List ℕ) → held_bytes k d ≡ held_bytes w d → held_bytes (contents_step k (Writes b place new)) d ≡ held_bytes (contents_step w (Writes b place new)) d
+write-same k w b d place new same = at (same_birth b d) refl
+  where
+    at : (e : Bool) → same_birth b d ≡ e → held_bytes (contents_step k (Writes b place new)) d ≡ held_bytes (contents_step w (Writes b place new)) d
+    at true is =
+        let it : b ≡ d = birth-same b d is in
+        subst (λ b. held_bytes (contents_step k (Writes b place new)) d ≡ held_bytes (contents_step w (Writes b place new)) d) (sym it)
+        (write-here k d place new ∙ ap (option_map (overwritten place new)) same ∙ sym (write-here w d place new))
+    at false off = write-else k b d place new off ∙ same ∙ sym (write-else w b d place new off)
+
+-- a section that is made, in both
+pub agree-add : (m : Group) (outer : Birth → Bool) (k w : Contents) (s : SectionRow) → Agree m outer k w → Agree m outer (contents_step k (AddsSection s)) (contents_step w (AddsSection s))
+agree-add m outer k w s a = (
+  known-in (λ rows. rows ++ zeros s ∷ []) k ∙ a.0,
+  known-in (λ rows. rows ++ zeros s ∷ []) w ∙ a.1,
+  λ d inside off. add-same k w s d a.0 a.1 (a.2 d inside off),
+)
+
+-- bytes that are written in both: of one section, or of an outsider's each
+pub agree-write : (m : Group) (outer : Birth → Bool) (k w : Contents) (b d : Birth) (place other : ℕ) (new : List ℕ)
+    → ((s : Birth) → m s.process ≡ true → held_bytes k s ≡ held_bytes w s → held_bytes (contents_step k (Writes b place new)) s ≡ held_bytes (contents_step w (Writes d other new)) s)
+    → Agree m outer k w → Agree m outer (contents_step k (Writes b place new)) (contents_step w (Writes d other new))
+agree-write m outer k w b d place other new same a = (
+  known-in (change (is_content b) (written place new)) k ∙ a.0,
+  known-in (change (is_content d) (written other new)) w ∙ a.1,
+  λ s inside off. same s inside (a.2 s inside off),
+)
+
+-- as a view shows it
+pub agree-seen : (m : Group) (outer : Birth → Bool) (k w : Contents) (v : ViewRow) (address : ℕ) (new : List ℕ) → Agree m outer k w → Agree m outer (contents_step k (Writes (seen_view m v).section (place_in (seen_view m v) address) new)) (contents_step w (Writes v.section (place_in v address) new))
+agree-seen m outer k w v address new a = agree-write m outer k w (seen_view m v).section v.section (place_in (seen_view m v) address) (place_in v address) new (λ s inside same. at (m v.section.process) refl s inside same) a
+  where
+    at : (e : Bool) → m v.section.process ≡ e → (s : Birth) → m s.process ≡ true → held_bytes k s ≡ held_bytes w s → held_bytes (contents_step k (Writes (seen_view m v).section (place_in (seen_view m v) address) new)) s ≡ held_bytes (contents_step w (Writes v.section (place_in v address) new)) s
+    at true is s inside same = rw is (write-same k w v.section s (place_in v address) new same)
+    at false out s inside same =
+        let other : (b : Birth) → m b.process ≡ false → same_birth b s ≡ false = λ b off. false_from_ne_true (same_birth b s) (λ is. let same : m b.process ≡ m s.process = of_birth m b s is in cc) in
+        rw out (write-else k (hidden_section v.section) s (0 + (address - v.base)) new (other (hidden_section v.section) out) ∙ same ∙ sym (write-else w v.section s (place_in v address) new (other v.section out)))
+
 -- What c reads
-pub agree-right : (m : Group) (c : ℕ) (outer : Birth → Bool) (w : World) (k : Contents) → m c ≡ true → Fair m c w → Secluded m c outer w → Agree m outer k w.contents → Right c k w
-agree-right m c outer w k c_in f secluded a test v at mine =
-    let is_c : (v.process == c) ≡ true = ap (λ n. n == c) mine ∙ same-number c in
-    let inside : m v.process ≡ true = ap m mine ∙ c_in in
-    let section : m v.section.process ≡ true = last (v.process == c) (m v.section.process) is_c (first-true _ _ (every-first (is_fair_view m c) test w.views v f.views at)) in
-    let inner : outer v.section ≡ false = off (m v.process) (v.process == c) (outer v.section) inside is_c (every-first (is_secluded_view m c outer) test w.views v secluded at) in
-    a.2 v.section section inner
+pub agree-right : (m : Group) (c : ℕ) (outer : Birth → Bool) (w : World) (k : Contents) → m c ≡ true → Fair m c w → HasInnerViews c outer w → Agree m outer k w.contents → Right c k w
+agree-right m c outer w k c_in f inner a test v at =
+    let section : m v.section.process ≡ true = last (c == c) (m v.section.process) (same-number c) (first-true _ _ (every-first (is_fair_view m c c) test (views_of w c) v (views-fair m c w c f) at)) in
+    let off : outer v.section ≡ false = not-true (outer v.section) (every-first (is_inner_view outer) test (views_of w c) v inner at) in
+    a.2 v.section section off
   where
     last : (a b : Bool) → a ≡ true → (not a || b) ≡ true → b ≡ true
     last a b is it = grind arith
-
-    off : (a b d : Bool) → a ≡ true → b ≡ true → cond a (not b || not d) d ≡ true → d ≡ false
-    off a b d one two it = grind arith

@@ -1,4 +1,5 @@
 -- What the tests of calls find in a view.
+use Rattle.lpc_model.specs.Memory.{section_test}
 use Rattle.std.proofs.Common.{◌≡◌, ℕ, List, [], ◌∷◌, true, not, Option, Some, None, refl, ap, sym, subst, ◌∙◌, arith}
 use Rattle.std.specs.Prelude.{◌&&◌, ◌==◌, option_map, Result, Ok, Err}
 use Rattle.std.proofs.lemmas.Bool.{eqb-true}
@@ -12,8 +13,8 @@ use Rattle.lpc_model.specs.declared.entry.ObjectKind.{ObjectKind}
 use Rattle.lpc_model.specs.declared.entry.ObjectKind.TheVariants as kind
 use Rattle.lpc_model.specs.Refusal.{found_or, refuse_if}
 use Rattle.lpc_model.specs.Then.{◌>>=◌}
-use Rattle.lpc_model.specs.World.{Birth, HandleRow, HandleTable, PortRow, ThreadRow, UsedThread, World}
-use Rattle.lpc_model.specs.Found.{free_handle, handle_at, handles_of, has_handle_to, has_value, is_live_thread, is_open, is_port, is_table, is_used_thread, live_thread, names_port, port_row, rows_in, same_kind}
+use Rattle.lpc_model.specs.World.{Birth, HandleRow, HandleTable, PortRow, ThreadRow, UsedThread, World, SectionRow, ViewRow}
+use Rattle.lpc_model.specs.Found.{free_handle, handle_at, handles_of, has_handle_to, has_value, is_live_thread, is_open, is_port, is_table, is_used_thread, live_thread, names_port, port_row, rows_in, same_kind, is_section, section_row}
 use Rattle.lpc_base.specs.declared.status.TheConstants.{ACCESS_DENIED, INVALID_HANDLE, OBJECT_TYPE_MISMATCH}
 use Rattle.lpc_model.specs.Tests.{PORT_RIGHT, includes, object_test, own_handle, port_test}
 use Rattle.lpc_model.proofs.Calls.Holding.{Holds, bind_holds, found_holds, found_ok, holds_ok}
@@ -101,6 +102,18 @@ port-own m c w by value f =
       ap (λ (b : Birth). b.process) same ∙ holds_ok (λ b. b.process ≡ by.process) (object_test w by kind.Port PORT_RIGHT value) b (object-own m c w by kind.Port PORT_RIGHT value f) at,
       subst (λ b. port_row w b ≡ Some p) (sym same) row,
     )))
+
+pub section-own : (m : Group) (c : ℕ) (w : World) (by : ThreadRow) (rights value : ℕ) → Fair m c w → Holds (λ s. s.birth.process ≡ by.process) (section_test w by rights value)
+section-own m c w by rights value f =
+    let P : SectionRow → Type 0 = λ s. s.birth.process ≡ by.process in
+    bind_holds (object_test w by kind.Section rights value) _ P (λ b at.
+    found_holds P (section_row w b) INVALID_HANDLE (λ s row.
+    ap (λ (b : Birth). b.process) (birth-same s.birth b (first-passes (is_section b) w.sections s row))
+    ∙ holds_ok (λ b. b.process ≡ by.process) (object_test w by kind.Section rights value) b (object-own m c w by kind.Section rights value f) at))
+
+-- the section of a view that a map makes is of the caller's process
+pub mapped-own : (m : Group) (c : ℕ) (w : World) (by : ThreadRow) (v : ViewRow) (s : SectionRow) (rights value : ℕ) → Fair m c w → section_test w by rights value ≡ Ok s → v.section ≡ s.birth → v.section.process ≡ by.process
+mapped-own m c w by v s rights value f at same = ap (λ (b : Birth). b.process) same ∙ holds_ok (λ (s : SectionRow). s.birth.process ≡ by.process) (section_test w by rights value) s (section-own m c w by rights value f) at
 
 pub port_test-view : (m : Group) (c : ℕ) (w : World) (by : ThreadRow) (value : ℕ) → Fair m c w → m by.process ≡ true → port_test (view m w) by value ≡ result_map (seen_port m) (port_test w by value)
 port_test-view m c w by value f is =

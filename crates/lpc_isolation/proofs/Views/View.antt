@@ -1,11 +1,11 @@
 -- What a group sees of a world.
 use Rattle.std.proofs.Common.{◌≡◌, ℕ, Bool, true, false, cond, Option, Some, None, ap, arith}
-use Rattle.std.specs.Prelude.{◌&&◌, ◌==◌}
+use Rattle.std.specs.Prelude.{◌&&◌, ◌==◌, map}
 use Rattle.std.proofs.lemmas.Bool.{eqb-true, false_from_ne_true}
 use Rattle.lpc_base.specs.Rows.{which}
 use Rattle.lpc_names.specs.Walk.{LinkTo, Stands}
 use Rattle.lpc_names.specs.declared.names.Found.TheVariants.{Directory, Item}
-use Rattle.lpc_model.specs.World.{Birth, HandleTable, MessageRow, Node, Path, PortRow, ProcessRow, SectionRow, ThreadRow, Unknown, UsedThread, ViewRow, WaitRow, World}
+use Rattle.lpc_model.specs.World.{Birth, HandleTable, MessageRow, Node, Path, PortRow, ProcessRow, SectionRow, ThreadRow, Unknown, UsedThread, ViewRow, ViewTable, WaitRow, World}
 use Rattle.lpc_model.specs.Found.{same_birth}
 use Rattle.lpc_model.specs.Circle.{Group}
 use Rattle.lpc_isolation.proofs.Views.Filters.{shown}
@@ -52,8 +52,8 @@ our_binding m b = our_node m b.1
 abbrev pub our_section : Group → SectionRow → Bool
 our_section m s = m s.birth.process
 
-abbrev pub our_view : Group → ViewRow → Bool
-our_view m v = m v.process
+abbrev pub our_space : Group → ViewTable → Bool
+our_space m t = m t.process
 
 -- Which section a view shows is seen where that is a member's, and so is where the view lies in it. Of an outsider's section
 -- its process is seen alone.
@@ -62,6 +62,9 @@ hidden_section b = record { maker = 0; ordinal = 0; process = b.process }
 
 abbrev pub seen_view : Group → ViewRow → ViewRow
 seen_view m v = cond (m v.section.process) v (record v { section = hidden_section v.section; offset = 0 })
+
+abbrev pub seen_space : Group → ViewTable → ViewTable
+seen_space m t = record t { rows = map (seen_view m) t.rows }
 
 -- no bytes are seen
 abbrev pub view : Group → World → World
@@ -77,7 +80,7 @@ view m w = record {
   bindings = which (our_binding m) w.bindings;
   sections = which (our_section m) w.sections;
   contents = Unknown;
-  views = shown (our_view m) (seen_view m) w.views;
+  views = shown (our_space m) (seen_space m) w.views;
 }
 
 -- small facts

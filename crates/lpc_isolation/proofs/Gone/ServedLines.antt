@@ -1,0 +1,53 @@
+-- What holds of the steps of each line holds of those of the machine whose rows never go: a section is made by the same steps,
+-- and a query is told alone.
+use Rattle.lpc_model.specs.SingleClosings.{HasSingleClosings}
+use Rattle.lpc_isolation.proofs.Calls.Deeds.{served-does}
+use Rattle.lpc_isolation.proofs.Gone.Served.{served, served_ready, served_step, served_steps, served_thread}
+use Rattle.lpc_isolation.proofs.Rows.Firm.{Firm, firm-shut}
+use Rattle.lpc_model.proofs.Calls.Holding.{settled_holds}
+use Rattle.lpc_model.proofs.Calls.Lines.{AnyWorld, Keep, LineLaw, Shut, line-does}
+use Rattle.lpc_model.proofs.Calls.Usable.{can-call, live-number}
+use Rattle.lpc_model.proofs.Closings.SingleLines.{untold-lines}
+use Rattle.lpc_model.proofs.Linked.Lines.{linked-lines}
+use Rattle.lpc_model.proofs.Sound.Lines.{sound-lines}
+use Rattle.lpc_model.proofs.Standing.Lines.{KeepNames, names-lines}
+use Rattle.lpc_model.specs.Basics.{Basic, Tells}
+use Rattle.lpc_model.specs.Found.{live_thread, wait_of}
+use Rattle.lpc_model.specs.Linked.{IsLinked}
+use Rattle.lpc_model.specs.Lines.{ScriptCall, ScriptLine, boot, dir, link, run, thread}
+use Rattle.lpc_model.specs.Machine.{name_of_call}
+use Rattle.lpc_model.specs.SoundWaits.{HasShutConnects, IsSoundWorld}
+use Rattle.lpc_model.specs.Standing.{NamesWhatStands}
+use Rattle.lpc_model.specs.World.{ThreadRow, WaitRow, World}
+use Rattle.lpc_model.specs.declared.entry.Entry.{Entry}
+use Rattle.std.proofs.Common.{List, None, Option, Some, [], refl, subst, sym, ℕ, ◌∷◌, ◌≡◌}
+
+module _ (C : World → Type 0) (P : ScriptLine → World → List Basic → Type 0) (k : LineLaw C P) (w : World) (s : IsSoundWorld w) (more : C w) (tells : (line : ScriptLine) (e : Entry) → P line w (Tells e ∷ [])) where
+  ready : (by : ThreadRow) (call : ScriptCall) (o : Option WaitRow) → live_thread w by.number ≡ Some by → wait_of w by.number ≡ o → P (run by.number call) w (served_ready by call o w)
+  ready by call (Some x) live busy = tells (run by.number call) _
+  ready by call None live idle =
+      settled_holds (P (run by.number call) w) by (name_of_call call) (served w by call)
+      (served-does w by (λ call. P (run by.number call) w) (k.calls by w (record { can = can-call w by.number by live idle s; sound = s; known = more })) (λ handle r fields at. tells (run by.number _) _) call)
+      (λ e _. tells (run by.number call) _)
+
+  called : (tid : ℕ) (call : ScriptCall) (o : Option ThreadRow) → live_thread w tid ≡ o → P (run tid call) w (served_thread tid call o w)
+  called tid call None none = tells (run tid call) _
+  called tid call (Some by) live =
+      let own : by.number ≡ tid = live-number w tid by live in
+      let at : live_thread w by.number ≡ Some by = subst (λ n. live_thread w n ≡ Some by) (sym own) live in
+      subst (λ n. P (run n call) w (served_ready by call (wait_of w n) w)) own (ready by call (wait_of w by.number) at refl)
+
+  served-line : (line : ScriptLine) → P line w (served_steps line w)
+  served-line (boot pid tid) = line-does C P k w s more (boot pid tid)
+  served-line (thread tid pid) = line-does C P k w s more (thread tid pid)
+  served-line (dir path) = line-does C P k w s more (dir path)
+  served-line (link path target) = line-does C P k w s more (link path target)
+  served-line (run tid call) = called tid call (live_thread w tid) refl
+
+pub served-firm : (u : World) (line : ScriptLine) → Firm u → Firm (served_step u line).world
+served-firm u line f = record {
+  sound = served-line HasShutConnects (λ _. Keep IsSoundWorld) sound-lines u f.sound (firm-shut u f) (λ line e s. s) line f.sound;
+  linked = served-line AnyWorld (λ _. Keep IsLinked) linked-lines u f.sound tt (λ line e l. l) line f.linked;
+  names = served-line (Shut IsLinked) (λ _. KeepNames) names-lines u f.sound (firm-shut u f, f.linked) (λ line e n. n) line f.names;
+  single_closings = served-line (Shut NamesWhatStands) (λ _. Keep HasSingleClosings) untold-lines u f.sound (firm-shut u f, f.names) (λ line e n. n) line f.single_closings;
+}
