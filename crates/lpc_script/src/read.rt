@@ -3,7 +3,7 @@ ghost use Rattle.std.specs.Prelude.{◌≡◌, ◌≤◌, ◌&&◌, codes, lengt
 ghost use Rattle.std.specs.List.{list_all};
 ghost use Rattle.std.specs.Option.{option_copied, option_map};
 ghost use Rattle.lpc_base.specs.declared.limits.TheConstants.{LINE_LIMIT};
-ghost use Rattle.lpc_model.specs.declared.entry.CallName.TheVariants.{NtAcceptConnectPort, NtConnectPort, NtCreatePort, NtCreateProcess, NtCreateThread, NtDuplicateObject, NtTerminateProcess, NtTerminateThread};
+ghost use Rattle.lpc_model.specs.declared.entry.CallName.TheVariants.{NtAcceptConnectPort, NtConnectPort, NtCreatePort, NtCreateProcess, NtCreateSection, NtCreateThread, NtDuplicateObject, NtMapViewOfSection, NtReadVirtualMemory, NtTerminateProcess, NtTerminateThread, NtUnmapViewOfSection, NtWriteVirtualMemory};
 ghost use Rattle.lpc_model.specs.declared.entry.Word.TheVariants.{Boot, Thread};
 ghost use Rattle.lpc_model.specs.Lines.{call_of, line_of};
 ghost use Rattle.lpc_model.specs.Words.{is_id, words};
@@ -43,6 +43,7 @@ fn accept(word: &[u8]) -> Result<bool, LineFault>
     Err(LineFault::Word)
 }
 
+/// A handle, or an address, alone.
 fn one_handle(text: &[u8]) -> Result<u32, LineFault>
     ensures { Gives (λ handle. handle) result (grammar.one_handle (words text.now)) }
 {
@@ -99,6 +100,40 @@ fn target_and_code(text: &[u8]) -> Result<(ProcArg, u32), LineFault>
     let target = target(word)?;
     let code = number(code)?;
     Ok((target, code))
+}
+
+fn two_numbers(text: &[u8]) -> Result<(u32, u32), LineFault>
+    ensures { Gives (λ p. p) result (grammar.two_numbers (words text.now)) }
+{
+    let (first, second) = two_words(text)?;
+    let first = number(first)?;
+    let second = number(second)?;
+    Ok((first, second))
+}
+
+fn four_numbers(text: &[u8]) -> Result<(u32, u32, u32, u32), LineFault>
+    ensures { Gives (λ p. p) result (grammar.four_numbers (words text.now)) }
+{
+    let (first, second, third, fourth) = four_words(text)?;
+    let first = number(first)?;
+    let second = number(second)?;
+    let third = number(third)?;
+    let fourth = number(fourth)?;
+    Ok((first, second, third, fourth))
+}
+
+/// An address, and the bytes that are to stand there.
+fn address_and_bytes<'a>(
+    text: &[u8],
+    scratch: &'a mut Scratch,
+) -> Result<(u32, &'a [u8]), LineFault>
+    requires { length text.now ≤ LINE_LIMIT }
+    ensures { Gives (λ p. (p.0, p.1.now)) result (grammar.address_and_bytes (words text.now)) }
+{
+    let (address, digits) = two_words(text)?;
+    let address = number(address)?;
+    let bytes = scratch.bytes(digits)?;
+    Ok((address, bytes))
 }
 
 fn handle_and_message<'a>(
@@ -235,6 +270,57 @@ fn terminate_process<'a>(text: &[u8]) -> Result<Call<'a>, LineFault>
     Ok(Call::TerminateProcess { process, code })
 }
 
+#[tactic(auto, unfolding(lpc_model::specs::Grammar::call_words))]
+fn create_section<'a>(text: &[u8]) -> Result<Call<'a>, LineFault>
+    ensures value { Gives call_of result (call_words NtCreateSection (words text.now)) }
+    ensures ids { IfOk result (λ call. IsTrue (has_call_ids (call_of call))) }
+{
+    let (size, protection) = two_numbers(text)?;
+    Ok(Call::CreateSection { size, protection })
+}
+
+#[tactic(auto, unfolding(lpc_model::specs::Grammar::call_words))]
+fn map_view_of_section<'a>(text: &[u8]) -> Result<Call<'a>, LineFault>
+    ensures value { Gives call_of result (call_words NtMapViewOfSection (words text.now)) }
+    ensures ids { IfOk result (λ call. IsTrue (has_call_ids (call_of call))) }
+{
+    let (handle, offset, size, protection) = four_numbers(text)?;
+    Ok(Call::MapViewOfSection {
+        handle,
+        offset,
+        size,
+        protection,
+    })
+}
+
+#[tactic(auto, unfolding(lpc_model::specs::Grammar::call_words))]
+fn unmap_view_of_section<'a>(text: &[u8]) -> Result<Call<'a>, LineFault>
+    ensures value { Gives call_of result (call_words NtUnmapViewOfSection (words text.now)) }
+    ensures ids { IfOk result (λ call. IsTrue (has_call_ids (call_of call))) }
+{
+    let address = one_handle(text)?;
+    Ok(Call::UnmapViewOfSection { address })
+}
+
+#[tactic(auto, unfolding(lpc_model::specs::Grammar::call_words))]
+fn read_virtual_memory<'a>(text: &[u8]) -> Result<Call<'a>, LineFault>
+    ensures value { Gives call_of result (call_words NtReadVirtualMemory (words text.now)) }
+    ensures ids { IfOk result (λ call. IsTrue (has_call_ids (call_of call))) }
+{
+    let (address, length) = two_numbers(text)?;
+    Ok(Call::ReadVirtualMemory { address, length })
+}
+
+#[tactic(auto, unfolding(lpc_model::specs::Grammar::call_words))]
+fn write_virtual_memory<'a>(text: &[u8], scratch: &'a mut Scratch) -> Result<Call<'a>, LineFault>
+    requires { length text.now ≤ LINE_LIMIT }
+    ensures value { Gives call_of result (call_words NtWriteVirtualMemory (words text.now)) }
+    ensures ids { IfOk result (λ call. IsTrue (has_call_ids (call_of call))) }
+{
+    let (address, bytes) = address_and_bytes(text, scratch)?;
+    Ok(Call::WriteVirtualMemory { address, bytes })
+}
+
 /// A call by the words behind its name.
 #[tactic(auto, unfolding(lpc_model::specs::Grammar::call_words))]
 fn call<'a>(name: CallName, text: &'a [u8], scratch: &'a mut Scratch) -> Result<Call<'a>, LineFault>
@@ -287,6 +373,11 @@ fn call<'a>(name: CallName, text: &'a [u8], scratch: &'a mut Scratch) -> Result<
         CallName::NtCreateThread => create_thread(text),
         CallName::NtTerminateThread => terminate_thread(text),
         CallName::NtTerminateProcess => terminate_process(text),
+        CallName::NtCreateSection => create_section(text),
+        CallName::NtMapViewOfSection => map_view_of_section(text),
+        CallName::NtUnmapViewOfSection => unmap_view_of_section(text),
+        CallName::NtReadVirtualMemory => read_virtual_memory(text),
+        CallName::NtWriteVirtualMemory => write_virtual_memory(text, scratch),
     }
 }
 
@@ -401,10 +492,11 @@ fn words_line<'a>(text: &'a [u8], scratch: &'a mut Scratch) -> Result<Option<Lin
 
 /// What a line says, none where it is a comment or has no word, or its first fault.
 ///
-/// The line is given without the byte 10 that ends it. Its messages lie in the scratch, its names and paths in the line
-/// itself. A byte past the 16,384th is found before all else (`Long`), then a byte outside 32 to 126 (`Byte`), then the
-/// faults of the words from left to right: the first word, the call's name, the count of words and the words
-/// themselves. The grammar and the order of the faults are this project's own.
+/// The line is given without the byte 10 that ends it. Its messages, and what it writes, lie in the
+/// scratch, its names and paths in the line itself. A byte past the 16,384th is found before all
+/// else (`Long`), then a byte outside 32 to 126 (`Byte`), then the faults of the words from left to
+/// right: the first word, the call's name, the count of words and the words themselves. The grammar
+/// and the order of the faults are this project's own.
 #[tactic(auto, unfolding(lpc_model::specs::Grammar::read_line))]
 pub fn read_line<'a>(
     bytes: &'a [u8],

@@ -88,6 +88,14 @@ impl Scratch {
         Err(LineFault::Message)
     }
 
+    /// The bytes that a word stands for; `Hex` where it is no pairs of hexadecimal digits.
+    pub(crate) fn bytes(&mut self, word: &[u8]) -> Result<&[u8], LineFault>
+        requires { length word.now ≤ LINE_LIMIT }
+        ensures { Gives (λ bytes. bytes.now) result (hex_word word.now) }
+    {
+        self.behind(&[], word)
+    }
+
     /// A front, and behind it the bytes that digits stand for; `Hex` where they are no pairs of hexadecimal digits.
     fn behind(&mut self, front: &[u8], digits: &[u8]) -> Result<&[u8], LineFault>
         requires front { length front.now ≤ HEADER_SIZE }

@@ -5,6 +5,8 @@
 #[cfg(test)]
 mod line_buffer;
 #[cfg(test)]
+mod memory;
+#[cfg(test)]
 mod model;
 #[cfg(test)]
 mod script;

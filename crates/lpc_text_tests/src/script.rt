@@ -20,7 +20,12 @@ fn has_fault(
 }
 
 // Each of these lines has this first fault, or none.
-fn have_fault(rt: &impl Abort, scratch: &mut Scratch, lines: &[u8], fault: Option<LineFault>) {
+pub(crate) fn have_fault(
+    rt: &impl Abort,
+    scratch: &mut Scratch,
+    lines: &[u8],
+    fault: Option<LineFault>,
+) {
     let mut rest = lines;
     for _ in 0..lines.len() {
         if rest.is_empty() {
@@ -39,7 +44,11 @@ fn have_fault(rt: &impl Abort, scratch: &mut Scratch, lines: &[u8], fault: Optio
 }
 
 // The call of a line, and its thread.
-fn run_of<'a>(rt: &impl Abort, scratch: &'a mut Scratch, line: &'a [u8]) -> (u32, Call<'a>) {
+pub(crate) fn run_of<'a>(
+    rt: &impl Abort,
+    scratch: &'a mut Scratch,
+    line: &'a [u8],
+) -> (u32, Call<'a>) {
     match read_line(line, scratch) {
         Ok(Some(Line::Run { tid, call })) => (tid, call),
         _ => panic!(rt; "no call"),

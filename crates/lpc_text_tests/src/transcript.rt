@@ -11,7 +11,13 @@ use std::process::Abort;
 use std::test::Fail;
 
 // The text of one entry of a line.
-fn printed(rt: &impl Abort, alloc: Global, line: u32, entry: Entry, text: &str) -> Result<(), Fail>
+pub(crate) fn printed(
+    rt: &impl Abort,
+    alloc: Global,
+    line: u32,
+    entry: Entry,
+    text: &str,
+) -> Result<(), Fail>
     requires { has_read entry ≡ false }
 {
     let mut entries = Entries::new(alloc)?;

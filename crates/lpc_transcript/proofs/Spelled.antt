@@ -8,12 +8,12 @@ use Rattle.lpc_model.specs.Grammar.{call_named, directive_named}
 use Rattle.lpc_model.specs.Text.{eight_digits, call_text, word_text, name_text, kind_text, value_text, fields_text, by_text, rest_text}
 use Rattle.lpc_model.specs.TextLaws.{Sort, in_decimal, in_hexadecimal, as_kind, as_bytes, is_of_sort}
 use Rattle.lpc_model.specs.declared.entry.CallName.{CallName}
-use Rattle.lpc_model.specs.declared.entry.CallName.TheVariants.{NtCreatePort, NtConnectPort, NtListenPort, NtAcceptConnectPort, NtCompleteConnectPort, NtRequestPort, NtRequestWaitReplyPort, NtReplyPort, NtReplyWaitReceivePort, NtRegisterThreadTerminatePort, NtClose, NtDuplicateObject, NtQueryObject, NtCreateProcess, NtCreateThread, NtTerminateProcess, NtTerminateThread}
+use Rattle.lpc_model.specs.declared.entry.CallName.TheVariants.{NtCreatePort, NtConnectPort, NtListenPort, NtAcceptConnectPort, NtCompleteConnectPort, NtRequestPort, NtRequestWaitReplyPort, NtReplyPort, NtReplyWaitReceivePort, NtRegisterThreadTerminatePort, NtClose, NtDuplicateObject, NtQueryObject, NtCreateProcess, NtCreateThread, NtTerminateProcess, NtTerminateThread, NtCreateSection, NtMapViewOfSection, NtUnmapViewOfSection, NtReadVirtualMemory, NtWriteVirtualMemory}
 use Rattle.lpc_model.specs.declared.entry.Entry.{Entry}
 use Rattle.lpc_model.specs.declared.entry.Entry.TheVariants.{Answer, Waits, Wakes, Busy, NoThread, Died, Directive}
 use Rattle.lpc_model.specs.declared.entry.Field.{Field}
 use Rattle.lpc_model.specs.declared.entry.FieldName.{FieldName}
-use Rattle.lpc_model.specs.declared.entry.FieldName.TheVariants.{H, FirstThread, Id, Ctx, Msg, Data, Max, Info, ObjectType, Access, Handles, Pointers}
+use Rattle.lpc_model.specs.declared.entry.FieldName.TheVariants.{H, FirstThread, Id, Ctx, Msg, Data, Max, Info, ObjectType, Access, Handles, Pointers, Base, Size}
 use Rattle.lpc_model.specs.declared.entry.Value.{Value}
 use Rattle.lpc_model.specs.declared.entry.Value.TheVariants.{Number, Hex, Kind, Bytes}
 use Rattle.lpc_model.specs.declared.entry.ObjectKind.{ObjectKind}
@@ -95,6 +95,11 @@ call_named-text NtCreateProcess = refl
 call_named-text NtCreateThread = refl
 call_named-text NtTerminateThread = refl
 call_named-text NtTerminateProcess = refl
+call_named-text NtCreateSection = refl
+call_named-text NtMapViewOfSection = refl
+call_named-text NtUnmapViewOfSection = refl
+call_named-text NtReadVirtualMemory = refl
+call_named-text NtWriteVirtualMemory = refl
 
 pub call_unique : (a b : CallName) → call_text a ≡ call_text b → a ≡ b
 call_unique a b e =
@@ -119,6 +124,11 @@ call_plain NtCreateProcess = refl
 call_plain NtCreateThread = refl
 call_plain NtTerminateThread = refl
 call_plain NtTerminateProcess = refl
+call_plain NtCreateSection = refl
+call_plain NtMapViewOfSection = refl
+call_plain NtUnmapViewOfSection = refl
+call_plain NtReadVirtualMemory = refl
+call_plain NtWriteVirtualMemory = refl
 
 -- a directive is found by its name
 directive_named-text : (w : Word) → directive_named (word_text w) ≡ Some w
@@ -151,7 +161,9 @@ read_name text =
     else (if bytes_eq text (codes "access") then Access
     else (if bytes_eq text (codes "handles") then Handles
     else (if bytes_eq text (codes "pointers") then Pointers
-    else (if bytes_eq text (codes "thread") then FirstThread else Data))))))))))
+    else (if bytes_eq text (codes "base") then Base
+    else (if bytes_eq text (codes "size") then Size
+    else (if bytes_eq text (codes "thread") then FirstThread else Data))))))))))))
 
 read_name-text : (name : FieldName) → read_name (name_text name) ≡ name
 unfolding read_name
@@ -167,6 +179,8 @@ read_name-text ObjectType = refl
 read_name-text Access = refl
 read_name-text Handles = refl
 read_name-text Pointers = refl
+read_name-text Base = refl
+read_name-text Size = refl
 
 pub name_unique : (a b : FieldName) → name_text a ≡ name_text b → a ≡ b
 name_unique a b e = sym (read_name-text a) ∙ ap read_name e ∙ read_name-text b
@@ -184,6 +198,8 @@ name_plain ObjectType = refl
 name_plain Access = refl
 name_plain Handles = refl
 name_plain Pointers = refl
+name_plain Base = refl
+name_plain Size = refl
 
 read_kind : List ℕ → ObjectKind
 read_kind text =

@@ -124,6 +124,8 @@ pub(crate) fn field_name(name: FieldName) -> &'static [u8]
         FieldName::Access => b"access",
         FieldName::Handles => b"handles",
         FieldName::Pointers => b"pointers",
+        FieldName::Base => b"base",
+        FieldName::Size => b"size",
     }
 }
 
