@@ -6,10 +6,12 @@ use Rattle.lpc_base.specs.Rows.{count, first, has}
 use Rattle.lpc_base.proofs.RowWords.{count-append}
 use Rattle.lpc_handles.specs.Handles as handles
 use Rattle.lpc_handles.specs.declared.table.Row.{Row}
-use Rattle.lpc_homes.specs.Parts.{all_rows, has_name_of, is_object, names_it}
+use Rattle.lpc_homes.specs.Parts.{all_rows, all_views, has_name_of, is_object, names_it}
 use Rattle.lpc_homes.specs.declared.object.Object.{Object}
 use Rattle.lpc_homes.specs.declared.object.Object.TheVariants as kinds
 use Rattle.lpc_homes.specs.declared.parts.Part.{Part}
+use Rattle.lpc_slots.specs.declared.Key.{Key}
+use Rattle.lpc_views.specs.Views.{shows}
 use Rattle.lpc_homes.specs.contracts.object.ObjectPartialEq.TheImpl as the_impl
 
 -- an object is compared with another
@@ -17,12 +19,19 @@ is_same : (object other : Object) → the_impl.eq-value.it other object ≡ is_o
 is_same (kinds.Port a) (kinds.Port b) = search rules
 is_same (kinds.Port a) (kinds.Process b) = search rules
 is_same (kinds.Port a) (kinds.Thread b) = search rules
+is_same (kinds.Port a) (kinds.Section b) = search rules
 is_same (kinds.Process a) (kinds.Port b) = search rules
 is_same (kinds.Process a) (kinds.Process b) = search rules
 is_same (kinds.Process a) (kinds.Thread b) = search rules
+is_same (kinds.Process a) (kinds.Section b) = search rules
 is_same (kinds.Thread a) (kinds.Port b) = search rules
 is_same (kinds.Thread a) (kinds.Process b) = search rules
 is_same (kinds.Thread a) (kinds.Thread b) = search rules
+is_same (kinds.Thread a) (kinds.Section b) = search rules
+is_same (kinds.Section a) (kinds.Port b) = search rules
+is_same (kinds.Section a) (kinds.Process b) = search rules
+is_same (kinds.Section a) (kinds.Thread b) = search rules
+is_same (kinds.Section a) (kinds.Section b) = search rules
 
 -- a table's handles that name the object
 pub named_has : (object : Object) (rows : List (ℕ × Row Object)) → has (handles.is_named the_impl.eq-value.it object) rows ≡ has (names_it object) rows
@@ -33,12 +42,14 @@ pub named_count : (object : Object) (rows : List (ℕ × Row Object)) → count 
 named_count object [] = refl
 named_count object (row ∷ rows) = grind (arith, is_same object row.1.object, named_count object rows)
 
--- a part that names the object, behind parts that don't
-pub named_at : (object : Object) (parts : List Part) (i : ℕ) (part : Part) → i < length parts → part ≡ get_or parts i part → has (has_name_of object) (drop i parts) ≡ has (has_name_of object) parts → has_name_of object part ≡ true → true ≡ has (has_name_of object) parts
-named_at object parts i part lt is so_far passes =
-    let p : Part → Bool = has_name_of object in
+-- a part that passes, behind parts that don't
+pub passing_at : (p : Part → Bool) (parts : List Part) (i : ℕ) (part : Part) → i < length parts → part ≡ get_or parts i part → has p (drop i parts) ≡ has p parts → p part ≡ true → true ≡ has p parts
+passing_at p parts i part lt is so_far passes =
     let head : has p (part ∷ drop (i + 1) parts) ≡ true = ap (λ b. is_some (cond b (Some part) (first p (drop (i + 1) parts)))) passes in
     sym (sym so_far ∙ at_drop_more (λ (xs : List Part). has p xs) parts i part lt ∙ ap (λ q. has p (q ∷ drop (i + 1) parts)) (sym is) ∙ head)
+
+pub named_at : (object : Object) (parts : List Part) (i : ℕ) (part : Part) → i < length parts → part ≡ get_or parts i part → has (has_name_of object) (drop i parts) ≡ has (has_name_of object) parts → has_name_of object part ≡ true → true ≡ has (has_name_of object) parts
+named_at object parts i part lt is so_far passes = passing_at (has_name_of object) parts i part lt is so_far passes
 
 -- the handles of a part that were counted, and those of the parts behind it
 pub counted_part : (p : ℕ × Row Object → Bool) (parts : List Part) (i so_far : ℕ) (part : Part) → i < length parts → part ≡ get_or parts i part
@@ -47,3 +58,11 @@ counted_part p parts i so_far part lt is sum =
     let here : count p (all_rows (drop i parts)) ≡ count p (all_rows (part ∷ drop (i + 1) parts)) =
     at_drop_more (λ (ps : List Part). count p (all_rows ps)) parts i part lt ∙ ap (λ q. count p (all_rows (q ∷ drop (i + 1) parts))) (sym is) in
     omega (arith, sum, here, count-append p part.handles.rows (all_rows (drop (i + 1) parts)))
+
+-- and the views
+pub shown_part : (section : Key) (parts : List Part) (i so_far : ℕ) (part : Part) → i < length parts → part ≡ get_or parts i part
+    → so_far + count (shows section) (all_views (drop i parts)) ≡ count (shows section) (all_views parts) → (so_far + count (shows section) part.views.views) + count (shows section) (all_views (drop (i + 1) parts)) ≡ count (shows section) (all_views parts)
+shown_part section parts i so_far part lt is sum =
+    let here : count (shows section) (all_views (drop i parts)) ≡ count (shows section) (all_views (part ∷ drop (i + 1) parts)) =
+    at_drop_more (λ (ps : List Part). count (shows section) (all_views ps)) parts i part lt ∙ ap (λ q. count (shows section) (all_views (q ∷ drop (i + 1) parts))) (sym is) in
+    omega (arith, sum, here, count-append (shows section) part.views.views (all_views (drop (i + 1) parts)))

@@ -1,8 +1,8 @@
--- The handles of each process: which part of the world they stand in.
-use Rattle.std.specs.Prelude.{ℕ, ◌+◌, ◌-◌, ◌<◌, ◌==◌, Bool, false, List, [], length, Option, Some, None, if◌then◌else◌}
+-- The handles and views of each process: which part of the world they stand in.
+use Rattle.std.specs.Prelude.{ℕ, ◌+◌, ◌++◌, ◌-◌, ◌<◌, ◌==◌, Bool, false, List, [], ◌∷◌, length, Option, Some, None, if◌then◌else◌}
 use Rattle.lpc_base.specs.Births.{same_birth}
-use Rattle.lpc_base.specs.Rows.{change, differ_by, each, first, has, without_first}
-use Rattle.lpc_base.specs.declared.limits.TheConstants.{HANDLE_LIMIT}
+use Rattle.lpc_base.specs.Rows.{change, differ_by, each, first, has, without, without_first}
+use Rattle.lpc_base.specs.declared.limits.TheConstants.{HANDLE_LIMIT, VIEW_LIMIT}
 use Rattle.lpc_handles.specs.Handles as handles
 use Rattle.lpc_handles.specs.declared.table.Row.{Row}
 use Rattle.lpc_slots.specs.Table.{is_key}
@@ -10,6 +10,8 @@ use Rattle.lpc_slots.specs.declared.Key.{Key}
 use Rattle.lpc_homes.specs.declared.object.Object.{Object}
 use Rattle.lpc_homes.specs.declared.object.Object.TheVariants as object
 use Rattle.lpc_homes.specs.declared.parts.Part.{Part}
+use Rattle.lpc_views.specs.Views.{Views, lies_at, shows}
+use Rattle.lpc_views.specs.declared.view.View.{View}
 
 -- the part of a process
 abbrev pub is_part : ℕ → Part → Bool
@@ -72,12 +74,14 @@ abbrev pub port_of : Object → Option Key
 port_of (object.Port key) = Some key
 port_of (object.Process birth) = None
 port_of (object.Thread birth) = None
+port_of (object.Section key) = None
 
--- an object is this one: a port of the same key, or a process or thread of the same birth
+-- an object is this one: a port or a section of the same key, or a process or thread of the same birth
 abbrev pub is_object : Object → Object → Bool
 is_object (object.Port key) (object.Port other) = is_key other key
 is_object (object.Process birth) (object.Process other) = same_birth other birth
 is_object (object.Thread birth) (object.Thread other) = same_birth other birth
+is_object (object.Section key) (object.Section other) = is_key other key
 is_object one other = false
 
 -- a handle names the object, and a handle of the part does
@@ -90,3 +94,63 @@ has_name_of object part = has (names_it object) part.handles.rows
 -- the handles of all processes
 abbrev pub all_rows : List Part → List (ℕ × Row Object)
 all_rows parts = each (λ part. part.handles.rows) parts
+
+-- Views
+-- the views of an optional part, and its room for more
+abbrev pub views_in : Option Part → List (View Key)
+views_in None = []
+views_in (Some part) = part.views.views
+
+abbrev pub view_room_in : Option Part → ℕ
+view_room_in None = 0
+view_room_in (Some part) = part.views.spare
+
+-- the views of a process, and its room for more
+abbrev pub views_at : List Part → ℕ → List (View Key)
+views_at parts pid = views_in (first (is_part pid) parts)
+
+abbrev pub view_room_at : List Part → ℕ → ℕ
+view_room_at parts pid = view_room_in (first (is_part pid) parts)
+
+-- a part with these views
+abbrev pub viewing : Views Key → Part → Part
+viewing views part = record part { views = views }
+
+-- with one more view, which takes one place of its room; with so much room
+abbrev pub mapped : View Key → Part → Part
+mapped view part = viewing (record { views = part.views.views ++ view ∷ []; spare = part.views.spare - 1 }) part
+
+abbrev pub view_roomed : ℕ → Part → Part
+view_roomed spare part = viewing (record part.views { spare = spare }) part
+
+-- without the view at a base, and without any: their places are room then
+abbrev pub unmapped : ℕ → Part → Part
+unmapped base part = viewing (record { views = without (lies_at base) part.views.views; spare = part.views.spare + 1 }) part
+
+abbrev pub emptied : Part → Part
+emptied part = viewing (record { views = []; spare = part.views.spare + length part.views.views }) part
+
+-- the parts of all processes, with one more view, with so much room for views, without the view at a base, or without any
+-- view, in that of a process
+abbrev pub mapping : ℕ → View Key → List Part → List Part
+mapping pid view parts = change (is_part pid) (mapped view) parts
+
+abbrev pub view_rooming : ℕ → ℕ → List Part → List Part
+view_rooming pid spare parts = change (is_part pid) (view_roomed spare) parts
+
+abbrev pub unmapping : ℕ → ℕ → List Part → List Part
+unmapping pid base parts = change (is_part pid) (unmapped base) parts
+
+abbrev pub emptying : ℕ → List Part → List Part
+emptying pid parts = change (is_part pid) emptied parts
+
+-- the views of all processes, and a view of the part shows the section
+abbrev pub all_views : List Part → List (View Key)
+all_views parts = each (λ part. part.views.views) parts
+
+abbrev pub has_view_of : Key → Part → Bool
+has_view_of section part = has (shows section) part.views.views
+
+-- a process has fewer views than it may have
+abbrev pub HasFewViews : List Part → ℕ → Type 0
+HasFewViews parts pid = length (views_at parts pid) < VIEW_LIMIT

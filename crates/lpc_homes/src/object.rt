@@ -14,6 +14,8 @@ pub enum Object {
     Process(Birth),
     /// A thread, by the name that it was made under.
     Thread(Birth),
+    /// A section, by its key.
+    Section(Key),
 }
 
 impl Object {
@@ -23,7 +25,7 @@ impl Object {
     {
         match self {
             Object::Port(port) => Some(port),
-            Object::Process(_) | Object::Thread(_) => None,
+            Object::Process(_) | Object::Thread(_) | Object::Section(_) => None,
         }
     }
 }

@@ -12,14 +12,17 @@ use crate::Object;
 use lpc_base::OutOfMemory;
 use lpc_handles::{Table, TableFault};
 use lpc_slots::Key;
+use lpc_views::Space;
 
-/// The part of the world that is a process's own: its handles.
+/// The part of the world that is a process's own: its handles and its views.
 #[derive(Drop)]
 pub struct Part {
     /// The number of the process.
     pub process: u32,
     /// Its handles, with what each names and grants.
     pub handles: Table<Object>,
+    /// Its views, each with the port that it goes with, if it goes with one.
+    pub views: Space<Key>,
 }
 
 /// Where the part of a process stands, if there is one.
@@ -30,7 +33,7 @@ fn find_place(parts: &[Part], pid: u32) -> Option<usize>
 }
 
 /// Where the part of a process stands.
-fn place_of(parts: &[Part], pid: u32) -> usize
+pub(crate) fn place_of(parts: &[Part], pid: u32) -> usize
     requires { has (is_part pid) parts.now ≡ true }
     ensures { position (is_part pid) parts.now ≡ Some result }
 {

@@ -1,13 +1,15 @@
-// The handles of each process, with ample memory.
+// The handles and views of each process, with ample memory.
 ghost use Rattle.std.specs.Prelude.{◌≡◌, ◌<◌, ◌≤◌, true, vec_len};
 ghost use Rattle.lpc_base.specs.Rows.{has};
 ghost use Rattle.lpc_homes.specs.Parts.{HasFew, are_single_parts, is_part, spare_at};
 
 use lpc_base::Birth;
 use lpc_handles::Table;
-use lpc_homes::Object;
 use lpc_homes::parts::{self, Part};
-use lpc_slots::Key;
+use lpc_homes::{Object, views};
+use lpc_sections::Section;
+use lpc_slots::{Key, Slots};
+use lpc_views::Space;
 use std::process::Abort;
 use std::test::Fail;
 
@@ -55,6 +57,7 @@ fn process_gets_a_handle_to_a_port(rt: HostRuntime) -> Result<(), Fail> {
     parts.push(Part {
         process: 2,
         handles: Table::new(rt.alloc()),
+        views: Space::new(rt.alloc()),
     })?;
     parts::reserve_handles(&mut parts, 2, 1)?;
     gives(&rt, &mut parts, Object::Port(port()));
@@ -67,6 +70,7 @@ fn process_gets_a_handle_to_a_process(rt: HostRuntime) -> Result<(), Fail> {
     parts.push(Part {
         process: 2,
         handles: Table::new(rt.alloc()),
+        views: Space::new(rt.alloc()),
     })?;
     parts::reserve_handles(&mut parts, 2, 1)?;
     gives(&rt, &mut parts, Object::Process(birth()));
@@ -79,5 +83,43 @@ fn port_alone_has_a_key(rt: HostRuntime) -> Result<(), Fail> {
     assert!(&rt; Object::Port(port()).port() == Some(port()));
     assert!(&rt; Object::Process(birth()).port().is_none());
     assert!(&rt; Object::Thread(birth()).port().is_none());
+    Ok(())
+}
+
+#[test]
+fn process_gets_a_handle_to_a_section(rt: HostRuntime) -> Result<(), Fail> {
+    let mut parts: Vec<Part> = Vec::new(rt.alloc());
+    parts.push(Part {
+        process: 2,
+        handles: Table::new(rt.alloc()),
+        views: Space::new(rt.alloc()),
+    })?;
+    parts::reserve_handles(&mut parts, 2, 1)?;
+    gives(&rt, &mut parts, Object::Section(port()));
+    assert!(&rt; parts::names(&parts, Object::Section(port())));
+    assert!(&rt; !parts::names(&parts, Object::Port(port())));
+    assert!(&rt; Object::Section(port()).port().is_none());
+    Ok(())
+}
+
+#[test]
+fn process_maps_and_unmaps_a_view(rt: HostRuntime) -> Result<(), Fail> {
+    let mut sections: Slots<Section> = Slots::new(rt.alloc());
+    sections.reserve(1)?;
+    let key = sections.insert_reserved(Section::new(rt.alloc(), 8192, true, birth())?);
+    let mut parts: Vec<Part> = Vec::new(rt.alloc());
+    parts.push(Part {
+        process: 2,
+        handles: Table::new(rt.alloc()),
+        views: Space::new(rt.alloc()),
+    })?;
+    views::reserve_views(&mut parts, 2, 1)?;
+    let mapped = views::map_view(&mut parts, 2, &sections, key, 4096, 0, true, None);
+    assert!(&rt; matches!(&mapped, Ok(view) if view.base == 0x10000 && view.size == 4096));
+    assert!(&rt; views::shows(&parts, key) && views::views_to(&parts, key) == 1);
+    assert!(&rt; views::views_of(&parts, 2).view_at(0x10fff).is_some());
+    assert!(&rt; views::unmap_view(&mut parts, 2, 0x11000).is_none());
+    assert!(&rt; views::unmap_view(&mut parts, 2, 0x10fff).is_some());
+    assert!(&rt; !views::shows(&parts, key));
     Ok(())
 }

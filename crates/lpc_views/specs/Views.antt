@@ -3,7 +3,7 @@ use Rattle.std.specs.Prelude.{ℕ, ◌+◌, ◌-◌, ◌≡◌, ◌≤◌, ◌==
 use Rattle.std.specs.Coded.{Coded, code_by, coded×, coded_ℕ, coded_bool, coded_list, coded_option}
 use Rattle.lpc_base.specs.Rows.{differ_by, every, first, passes, which}
 use Rattle.lpc_base.specs.declared.limits.TheConstants.{SECTION_LIMIT, USER_ADDRESS_END, VIEW_LIMIT}
-use Rattle.lpc_slots.specs.Table.{key_code}
+use Rattle.lpc_slots.specs.Table.{is_key, key_code}
 use Rattle.lpc_slots.specs.declared.Key.{Key}
 use Rattle.lpc_views.specs.declared.view.Place.{Place}
 use Rattle.lpc_views.specs.declared.view.View.{View}
@@ -40,6 +40,10 @@ module _ {P : Type 0} where
   -- the view begins at the base
   abbrev pub lies_at : ℕ → View P → Bool
   lies_at base view = view.base == base
+
+  -- the view shows the section
+  abbrev pub shows : Key → View P → Bool
+  shows section view = is_key view.section section
 
   -- the view goes with a port, as told by a test of two ports
   abbrev pub is_owned_by : (P → P → Bool) → P → View P → Bool

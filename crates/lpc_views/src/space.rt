@@ -2,13 +2,14 @@
 ghost use Rattle.std.specs.Prelude.{◌≡◌, ◌+◌, ◌++◌, ◌∷◌, ◌%◌, ◌^◌, ◌<◌, ◌≤◌, ◌↔◌, [], true, None, Some, length, option_map, IfNone, IfOk, IfSome, IsErr, IsSome, OnErr, OnOk, OnSome, vec_capacity, vec_len};
 ghost use Rattle.std.specs.Borrow.{sem};
 ghost use Rattle.lpc_base.specs.Room.{grown_room};
-ghost use Rattle.lpc_base.specs.Rows.{passes, without, without_first};
+ghost use Rattle.lpc_base.specs.Rows.{count, has, passes, without, without_first};
+ghost use Rattle.lpc_base.specs.Views.{is_free_base};
 ghost use Rattle.lpc_base.specs.declared.limits.TheConstants.{PAGE_SIZE, SECTION_LIMIT, VIEW_LIMIT};
 ghost use Rattle.lpc_slots.specs.Table.{at as row_at};
 ghost use Rattle.lpc_views.specs.Lends.{LendsViewIf};
 ghost use Rattle.lpc_views.specs.Mapping.{mapped, mapped_size};
 ghost use Rattle.lpc_views.specs.Parts.{AreMapped, KeepsSizes, is_mapped, lent_bytes, seen, writable_bytes, written};
-ghost use Rattle.lpc_views.specs.Views.{holds, is_placed, is_writable_at, lies_at, offset_of, lower_of, lowest_owned, place_of, view_at, view_of};
+ghost use Rattle.lpc_views.specs.Views.{holds, is_placed, is_writable_at, lies_at, offset_of, lower_of, lowest_owned, place_of, ranges, shows, view_at, view_of};
 
 use crate::bases::free_base;
 use crate::parts::{part_mut, part_of, write_in};
@@ -36,10 +37,7 @@ impl<P: Copy> Model for Space<P> {
 
     ghost coded = { views_code P.code };
 
-    ghost view = { λ s. record {
-      views = s.views.items;
-      spare = vec_capacity s.views - vec_len s.views;
-    } };
+    ghost view = { λ s. record { views = s.views.items; spare = vec_capacity s.views - vec_len s.views } };
 
     ghost invariant = { λ s. IsSpace s.views.items };
 }
@@ -67,6 +65,52 @@ impl<P: Copy + Eq> Space<P> {
         ensures enough { more ≤ self.old.spare → self.new.spare ≡ self.old.spare }
     {
         reserve_rows(&mut self.views, more)
+    }
+
+    /// The view that `map` would give a part of a section, or its fault; nothing is mapped. The section is present, and
+    /// the offset is a multiple of 4096.
+    pub fn view_for(
+        &self,
+        sections: &Slots<Section>,
+        section: Key,
+        offset: u32,
+        size: u32,
+        writable: bool,
+        owner: Option<P>,
+    ) -> Result<View<P>, MapFault>
+        requires present { IsSome (row_at sections.now section) }
+        requires aligned { offset % PAGE_SIZE ≡ 0 }
+        ensures answer { let views = self.now.views in
+            option_map (λ s. mapped views section offset writable owner s size)
+            (row_at sections.now section) ≡ Some result }
+        ensures few { OnOk result (length self.now.views < VIEW_LIMIT) }
+        ensures most_views { length self.now.views ≤ VIEW_LIMIT }
+        ensures free { let views = ranges self.now.views in
+            IfOk result (λ view. is_free_base views view.size view.base ≡ true) }
+        ensures sized { IfOk result (λ view. 0 < view.size) }
+        ensures inside { IfOk result (λ view. is_mapped sections.now view ≡ true) }
+        ensures most { IfOk result (λ view. view.offset + view.size ≤ SECTION_LIMIT) }
+    {
+        let count = self.views.len();
+        let size = match sections.get(section) {
+            Some(section) => mapped_size(section, offset, size, writable)?,
+            None => unreachable!(),
+        };
+        if count == VIEW_LIMIT {
+            return Err(MapFault::Quota);
+        }
+        let base = match free_base(&self.views, size) {
+            Some(base) => base,
+            None => return Err(MapFault::Quota),
+        };
+        Ok(View {
+            base,
+            size,
+            section,
+            offset,
+            writable,
+            owner,
+        })
     }
 
     /// Gives a part of a section a place among the addresses: the least multiple of 65536, from 00010000, where the
@@ -99,25 +143,7 @@ impl<P: Copy + Eq> Space<P> {
         ensures spare { OnOk result (self.new.spare + 1 ≡ self.old.spare) }
         ensures same { OnErr result (self.new ≡ self.old) }
     {
-        let size = match sections.get(section) {
-            Some(section) => mapped_size(section, offset, size, writable)?,
-            None => unreachable!(),
-        };
-        if self.views.len() == VIEW_LIMIT {
-            return Err(MapFault::Quota);
-        }
-        let base = match free_base(&self.views, size) {
-            Some(base) => base,
-            None => return Err(MapFault::Quota),
-        };
-        let view = View {
-            base,
-            size,
-            section,
-            offset,
-            writable,
-            owner,
-        };
+        let view = self.view_for(sections, section, offset, size, writable, owner)?;
         self.views.push_reserved(view);
         Ok(view)
     }
@@ -158,6 +184,37 @@ impl<P: Copy + Eq> Space<P> {
         Some(view)
     }
 
+    /// Takes all views away. Their places are room for others then.
+    pub fn clear(&mut self)
+        ensures views { self.new.views ≡ [] }
+        ensures spare { self.new.spare ≡ self.old.spare + length self.old.views }
+    {
+        self.views.clear();
+    }
+
+    /// How many views show the section.
+    pub fn count_of(&self, section: Key) -> usize
+        ensures count { result ≡ count (shows section) self.now.views }
+        ensures few { result ≤ VIEW_LIMIT }
+    {
+        self.views
+            .iter()
+            .filter(|view| view.section == section)
+            .count()
+    }
+
+    /// A view shows the section.
+    pub fn shows(&self, section: Key) -> bool
+        ensures { result ≡ has (shows section) self.now.views }
+    {
+        for view in &self.views {
+            if view.section == section {
+                return true;
+            }
+        }
+        false
+    }
+
     /// Where a range of addresses lies, if one view holds it; None exactly where none does.
     pub fn place(&self, address: u32, len: u32) -> Option<Place>
         ensures { result ≡ option_map (place_of address) (view_of self.now.views address len) }
@@ -192,8 +249,7 @@ impl<P: Copy + Eq> Space<P> {
     ) -> Result<&'a [u8], Fault>
         requires mapped { AreMapped sections.now self.now.views }
         ensures bytes { let view = view_of self.now.views address len in
-            IfOk result (λ bytes.
-            option_map (seen sections.now address len) view ≡ Some bytes.now) }
+            IfOk result (λ bytes. option_map (seen sections.now address len) view ≡ Some bytes.now) }
         ensures len { IfOk result (λ bytes. length bytes.now ≡ len) }
         ensures fault { IsErr result ↔ (view_of self.now.views address len ≡ None) }
     {
