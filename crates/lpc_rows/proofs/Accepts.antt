@@ -109,7 +109,7 @@ accepted_quiet reply ms x = by x.kind
 
 module _ (it : Tables) (calls made who : ℕ) (is : AreLawful it calls made) where
   abbrev f : Object → Birth
-  f = birth_of (births_of it.ports)
+  f = birth_of (births_of it)
 
   abbrev rows : World
   rows = rows_by it
@@ -176,8 +176,9 @@ module _ (it : Tables) (calls made who : ℕ) (is : AreLawful it calls made) whe
       lawful = rows_lawful new;
       counted = record { ports_made = is.counted.ports_made; messages_made = is.counted.messages_made; waits_made = is.counted.waits_made };
       registered = is.registered;
+      mapped = is.mapped;
       headed = is.headed;
-      drawn = drawn.same-drawn rows _ refl refl refl is.drawn;
+      drawn = drawn.same-drawn rows _ refl refl refl refl is.drawn;
       born = is.born;
       promised = rows_promised new took there;
     }
@@ -192,5 +193,5 @@ module _ (it : Tables) (calls made who : ℕ) (is : AreLawful it calls made) whe
   pub accepted_room : (new : Option Accepted) (places : ℕ) → Roomy (room_by rows it places) (room_by (rows_by (after new)) (after new) places)
   accepted_room new places =
       let waiting = rows_by (after new) in
-      rooms.room_keep _ _ _ _ _ _ rows _ waiting.waits
+      rooms.room_keep _ _ _ _ _ _ _ _ rows _ waiting.waits
       (length-changed (shown_wait f) (waits.is_of who) (waits.with_accepted new) it.waits.rows)

@@ -28,9 +28,9 @@ pushed bindings after node (Ok path) is = (path, refl, sym (same is))
     same : {X E : Type 0} {a b : X} → let x : Result X E = Ok a in let y : Result X E = Ok b in x ≡ y → a ≡ b
     same e = cc
 
-module _ (it : Tables) (is : AreNamed (births_of it.ports) it) where
+module _ (it : Tables) (is : AreNamed (births_of it) it) where
   abbrev n : Births
-  n = births_of it.ports
+  n = births_of it
 
   abbrev rows : World
   rows = shown_by n it
@@ -39,7 +39,9 @@ module _ (it : Tables) (is : AreNamed (births_of it.ports) it) where
   pub spaced : (space : NameSpace Key) → every (all_pass binding_refs (object_stands n)) space.bindings ≡ true → AreNamed n (record it { space = space })
   spaced space all = record {
     ports_apart = is.ports_apart;
-    refs = record { in_handles = is.refs.in_handles; in_ports = is.refs.in_ports; in_messages = is.refs.in_messages; in_waits = is.refs.in_waits; in_names = all };
+    sections_apart = is.sections_apart;
+    unowned = is.unowned;
+    refs = record { in_handles = is.refs.in_handles; in_ports = is.refs.in_ports; in_messages = is.refs.in_messages; in_waits = is.refs.in_waits; in_names = all; in_views = is.refs.in_views };
   }
 
   free_same : (text : List ℕ) → free_path rows.bindings text ≡ free_path it.space.bindings text
@@ -116,16 +118,17 @@ lawful-names w v calls made a b same h = rw same (record {
   messages_fit = h.messages_fit;
 })
 
-pub spaced_lawful : (it : Tables) (calls made : ℕ) (space : NameSpace Key) → AreLawful it calls made → AreNamed (births_of it.ports) (record it { space = space }) → AreLawful (record it { space = space }) calls made
+pub spaced_lawful : (it : Tables) (calls made : ℕ) (space : NameSpace Key) → AreLawful it calls made → AreNamed (births_of it) (record it { space = space }) → AreLawful (record it { space = space }) calls made
 spaced_lawful it calls made space is named = record {
   named = named;
   lawful = lawful-names (rows_by it) (rows_by (record it { space = space })) calls made it.waits.spare it.ports.message_room refl is.lawful;
   counted = is.counted;
   registered = is.registered;
   headed = is.headed;
-  drawn = drawn.same-drawn (rows_by it) _ refl refl refl is.drawn;
+  drawn = drawn.same-drawn (rows_by it) _ refl refl refl refl is.drawn;
   born = is.born;
   promised = is.promised;
+  mapped = is.mapped;
 }
 
 -- where a name is refused, the name space stays as it is
@@ -136,9 +139,9 @@ same_refused old new given (Err x) (Err (Name fault)) is_bound refused left err 
 same_refused old new given (Err x) (Err OutOfMemory) is_bound refused left err = absurd (cc)
 
 -- What the calls on names answer
-module _ (it : Tables) (is : AreNamed (births_of it.ports) it) (space : NameSpace Key) (text : List ℕ) where
+module _ (it : Tables) (is : AreNamed (births_of it) it) (space : NameSpace Key) (text : List ℕ) where
   abbrev m : Births
-  m = births_of it.ports
+  m = births_of it
 
   pub bound_clause : (node : Node Key) (r : Result Unit BindFault) → OnOk r (bound it.space.bindings text node ≡ Ok space.bindings) → OnOk r (with_name (shown_by m it) text (shown_node (birth_of m) node) ≡ Ok (shown_by m (record it { space = space })))
   bound_clause node (Ok u) h = binds it is text node space h
@@ -171,7 +174,7 @@ free_by (Ok x) ok = ok
 free_by (Err fault) ok = ok
 
 pub name_fault : (it : Tables) (text : List ℕ) (fault : NameFault) → free_path it.space.bindings text ≡ Err fault → free_name (rows_by it) text ≡ Err (status_of fault)
-name_fault it text fault is = fault_by (free_path (rows_by it).bindings text) fault (free_path-as (port_birth (birth_of (births_of it.ports))) it.space.bindings text ∙ is)
+name_fault it text fault is = fault_by (free_path (rows_by it).bindings text) fault (free_path-as (port_birth (birth_of (births_of it))) it.space.bindings text ∙ is)
 
 pub name_free : (it : Tables) (text : List ℕ) → IsOk (free_path it.space.bindings text) → IsOk (free_name (rows_by it) text)
-name_free it text ok = free_by (free_path (rows_by it).bindings text) (subst IsOk (sym (free_path-as (port_birth (birth_of (births_of it.ports))) it.space.bindings text)) ok)
+name_free it text ok = free_by (free_path (rows_by it).bindings text) (subst IsOk (sym (free_path-as (port_birth (birth_of (births_of it))) it.space.bindings text)) ok)

@@ -1,5 +1,5 @@
 -- The thread that makes a call, as the table of threads tells it and as the definitions have it.
-use Rattle.std.proofs.Common.{◌≡◌, ℕ, List, map, true, Option, Some, option_map, refl, ap, subst, ◌∙◌}
+use Rattle.std.proofs.Common.{◌≡◌, ℕ, List, map, true, Some, option_map, refl, ap, subst, ◌∙◌}
 use Rattle.lpc_base.specs.Rows.{every, first, has}
 use Rattle.lpc_base.proofs.RowMaps.{mapped-twice}
 use Rattle.lpc_model.specs.World.{World}

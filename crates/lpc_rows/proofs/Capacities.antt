@@ -14,7 +14,7 @@ use Rattle.lpc_handles.specs.Handles as handles
 use Rattle.lpc_handles.specs.Handles.{values}
 use Rattle.lpc_handles.specs.declared.table.Row.{Row}
 use Rattle.lpc_handles.specs.declared.table.TableFault.{TableFault}
-use Rattle.lpc_homes.specs.Parts.{are_single_parts, closed, closing, handed, is_part, roomed, rows_at, rows_in, spare_at, spare_in}
+use Rattle.lpc_homes.specs.Parts.{are_single_parts, closed, closing, emptied, emptying, handed, is_part, roomed, rows_at, rows_in, spare_at, spare_in}
 use Rattle.lpc_homes.specs.declared.object.Object.{Object}
 use Rattle.lpc_homes.specs.declared.parts.Part.{Part}
 use Rattle.lpc_model.specs.Found.{handles_of, waits_as}
@@ -22,10 +22,12 @@ use Rattle.lpc_model.specs.World.{WaitRow, World}
 use Rattle.lpc_ports.specs.Table.{PortTable}
 use Rattle.lpc_waits.specs.Table as waits
 use Rattle.lpc_waits.specs.Table.{WaitTable}
-use Rattle.lpc_rows.specs.Capacity.{HandlePlaces, capacity_by, is_of_process, no_places, places_in, places_of_part}
+use Rattle.lpc_rows.specs.Capacity.{HandlePlaces, capacity_by, is_of_process, no_places, places_in, places_of_part, view_places_of}
 use Rattle.lpc_rows.specs.Kept.{rows_by}
 use Rattle.lpc_rows.specs.Lawful.{AreLawful}
 use Rattle.lpc_rows.specs.Shown.{Tables, birth_of, births_of, shown_wait}
+use Rattle.lpc_sections.specs.Sections.{SectionRow}
+use Rattle.lpc_slots.specs.Table.{Table, listed}
 use Rattle.lpc_rows.proofs.Changes as changes
 use Rattle.lpc_rows.proofs.Steps as steps
 use Rattle.lpc_rows.proofs.Tables as tables
@@ -109,16 +111,37 @@ closed_part v part = ap (λ n. record { process = part.process; places = n }) (f
 pub closed_all : (pid v : ℕ) (parts : List Part) → map places_of_part (closing pid v parts) ≡ map places_of_part parts
 closed_all pid v parts = unseen-change places_of_part (is_part pid) (closed v) (closed_part v) parts
 
+-- and the memory for views stays where handles alone change
+pub handed_views : (pid : ℕ) (row : Row Object) (r : Result ℕ TableFault) (old new : List Part) → IfOk r (λ v. new ≡ change (is_part pid) (handed v row) old) → OnErr r (new ≡ old) → map view_places_of new ≡ map view_places_of old
+handed_views pid row (Ok v) old new more same = ap (map view_places_of) more ∙ unseen-change view_places_of (is_part pid) (handed v row) (λ part. refl) old
+handed_views pid row (Err e) old new more same = ap (map view_places_of) same
+
+pub closed_views : (pid v : ℕ) (parts : List Part) → map view_places_of (closing pid v parts) ≡ map view_places_of parts
+closed_views pid v parts = unseen-change view_places_of (is_part pid) (closed v) (λ part. refl) parts
+
+pub views_roomed : (pid : ℕ) (new parts : List Part) → new ≡ change (is_part pid) (roomed (spare_at new pid)) parts → map view_places_of new ≡ map view_places_of parts
+views_roomed pid new parts at = ap (map view_places_of) at ∙ unseen-change view_places_of (is_part pid) (roomed (spare_at new pid)) (λ part. refl) parts
+
+-- Views alone change
+pub emptied_handles : (pid : ℕ) (parts : List Part) → map places_of_part (emptying pid parts) ≡ map places_of_part parts
+emptied_handles pid parts = unseen-change places_of_part (is_part pid) emptied (λ part. refl) parts
+
+pub emptied_views : (pid : ℕ) (parts : List Part) → map view_places_of (emptying pid parts) ≡ map view_places_of parts
+emptied_views pid parts = unseen-change view_places_of (is_part pid) emptied (λ part. ap (λ n. record { process = part.process; places = n }) (omega arith)) parts
+
 -- The memory of the tables, where one of them changed
 module _ (it : Tables) (places : ℕ) where
   pub of_ports : (new : PortTable) → new.port_room + length new.ports ≡ it.ports.port_room + length it.ports.ports → new.message_room + length new.messages ≡ it.ports.message_room + length it.ports.messages → capacity_by (record it { ports = new }) places ≡ capacity_by it places
   of_ports new ports messages = rw (ports, messages) refl
 
+  pub of_sections : (new : Table SectionRow) → new.spare + length (listed new) ≡ it.sections.spare + length (listed it.sections) → capacity_by (record it { sections = new }) places ≡ capacity_by it places
+  of_sections new sections = rw sections refl
+
   pub of_waits : (new : WaitTable) → new.spare + length new.rows ≡ it.waits.spare + length it.waits.rows → capacity_by (record it { waits = new }) places ≡ capacity_by it places
   of_waits new waits = rw waits refl
 
-  pub of_handles : (new : List Part) → map places_of_part new ≡ map places_of_part it.parts → capacity_by (record it { parts = new }) places ≡ capacity_by it places
-  of_handles new parts = rw parts refl
+  pub of_handles : (new : List Part) → map places_of_part new ≡ map places_of_part it.parts → map view_places_of new ≡ map view_places_of it.parts → capacity_by (record it { parts = new }) places ≡ capacity_by it places
+  of_handles new parts views = rw (parts, views) refl
 
 -- A wait that ends gives its place back
 module _ (it : Tables) (calls made : ℕ) (is : AreLawful it calls made) (tid : ℕ) where
@@ -127,8 +150,8 @@ module _ (it : Tables) (calls made : ℕ) (is : AreLawful it calls made) (tid : 
       let shown : List WaitRow = (rows_by it).waits in
       let spare = cond (has (waits.is_of tid) it.waits.rows) (it.waits.spare + 1) it.waits.spare in
       let left = ap (λ (v : World). length v.waits) (changes.ends it is.named tid spare it.waits.made) in
-      let long = length-map (without (waits.is_of tid) it.waits.rows) (shown_wait (birth_of (births_of it.ports))) in
-      let all = length-map it.waits.rows (shown_wait (birth_of (births_of it.ports))) in
+      let long = length-map (without (waits.is_of tid) it.waits.rows) (shown_wait (birth_of (births_of it))) in
+      let all = length-map it.waits.rows (shown_wait (birth_of (births_of it))) in
       let less = length-ended (λ (x : WaitRow). x.thread) tid shown is.lawful.single in
       let same = steps.has_wait it calls made is tid in
       let fewer : length (without (waits.is_of tid) it.waits.rows) + cond (has (waits.is_of tid) it.waits.rows) 1 0 ≡ length it.waits.rows =

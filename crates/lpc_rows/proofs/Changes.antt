@@ -31,16 +31,16 @@ use Rattle.lpc_rows.specs.Kept.{is_pending}
 use Rattle.lpc_rows.specs.Lawful.{IsLawful, is_quiet}
 use Rattle.lpc_rows.proofs.Lawful.{lawful-keep}
 use Rattle.lpc_rows.specs.Names.{name_of, stands}
-use Rattle.lpc_rows.specs.Shown.{Tables, AreNamed, Births, all_pass, birth_of, births_of, message_refs, object_stands, part_refs, shown_by, shown_handle, shown_message, shown_part, shown_process, shown_thread, shown_used, shown_wait, wait_refs, with_message}
+use Rattle.lpc_rows.specs.Shown.{Tables, AreNamed, Births, all_pass, birth_of, births_of, message_refs, has_free_views, object_stands, part_refs, shown_by, shown_handle, shown_message, shown_part, shown_space, space_refs, shown_process, shown_thread, shown_used, shown_wait, wait_refs, with_message}
 use Rattle.lpc_homes.specs.Parts.{handed, is_part, roomed}
 use Rattle.lpc_homes.specs.declared.object.Object.{Object}
 use Rattle.lpc_homes.specs.declared.parts.Part.{Part}
 use Rattle.std.proofs.lemmas.List.{map-append}
 use Rattle.lpc_rows.proofs.Follows.{queue_same}
 
-module _ (it : Tables) (is : AreNamed (births_of it.ports) it) where
+module _ (it : Tables) (is : AreNamed (births_of it) it) where
   abbrev n : Births
-  n = births_of it.ports
+  n = births_of it
 
   abbrev f : Object → Birth
   f = birth_of n
@@ -55,7 +55,9 @@ module _ (it : Tables) (is : AreNamed (births_of it.ports) it) where
   pub entered : (row : Key × QueuedMessage) (room made : ℕ) → all_pass message_refs ok row ≡ true → AreNamed n (record it { ports = record it.ports { messages = it.ports.messages ++ row ∷ []; message_room = room; messages_made = made } })
   entered row room made there = record {
     ports_apart = is.ports_apart;
-    refs = record { in_handles = is.refs.in_handles; in_ports = is.refs.in_ports; in_messages = every-push (all_pass message_refs ok) it.ports.messages row is.refs.in_messages there; in_waits = is.refs.in_waits; in_names = is.refs.in_names };
+    sections_apart = is.sections_apart;
+    unowned = is.unowned;
+    refs = record { in_handles = is.refs.in_handles; in_ports = is.refs.in_ports; in_messages = every-push (all_pass message_refs ok) it.ports.messages row is.refs.in_messages there; in_waits = is.refs.in_waits; in_names = is.refs.in_names; in_views = is.refs.in_views };
   }
 
   pub enters : (row : Key × QueuedMessage) (room made : ℕ) → shown_by n (record it { ports = record it.ports { messages = it.ports.messages ++ row ∷ []; message_room = room; messages_made = made } }) ≡ basic rows (Enters (shown_message f row))
@@ -65,7 +67,9 @@ module _ (it : Tables) (is : AreNamed (births_of it.ports) it) where
   pub taken : (key : Key) (room : ℕ) → AreNamed n (record it { ports = record it.ports { messages = without_first (ports.is_in key) it.ports.messages; message_room = room } })
   taken key room = record {
     ports_apart = is.ports_apart;
-    refs = record { in_handles = is.refs.in_handles; in_ports = is.refs.in_ports; in_messages = every-without_first (all_pass message_refs ok) (ports.is_in key) it.ports.messages is.refs.in_messages; in_waits = is.refs.in_waits; in_names = is.refs.in_names };
+    sections_apart = is.sections_apart;
+    unowned = is.unowned;
+    refs = record { in_handles = is.refs.in_handles; in_ports = is.refs.in_ports; in_messages = every-without_first (all_pass message_refs ok) (ports.is_in key) it.ports.messages is.refs.in_messages; in_waits = is.refs.in_waits; in_names = is.refs.in_names; in_views = is.refs.in_views };
   }
 
   pub takes : (key : Key) (room : ℕ) → stands n.ports key ≡ true → shown_by n (record it { ports = record it.ports { messages = without_first (ports.is_in key) it.ports.messages; message_room = room } }) ≡ basic rows (Takes (name_of n.ports key))
@@ -75,7 +79,9 @@ module _ (it : Tables) (is : AreNamed (births_of it.ports) it) where
   pub awaited : (row : WaitRow) (spare made : ℕ) → all_pass wait_refs ok row ≡ true → AreNamed n (record it { waits = record { rows = it.waits.rows ++ row ∷ []; spare = spare; made = made } })
   awaited row spare made there = record {
     ports_apart = is.ports_apart;
-    refs = record { in_handles = is.refs.in_handles; in_ports = is.refs.in_ports; in_messages = is.refs.in_messages; in_waits = every-push (all_pass wait_refs ok) it.waits.rows row is.refs.in_waits there; in_names = is.refs.in_names };
+    sections_apart = is.sections_apart;
+    unowned = is.unowned;
+    refs = record { in_handles = is.refs.in_handles; in_ports = is.refs.in_ports; in_messages = is.refs.in_messages; in_waits = every-push (all_pass wait_refs ok) it.waits.rows row is.refs.in_waits there; in_names = is.refs.in_names; in_views = is.refs.in_views };
   }
 
   pub awaits : (row : WaitRow) (spare made : ℕ) → shown_by n (record it { waits = record { rows = it.waits.rows ++ row ∷ []; spare = spare; made = made } }) ≡ basic rows (Awaits (shown_wait f row))
@@ -84,7 +90,9 @@ module _ (it : Tables) (is : AreNamed (births_of it.ports) it) where
   pub ended : (who spare made : ℕ) → AreNamed n (record it { waits = record { rows = without (waits.is_of who) it.waits.rows; spare = spare; made = made } })
   ended who spare made = record {
     ports_apart = is.ports_apart;
-    refs = record { in_handles = is.refs.in_handles; in_ports = is.refs.in_ports; in_messages = is.refs.in_messages; in_waits = every-without (all_pass wait_refs ok) (waits.is_of who) it.waits.rows is.refs.in_waits; in_names = is.refs.in_names };
+    sections_apart = is.sections_apart;
+    unowned = is.unowned;
+    refs = record { in_handles = is.refs.in_handles; in_ports = is.refs.in_ports; in_messages = is.refs.in_messages; in_waits = every-without (all_pass wait_refs ok) (waits.is_of who) it.waits.rows is.refs.in_waits; in_names = is.refs.in_names; in_views = is.refs.in_views };
   }
 
   pub ends : (who spare made : ℕ) → shown_by n (record it { waits = record { rows = without (waits.is_of who) it.waits.rows; spare = spare; made = made } }) ≡ record rows { waits = without (waits_as who) rows.waits }
@@ -94,7 +102,9 @@ module _ (it : Tables) (is : AreNamed (births_of it.ports) it) where
   pub waiting : (who spare made : ℕ) (g : WaitRow → WaitRow) → ((row : WaitRow) → wait_refs (g row) ≡ wait_refs row) → AreNamed n (record it { waits = record { rows = change (waits.is_of who) g it.waits.rows; spare = spare; made = made } })
   waiting who spare made g same = record {
     ports_apart = is.ports_apart;
-    refs = record { in_handles = is.refs.in_handles; in_ports = is.refs.in_ports; in_messages = is.refs.in_messages; in_waits = every-change (all_pass wait_refs ok) (waits.is_of who) g (λ row there. ap (every ok) (same row) ∙ there) it.waits.rows is.refs.in_waits; in_names = is.refs.in_names };
+    sections_apart = is.sections_apart;
+    unowned = is.unowned;
+    refs = record { in_handles = is.refs.in_handles; in_ports = is.refs.in_ports; in_messages = is.refs.in_messages; in_waits = every-change (all_pass wait_refs ok) (waits.is_of who) g (λ row there. ap (every ok) (same row) ∙ there) it.waits.rows is.refs.in_waits; in_names = is.refs.in_names; in_views = is.refs.in_views };
   }
 
   pub waits_change : (who spare made : ℕ) (g : WaitRow → WaitRow) (k : model.WaitRow → model.WaitRow) → ((row : WaitRow) → shown_wait f (g row) ≡ k (shown_wait f row)) → shown_by n (record it { waits = record { rows = change (waits.is_of who) g it.waits.rows; spare = spare; made = made } }) ≡ record rows { waits = change (waits_as who) k rows.waits }
@@ -123,35 +133,44 @@ module _ (it : Tables) (is : AreNamed (births_of it.ports) it) where
   pub handed_named : (pid value : ℕ) (row : Row Object) → ok row.object ≡ true → AreNamed n (record it { parts = change (is_part pid) (handed value row) it.parts })
   handed_named pid value row there = record {
     ports_apart = is.ports_apart;
+    sections_apart = is.sections_apart;
+    unowned = every-change has_free_views (is_part pid) (handed value row) (λ part all. all) it.parts is.unowned;
     refs = record {
       in_handles = every-change (all_pass part_refs ok) (is_part pid) (handed value row) (λ part all. objects_put value row part.handles.rows there all) it.parts is.refs.in_handles;
       in_ports = is.refs.in_ports;
       in_messages = is.refs.in_messages;
       in_waits = is.refs.in_waits;
       in_names = is.refs.in_names;
+      in_views = every-change (all_pass space_refs ok) (is_part pid) (handed value row) (λ part all. all) it.parts is.refs.in_views;
     };
   }
 
   pub hands : (pid value : ℕ) (row : Row Object) → shown_by n (record it { parts = change (is_part pid) (handed value row) it.parts }) ≡ basic rows (AddsHandle pid (shown_handle f (value, row)))
   hands pid value row =
-      rw (change-map (shown_part f) (all_pass part_refs ok) (is_part pid) (is_table pid) (λ part _. refl) (handed value row) (with_handle (shown_handle f (value, row)))
-      (λ part _. ap (λ hs. record { process = part.process; rows = hs }) (put value row part.handles.rows)) it.parts is.refs.in_handles) refl
+      rw (
+        change-map (shown_part f) (all_pass part_refs ok) (is_part pid) (is_table pid) (λ part _. refl) (handed value row) (with_handle (shown_handle f (value, row)))
+            (λ part _. ap (λ hs. record { process = part.process; rows = hs }) (put value row part.handles.rows)) it.parts is.refs.in_handles,
+        unseen-change (shown_space f) (is_part pid) (handed value row) (λ part. refl) it.parts,
+      ) refl
 
   -- more room for handles
   pub roomed_named : (pid spare : ℕ) → AreNamed n (record it { parts = change (is_part pid) (roomed spare) it.parts })
   roomed_named pid spare = record {
     ports_apart = is.ports_apart;
+    sections_apart = is.sections_apart;
+    unowned = every-change has_free_views (is_part pid) (roomed spare) (λ part all. all) it.parts is.unowned;
     refs = record {
       in_handles = every-change (all_pass part_refs ok) (is_part pid) (roomed spare) (λ part all. all) it.parts is.refs.in_handles;
       in_ports = is.refs.in_ports;
       in_messages = is.refs.in_messages;
       in_waits = is.refs.in_waits;
       in_names = is.refs.in_names;
+      in_views = every-change (all_pass space_refs ok) (is_part pid) (roomed spare) (λ part all. all) it.parts is.refs.in_views;
     };
   }
 
   pub rooms : (pid spare : ℕ) → shown_by n (record it { parts = change (is_part pid) (roomed spare) it.parts }) ≡ rows
-  rooms pid spare = rw (unseen-change (shown_part f) (is_part pid) (roomed spare) (λ part. refl) it.parts) refl
+  rooms pid spare = rw (unseen-change (shown_part f) (is_part pid) (roomed spare) (λ part. refl) it.parts, unseen-change (shown_space f) (is_part pid) (roomed spare) (λ part. refl) it.parts) refl
 
   -- processes and threads
   pub all_true : {X : Type 0} (xs : List X) → every (λ _. true) xs ≡ true
@@ -161,18 +180,22 @@ module _ (it : Tables) (is : AreNamed (births_of it.ports) it) where
   pub threaded : (t : procs.Table) → AreNamed n (record it { procs = t })
   threaded t = record {
     ports_apart = is.ports_apart;
-    refs = record { in_handles = is.refs.in_handles; in_ports = is.refs.in_ports; in_messages = is.refs.in_messages; in_waits = is.refs.in_waits; in_names = is.refs.in_names };
+    sections_apart = is.sections_apart;
+    unowned = is.unowned;
+    refs = record { in_handles = is.refs.in_handles; in_ports = is.refs.in_ports; in_messages = is.refs.in_messages; in_waits = is.refs.in_waits; in_names = is.refs.in_names; in_views = is.refs.in_views };
   }
 
-  pub processed : (t : procs.Table) (part : Part) → part.handles.rows ≡ [] → AreNamed n (record it { procs = t; parts = it.parts ++ part ∷ [] })
-  processed t part none = record {
+  pub processed : (t : procs.Table) (part : Part) → part.handles.rows ≡ [] → part.views.views ≡ [] → AreNamed n (record it { procs = t; parts = it.parts ++ part ∷ [] })
+  processed t part none no_views = record {
     ports_apart = is.ports_apart;
-    refs = record { in_handles = every-push (all_pass part_refs ok) it.parts part is.refs.in_handles (rw none refl); in_ports = is.refs.in_ports; in_messages = is.refs.in_messages; in_waits = is.refs.in_waits; in_names = is.refs.in_names };
+    sections_apart = is.sections_apart;
+    unowned = every-push has_free_views it.parts part is.unowned (rw no_views refl);
+    refs = record { in_handles = every-push (all_pass part_refs ok) it.parts part is.refs.in_handles (rw none refl); in_ports = is.refs.in_ports; in_messages = is.refs.in_messages; in_waits = is.refs.in_waits; in_names = is.refs.in_names; in_views = every-push (all_pass space_refs ok) it.parts part is.refs.in_views (rw no_views refl) };
   }
 
-  pub adds_process : (row : ProcessRow) (part : Part) (room : ℕ) → part.handles.rows ≡ [] → part.process ≡ row.number
+  pub adds_process : (row : ProcessRow) (part : Part) (room : ℕ) → part.handles.rows ≡ [] → part.views.views ≡ [] → part.process ≡ row.number
       → shown_by n (record it { procs = record it.procs { processes = it.procs.processes ++ row ∷ []; used_processes = it.procs.used_processes ++ row.number ∷ []; process_room = room }; parts = it.parts ++ part ∷ [] }) ≡ basic rows (AddsProcess (shown_process row))
-  adds_process row part room none same = rw (push-map shown_process it.procs.processes row, push-map (shown_part f) it.parts part, none, same) refl
+  adds_process row part room none no_views same = rw (push-map shown_process it.procs.processes row, push-map (shown_part f) it.parts part, push-map (shown_space f) it.parts part, none, no_views, same) refl
 
   pub adds_thread : (row : ThreadRow) (room : ℕ)
       → shown_by n (record it { procs = record it.procs { threads = it.procs.threads ++ row ∷ []; used_threads = it.procs.used_threads ++ (record { number = row.number; process = row.process }) ∷ []; thread_room = room } }) ≡ basic rows (AddsThread (shown_thread row))

@@ -57,9 +57,9 @@ seen_node n (LinkTo target) ok = refl
 same_item : (a : Bool) → (let x : Result (Found Bool) NameFault = Ok (Item a) in let y : Result (Found Bool) NameFault = Ok (Item true) in x ≡ y) → a ≡ true
 same_item a e = cc
 
-module _ (it : Tables) (is : AreNamed (births_of it.ports) it) where
+module _ (it : Tables) (is : AreNamed (births_of it) it) where
   abbrev n : Births
-  n = births_of it.ports
+  n = births_of it
 
   abbrev f : Object → Birth
   f = birth_of n
@@ -155,9 +155,9 @@ none_of k None = refl
 none_of k (Some x) = refl
 
 -- Reading the tables
-module _ (it : Tables) (is : AreNamed (births_of it.ports) it) where
+module _ (it : Tables) (is : AreNamed (births_of it) it) where
   abbrev m : Births
-  m = births_of it.ports
+  m = births_of it
 
   abbrev g : Object → Birth
   g = birth_of m

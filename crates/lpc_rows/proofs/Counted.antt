@@ -14,16 +14,18 @@ use Rattle.lpc_ports.specs.declared.Port.{Port}
 use Rattle.lpc_ports.specs.Table.{QueuedMessage}
 use Rattle.lpc_procs.specs.Procs as procs
 use Rattle.lpc_slots.specs.declared.Key.{Key}
+use Rattle.lpc_views.specs.Views.{shows}
+use Rattle.lpc_views.specs.declared.view.View.{View}
 use Rattle.lpc_waits.specs.Table as waits
 use Rattle.lpc_waits.specs.declared.WaitRow.{WaitRow}
 use Rattle.lpc_rows.specs.Kept.{is_alive, rows_by}
-use Rattle.lpc_model.specs.Found.{all_handles, handle_count, is_born_process, same_object}
+use Rattle.lpc_model.specs.Found.{all_handles, handle_count, is_born_process, same_object, section_name}
 use Rattle.lpc_model.proofs.Steps.Handles.{has-each}
-use Rattle.lpc_rows.specs.Held.{has_handles}
+use Rattle.lpc_rows.specs.Held.{has_handles, has_holders}
 use Rattle.lpc_rows.specs.Lawful.{AreLawful}
 use Rattle.lpc_rows.specs.Names.{name_of, stands}
-use Rattle.lpc_homes.specs.Parts.{all_rows, has_name_of, names_it}
-use Rattle.lpc_rows.specs.Shown.{Tables, AreNamed, Births, all_pass, birth_of, births_of, message_refs, name_by, object_stands, part_refs, port_refs, ports_in, shown_handle, shown_message, shown_part, shown_port, shown_process, shown_thread, shown_wait, wait_refs}
+use Rattle.lpc_homes.specs.Parts.{all_rows, all_views, has_name_of, has_view_of, names_it}
+use Rattle.lpc_rows.specs.Shown.{Tables, AreNamed, Births, all_pass, birth_of, births_of, message_refs, name_by, object_stands, part_refs, port_refs, ports_in, shown_handle, shown_message, shown_part, shown_port, shown_process, shown_space, shown_thread, shown_view, shown_wait, space_refs, view_refs, wait_refs}
 use Rattle.lpc_homes.specs.declared.object.Object.{Object}
 use Rattle.lpc_homes.specs.declared.parts.Part.{Part}
 use Rattle.lpc_rows.proofs.Follows as follows
@@ -46,12 +48,12 @@ pub named-counted : (w : World) (o : ObjectName) → not (handle_count w o == 0)
 named-counted w o = zero_has (λ (h : HandleRow). same_object h.object o) (all_handles w) ∙ has-each (λ (h : HandleRow). same_object h.object o) (λ t. t.rows) w.handles
 
 -- Handles that name an object
-module _ (it : Tables) (is : AreNamed (births_of it.ports) it) (o : Object) (there : object_stands (births_of it.ports) o ≡ true) where
+module _ (it : Tables) (is : AreNamed (births_of it) it) (o : Object) (there : object_stands (births_of it) o ≡ true) where
   abbrev g : Object → Birth
-  g = birth_of (births_of it.ports)
+  g = birth_of (births_of it)
 
   abbrev stand : Object → Bool
-  stand = object_stands (births_of it.ports)
+  stand = object_stands (births_of it)
 
   rows_shown : (parts : List Part) → each (λ t. t.rows) (map (shown_part g) parts) ≡ map (shown_handle g) (all_rows parts)
   rows_shown [] = refl
@@ -73,9 +75,9 @@ module _ (it : Tables) (is : AreNamed (births_of it.ports) it) (o : Object) (the
   handles_named = named-counted (rows_by it) (name_by g o) ∙ readings.named_is it is o there
 
 -- Rows that count for a port
-module _ (it : Tables) (is : AreNamed (births_of it.ports) it) (key : Key) (there : stands (births_of it.ports).ports key ≡ true) where
+module _ (it : Tables) (is : AreNamed (births_of it) it) (key : Key) (there : stands (births_of it).ports key ≡ true) where
   abbrev n : Births
-  n = births_of it.ports
+  n = births_of it
 
   abbrev f : Object → Birth
   f = birth_of n
@@ -127,9 +129,9 @@ module _ (it : Tables) (calls made : ℕ) (is : AreLawful it calls made) (b : Bi
   threads-few = omega (arith, is.lawful.rows, length-map it.procs.threads shown_thread)
 
 -- each of these counts is no more than was made
-module _ (it : Tables) (calls made : ℕ) (is : AreLawful it calls made) (key : Key) (there : stands (births_of it.ports).ports key ≡ true) where
+module _ (it : Tables) (calls made : ℕ) (is : AreLawful it calls made) (key : Key) (there : stands (births_of it).ports key ≡ true) where
   ports_few : length it.ports.ports ≤ made
-  ports_few = omega (arith, is.lawful.rows, length-map it.ports.ports (shown_port (birth_of (births_of it.ports))))
+  ports_few = omega (arith, is.lawful.rows, length-map it.ports.ports (shown_port (birth_of (births_of it))))
 
   pub paired_few : count (ports.is_paired_to key) it.ports.ports ≤ made
   paired_few = omega (arith, ports_few, count-bound (ports.is_paired_to key) it.ports.ports)
@@ -139,7 +141,56 @@ module _ (it : Tables) (calls made : ℕ) (is : AreLawful it calls made) (key : 
 
   pub made_few : count (waits.is_made_on key) it.waits.rows ≤ made
   made_few =
-      omega (arith, made_counted it is.named key there, count-bound (found.is_made_on (name_of (births_of it.ports).ports key)) (rows_by it).waits, waits-fit (rows_by it).threads (rows_by it).waits is.lawful.single is.lawful.threads, count-bound is_alive (rows_by it).threads, is.lawful.rows)
+      omega (arith, made_counted it is.named key there, count-bound (found.is_made_on (name_of (births_of it).ports key)) (rows_by it).waits, waits-fit (rows_by it).threads (rows_by it).waits is.lawful.single is.lawful.threads, count-bound is_alive (rows_by it).threads, is.lawful.rows)
 
   pub parts_few : length it.parts ≤ made
-  parts_few = omega (arith, is.lawful.tables_few, length-map it.parts (shown_part (birth_of (births_of it.ports))))
+  parts_few = omega (arith, is.lawful.tables_few, length-map it.parts (shown_part (birth_of (births_of it))))
+
+-- Views that show a section
+module _ (it : Tables) (is : AreNamed (births_of it) it) (key : Key) (there : stands (births_of it).sections key ≡ true) where
+  abbrev k : Births
+  k = births_of it
+
+  abbrev h : Object → Birth
+  h = birth_of k
+
+  abbrev standing : Object → Bool
+  standing = object_stands k
+
+  abbrev c : Birth
+  c = name_of k.sections key
+
+  first-one : (v : View Key) → all_pass view_refs standing v ≡ true → stands k.sections v.section ≡ true
+  first-one v all = grind arith
+
+  view_same : (v : View Key) → all_pass view_refs standing v ≡ true → found.shows_section c (shown_view h v) ≡ shows key v
+  view_same v all = follows.agree_section it is v.section key (first-one v all) there
+
+  views_shown : (parts : List Part) → each (λ t. t.rows) (map (shown_space h) parts) ≡ map (shown_view h) (all_views parts)
+  views_shown [] = refl
+  views_shown (part ∷ parts) =
+      ap (λ vs. map (shown_view h) part.views.views ++ vs) (views_shown parts) ∙ sym (map-append (shown_view h) part.views.views (all_views parts))
+
+  each_stands : (vs : List (View Key)) → every standing (each view_refs vs) ≡ true → every (all_pass view_refs standing) vs ≡ true
+  each_stands [] all = refl
+  each_stands (v ∷ vs) all = rw (every-front standing (view_refs v) (each view_refs vs) all, each_stands vs (every-back standing (view_refs v) (each view_refs vs) all)) refl
+
+  views_stand : (parts : List Part) → every (all_pass space_refs standing) parts ≡ true → every (all_pass view_refs standing) (all_views parts) ≡ true
+  views_stand [] all = refl
+  views_stand (part ∷ parts) all =
+      every-append (all_pass view_refs standing) part.views.views (all_views parts) (each_stands part.views.views (grind arith)) (views_stand parts (grind arith))
+
+  pub views_counted : count (found.shows_section c) (found.all_views (rows_by it)) ≡ count (shows key) (all_views it.parts)
+  views_counted =
+      ap (count (found.shows_section c)) (views_shown it.parts)
+      ∙ count-map (shown_view h) (all_pass view_refs standing) (shows key) (found.shows_section c) view_same (all_views it.parts) (views_stand it.parts is.refs.in_views)
+
+  pub views_held : has_holders (rows_by it) (section_name c) ≡ has (has_view_of key) it.parts
+  views_held =
+      ap (λ n. not (n == 0)) views_counted
+      ∙ zero_has (shows key) (all_views it.parts)
+      ∙ has-each (shows key) (λ part. part.views.views) it.parts
+
+-- no more processes have a home than were made
+pub homes-few : (it : Tables) (calls made : ℕ) → AreLawful it calls made → length it.parts ≤ made
+homes-few it calls made is = omega (arith, is.lawful.tables_few, length-map it.parts (shown_part (birth_of (births_of it))))

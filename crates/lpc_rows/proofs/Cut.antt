@@ -60,9 +60,9 @@ module _ {R : Type 0} (birth : R → Birth) (key : Key) where
     | false ↦ λ off. grind (arith, off, keyed test rows)
   ] refl
 
-module _ (it : Tables) (is : AreNamed (births_of it.ports) it) where
+module _ (it : Tables) (is : AreNamed (births_of it) it) where
   abbrev n : Births
-  n = births_of it.ports
+  n = births_of it
 
   abbrev f : Object → Birth
   f = birth_of n
@@ -248,10 +248,10 @@ module _ (it : Tables) (is : AreNamed (births_of it.ports) it) where
     cut_kind : (p : model.PortRow) → (shown_cut p).kind ≡ p.kind
     cut_kind p = elim (is_end_of b p) as (λ c. (cond c (basics.cut p) p).kind ≡ p.kind) [ true ↦ refl | false ↦ refl ]
 
-    pub cut_names : births_of cut_table ≡ n
+    pub cut_names : births_of (record it { ports = cut_table }) ≡ n
     cut_names = rw cut_rows (joins.births_same cut_row cut_key cut_own it is)
 
-    pub cuts : shown_by (births_of cut_table) (record it { ports = cut_table }) ≡ basic w (Cuts b)
+    pub cuts : shown_by (births_of (record it { ports = cut_table })) (record it { ports = cut_table }) ≡ basic w (Cuts b)
     cuts = rw cut_rows (joins.changes cut_row cut_key cut_own it is shown_cut cut_kept fit all_fit cut_shows)
 
     pub cut_lawful : (calls made : ℕ) → AreLawful it calls made → AreLawful (record it { ports = cut_table }) calls made

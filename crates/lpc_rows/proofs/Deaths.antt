@@ -83,7 +83,7 @@ pair-of k tid r (Some x) at = let same = same-pair (k, x) (tid, r) at in (ap (λ
 
 module _ (it : Tables) (calls made : ℕ) (is : AreLawful it calls made) where
   abbrev n : Births
-  n = births_of it.ports
+  n = births_of it
 
   abbrev rows : World
   rows = rows_by it

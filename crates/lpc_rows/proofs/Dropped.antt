@@ -4,7 +4,7 @@ use Rattle.std.specs.Prelude.{nat_le}
 use Rattle.std.proofs.lemmas.Bool.Decides.{nat_tests}
 use Rattle.lpc_base.specs.declared.birth.Birth.{Birth}
 use Rattle.lpc_base.specs.Rows.{change, count, every, has, without_first}
-use Rattle.lpc_base.proofs.RowMaps.{change-map, every-map, every-without_first, without_first-map}
+use Rattle.lpc_base.proofs.RowMaps.{change-map, every-map, every-without_first, unseen-change, without_first-map}
 use Rattle.lpc_base.proofs.RowWords.{every-change, every-more, has-change}
 use Rattle.lpc_handles.specs.Handles as handles
 use Rattle.lpc_handles.specs.declared.table.Row.{Row}
@@ -12,13 +12,14 @@ use Rattle.lpc_model.specs.Basics.{DropsHandle, basic, without_handle}
 use Rattle.lpc_model.specs.Found.{has_value, is_connect, is_table}
 use Rattle.lpc_model.specs.Tests.{is_connect_of}
 use Rattle.lpc_model.specs.World.{HandleRow, HandleTable, WaitRow, World}
-use Rattle.lpc_rows.specs.Kept.{rows_by}
+use Rattle.lpc_rows.specs.Kept.{rows_by, view_room_of}
 use Rattle.lpc_rows.specs.Lawful.{AreLawful, IsPromised, has_places, is_at_home, is_within}
 use Rattle.lpc_homes.specs.Parts.{closed, closing, is_part, spare_at}
-use Rattle.lpc_rows.specs.Shown.{Births, Tables, all_pass, birth_of, births_of, object_stands, part_refs, shown_handle, shown_part}
+use Rattle.lpc_rows.specs.Shown.{Births, Tables, all_pass, birth_of, births_of, has_free_views, object_stands, part_refs, shown_handle, shown_part, shown_space, space_refs}
 use Rattle.lpc_homes.specs.declared.object.Object.{Object}
 use Rattle.lpc_homes.specs.declared.parts.Part.{Part}
 use Rattle.lpc_rows.proofs.Changes as changes
+use Rattle.lpc_rows.proofs.Steps as steps
 use Rattle.lpc_rows.proofs.Drawn as drawn
 use Rattle.lpc_rows.proofs.Lawful as lawful
 
@@ -36,6 +37,10 @@ spare_kept pid value (part ∷ parts) other = elim (is_part pid part) as (λ b. 
   | true ↦ λ own. grind (arith, own, closed_more value part, spare_kept pid value parts other)
   | false ↦ λ off. grind (arith, off, spare_kept pid value parts other)
 ] refl
+
+-- so has each process as much room for views
+pub view_rooms_kept : (pid value : ℕ) (parts : List Part) → map view_room_of (closing pid value parts) ≡ map view_room_of parts
+view_rooms_kept pid value parts = unseen-change view_room_of (is_part pid) (closed value) (λ part. refl) parts
 
 fewer : (value : ℕ) (rows : List HandleRow) → length (without_first (has_value value) rows) ≤ length rows
 fewer value [] = omega arith
@@ -59,7 +64,7 @@ handle-goes waits tables parts pid value is = record {
 
 module _ (it : Tables) (calls made : ℕ) (is : AreLawful it calls made) (pid value : ℕ) where
   abbrev n : Births
-  n = births_of it.ports
+  n = births_of it
 
   abbrev f : Object → Birth
   f = birth_of n
@@ -75,8 +80,11 @@ module _ (it : Tables) (calls made : ℕ) (is : AreLawful it calls made) (pid va
 
   pub drops : rows_by after ≡ basic rows (DropsHandle pid value)
   drops =
-      rw (change-map (shown_part f) (all_pass part_refs (object_stands n)) (is_part pid) (is_table pid) (λ part _. refl) (closed value) (without_handle value)
-      (λ part _. ap (λ hs. record { process = part.process; rows = hs }) (dropped part.handles.rows)) it.parts is.named.refs.in_handles) refl
+      rw (
+        change-map (shown_part f) (all_pass part_refs (object_stands n)) (is_part pid) (is_table pid) (λ part _. refl) (closed value) (without_handle value)
+            (λ part _. ap (λ hs. record { process = part.process; rows = hs }) (dropped part.handles.rows)) it.parts is.named.refs.in_handles,
+        unseen-change (shown_space f) (is_part pid) (closed value) (λ part. refl) it.parts,
+      ) refl
 
   objects_less : (hs : List (ℕ × Row Object)) → every (object_stands n) (map (λ row. row.1.object) hs) ≡ true → every (object_stands n) (map (λ row. row.1.object) (without_first (handles.has_value value) hs)) ≡ true
   objects_less hs all =
@@ -87,19 +95,23 @@ module _ (it : Tables) (calls made : ℕ) (is : AreLawful it calls made) (pid va
   dropped_lawful = record {
     named = record {
       ports_apart = is.named.ports_apart;
+      sections_apart = is.named.sections_apart;
+      unowned = every-change has_free_views (is_part pid) (closed value) (λ part all. all) it.parts is.named.unowned;
       refs = record {
         in_handles = every-change (all_pass part_refs (object_stands n)) (is_part pid) (closed value) (λ part all. objects_less part.handles.rows all) it.parts is.named.refs.in_handles;
         in_ports = is.named.refs.in_ports;
         in_messages = is.named.refs.in_messages;
         in_waits = is.named.refs.in_waits;
         in_names = is.named.refs.in_names;
+        in_views = every-change (all_pass space_refs (object_stands n)) (is_part pid) (closed value) (λ part all. all) it.parts is.named.refs.in_views;
       };
     };
     lawful = rw drops (lawful.lawful-drop rows calls made it.waits.spare it.ports.message_room pid value is.lawful);
     counted = is.counted;
     registered = is.registered;
+    mapped = steps.change_mapped it.sections it.parts made pid (closed value) (λ part. refl) is.mapped;
     headed = is.headed;
-    drawn = drawn.same-drawn rows _ refl refl refl is.drawn;
+    drawn = drawn.same-drawn rows _ refl refl refl refl is.drawn;
     born = is.born;
     promised = subst (λ (v : World). IsPromised v.waits v.handles (closing pid value it.parts)) (sym drops) (handle-goes rows.waits rows.handles it.parts pid value is.promised);
   }

@@ -19,9 +19,9 @@ use Rattle.lpc_rows.proofs.Follows as follows
 use Rattle.lpc_rows.proofs.Lawful as lawful
 use Rattle.lpc_rows.proofs.Rooms as rooms
 
-module _ (it : Tables) (calls made : ℕ) (is : AreLawful it calls made) (queue : Key) (there : stands (births_of it.ports).ports queue ≡ true) where
+module _ (it : Tables) (calls made : ℕ) (is : AreLawful it calls made) (queue : Key) (there : stands (births_of it).ports queue ≡ true) where
   abbrev n : Births
-  n = births_of it.ports
+  n = births_of it
 
   abbrev f : Object → Birth
   f = birth_of n
@@ -45,22 +45,26 @@ module _ (it : Tables) (calls made : ℕ) (is : AreLawful it calls made) (queue 
   emptied_lawful = record {
     named = record {
       ports_apart = is.named.ports_apart;
+      sections_apart = is.named.sections_apart;
+      unowned = is.named.unowned;
       refs = record {
         in_handles = is.named.refs.in_handles;
         in_ports = is.named.refs.in_ports;
         in_messages = every-without (all_pass message_refs (object_stands n)) (ports.is_in queue) it.ports.messages is.named.refs.in_messages;
         in_waits = is.named.refs.in_waits;
         in_names = is.named.refs.in_names;
+        in_views = is.named.refs.in_views;
       };
     };
     lawful = rw (empties, ← same_count) (lawful.lawful-withdraw rows calls made it.waits.spare it.ports.message_room (is_queued b) is.lawful);
     counted = record { ports_made = is.counted.ports_made; messages_made = is.counted.messages_made; waits_made = is.counted.waits_made };
     registered = is.registered;
+    mapped = is.mapped;
     headed = every-without has_header (ports.is_in queue) it.ports.messages is.headed;
-    drawn = drawn.same-drawn rows _ refl refl refl is.drawn;
+    drawn = drawn.same-drawn rows _ refl refl refl refl is.drawn;
     born = is.born;
     promised = is.promised;
   }
 
   pub emptied_room : (places : ℕ) → Roomy (room_by rows it places) (room_by (rows_by after) after places)
-  emptied_room places = rw (ap (λ (v : World). v.messages) empties, ← same_count) (rooms.room_withdraw _ _ _ _ _ _ rows _ (is_queued b))
+  emptied_room places = rw (ap (λ (v : World). v.messages) empties, ← same_count) (rooms.room_withdraw _ _ _ _ _ _ _ _ rows _ (is_queued b))

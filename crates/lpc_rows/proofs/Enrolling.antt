@@ -39,7 +39,7 @@ shown-unregistering b row = ap (λ bs. record (shown_thread row) { registrations
 
 module _ (it : Tables) (calls made : ℕ) (is : AreLawful it calls made) where
   abbrev n : Births
-  n = births_of it.ports
+  n = births_of it
 
   abbrev rows : World
   rows = rows_by it
@@ -74,6 +74,7 @@ module _ (it : Tables) (calls made : ℕ) (is : AreLawful it calls made) where
     lawful = rw (registers who r) (dying.lawful-register rows calls made it.waits.spare it.ports.message_room who r.birth is.lawful lt place is.drawn.threads_single stand);
     counted = is.counted;
     registered = every-change (has_named_ports n) (procs.is_thread who) (procs.registering r) (λ t all. every-push (is_under_name n) t.registered.items r all (under-name r there own)) it.procs.threads is.registered;
+    mapped = is.mapped;
     headed = is.headed;
     drawn = rw (registers who r) (drawn.drawn-by (basics.registering r.birth) (λ t. refl) (λ b t h. h) rows who is.drawn);
     born = subst AreBornIn (sym (registers who r)) (born.born-by (basics.registering r.birth) (λ t. refl) (λ t. refl) (λ b t h. h) rows.processes rows.threads rows.used_processes rows.used_threads who is.born);
@@ -86,6 +87,7 @@ module _ (it : Tables) (calls made : ℕ) (is : AreLawful it calls made) where
     lawful = rw (unregisters who b) (dying.lawful-unregister rows calls made it.waits.spare it.ports.message_room who b is.lawful);
     counted = is.counted;
     registered = every-change (has_named_ports n) (procs.is_thread who) (procs.unregistering b) (λ t all. every-without (is_under_name n) (procs.is_of_birth b) t.registered.items all) it.procs.threads is.registered;
+    mapped = is.mapped;
     headed = is.headed;
     drawn = rw (unregisters who b) (drawn.drawn-by (basics.unregistering b) (λ t. refl) (λ c t h. h) rows who is.drawn);
     born = subst AreBornIn (sym (unregisters who b)) (born.born-by (basics.unregistering b) (λ t. refl) (λ t. refl) (λ b t h. h) rows.processes rows.threads rows.used_processes rows.used_threads who is.born);
@@ -98,6 +100,7 @@ module _ (it : Tables) (calls made : ℕ) (is : AreLawful it calls made) where
     lawful = rw (ends who) (dying.lawful-ended rows calls made it.waits.spare it.ports.message_room who is.lawful ready (ap length (registered-change basics.ended (λ t. refl) who rows.threads)));
     counted = is.counted;
     registered = every-change (has_named_ports n) (procs.is_thread who) procs.ended (λ t all. all) it.procs.threads is.registered;
+    mapped = is.mapped;
     headed = is.headed;
     drawn = rw (ends who) (drawn.drawn-by basics.ended (λ t. refl) (λ b t h. h) rows who is.drawn);
     born = subst AreBornIn (sym (ends who)) (born.born-by basics.ended (λ t. refl) (λ t. refl) (λ b t h. h) rows.processes rows.threads rows.used_processes rows.used_threads who is.born);
@@ -129,8 +132,8 @@ module _ (it : Tables) (calls made : ℕ) (is : AreLawful it calls made) where
       has-weaker (t ∷ ts) there = grind (arith, has-weaker ts)
 
 -- The room
-module _ (a b c d e g : ℕ) (w : World) (hs : List HandleRoom) where
-  pub room_ended : (who : ℕ) → Roomy (room a b c d e g w hs) (room a b c d e g (record w { threads = change (is_thread who) basics.ended w.threads }) hs)
+module _ (s : ℕ) (vs : List HandleRoom) (a b c d e g : ℕ) (w : World) (hs : List HandleRoom) where
+  pub room_ended : (who : ℕ) → Roomy (room s vs a b c d e g w hs) (room s vs a b c d e g (record w { threads = change (is_thread who) basics.ended w.threads }) hs)
   room_ended who =
       let alive = dying.fewer-alive who w.threads in
       let owed = ap length (registered-change basics.ended (λ t. refl) who w.threads) in
@@ -141,11 +144,13 @@ module _ (a b c d e g : ℕ) (w : World) (hs : List HandleRoom) where
         for_messages = omega (arith, alive, owed);
         for_ports = omega arith;
         for_names = omega arith;
+        for_sections = omega arith;
         for_handles = λ pid. omega arith;
+        for_views = λ pid. omega arith;
       }
 
   pub room_registered : (who : ℕ) (birth : Birth) → are_single_threads w.threads ≡ true → has (is_thread who) w.threads ≡ true
-      → let after = room a b c d e g (record w { threads = change (is_thread who) (basics.registering birth) w.threads }) hs in Roomy (room a b c d e g w hs) (record after { messages = after.messages + 1 })
+      → let after = room s vs a b c d e g (record w { threads = change (is_thread who) (basics.registering birth) w.threads }) hs in Roomy (room s vs a b c d e g w hs) (record after { messages = after.messages + 1 })
   room_registered who birth one there =
       let more = dying.longer-registered who birth w.threads one there in
       let alive = alive-change (basics.registering birth) (λ t. refl) who w.threads in
@@ -156,10 +161,12 @@ module _ (a b c d e g : ℕ) (w : World) (hs : List HandleRoom) where
         for_messages = omega (arith, alive, more);
         for_ports = omega arith;
         for_names = omega arith;
+        for_sections = omega arith;
         for_handles = λ pid. omega arith;
+        for_views = λ pid. omega arith;
       }
 
-  pub room_unregistered : (who : ℕ) (birth : Birth) → Roomy (room a b c d e g w hs) (room a b c d e g (record w { threads = change (is_thread who) (basics.unregistering birth) w.threads }) hs)
+  pub room_unregistered : (who : ℕ) (birth : Birth) → Roomy (room s vs a b c d e g w hs) (room s vs a b c d e g (record w { threads = change (is_thread who) (basics.unregistering birth) w.threads }) hs)
   room_unregistered who birth =
       let less = dying.shorter-registered who birth w.threads in
       let alive = alive-change (basics.unregistering birth) (λ t. refl) who w.threads in
@@ -170,7 +177,9 @@ module _ (a b c d e g : ℕ) (w : World) (hs : List HandleRoom) where
         for_messages = omega (arith, alive, less);
         for_ports = omega arith;
         for_names = omega arith;
+        for_sections = omega arith;
         for_handles = λ pid. omega arith;
+        for_views = λ pid. omega arith;
       }
 
 -- a thread with registrations has its row

@@ -48,7 +48,7 @@ of-process x pid connect own = ap (λ b. b && (x.process == pid)) connect ∙ ap
 
 module _ (it : Tables) (calls made : ℕ) (is : AreLawful it calls made) (tid pid : ℕ) (there : has (waits_as tid) (rows_by it).waits ≡ true) (connect : is_connect (waiter (rows_by it) tid) ≡ true) (own : let x = waiter (rows_by it) tid in x.process ≡ pid) where
   abbrev n : Births
-  n = births_of it.ports
+  n = births_of it
 
   abbrev rows : World
   rows = rows_by it
@@ -101,8 +101,9 @@ module _ (it : Tables) (calls made : ℕ) (is : AreLawful it calls made) (tid pi
       lawful = rw (rows_after, ← steps.has_wait it calls made is tid) (lawful.lawful-end (record rows { handles = change (is_table pid) _ rows.handles }) calls made it.waits.spare it.ports.message_room tid (lawful.lawful-handle rows calls made it.waits.spare it.ports.message_room pid (shown_handle (birth_of n) (value, row)) is.lawful lt (steps.single_object it calls made is row.object)) none);
       counted = record { ports_made = is.counted.ports_made; messages_made = is.counted.messages_made; waits_made = is.counted.waits_made };
       registered = is.registered;
+      mapped = steps.change_mapped it.sections it.parts made pid (handed value row) (λ part. refl) is.mapped;
       headed = is.headed;
-      drawn = drawn.same-drawn rows _ refl refl refl is.drawn;
+      drawn = drawn.same-drawn rows _ refl refl refl refl is.drawn;
       born = is.born;
       promised = subst (λ (v : World). IsPromised v.waits v.handles more) (sym rows_after) (promised.connect-finishes rows.waits rows.handles it.parts tid pid value (shown_handle (birth_of n) (value, row)) row (waiter rows tid) is.promised is.lawful.single found mine);
     }

@@ -5,20 +5,21 @@ use Rattle.lpc_base.specs.Rows.{every, first}
 use Rattle.lpc_base.proofs.RowMaps.{every-both, every-map, first-map}
 use Rattle.lpc_base.proofs.Births.{birth-same}
 use Rattle.lpc_model.specs.World as model
-use Rattle.lpc_model.specs.Found.{is_port, is_queued, same_birth}
+use Rattle.lpc_model.specs.Found.{is_content, is_port, is_queued, is_section, same_birth}
 use Rattle.lpc_model.specs.Entering.{takes_from}
 use Rattle.lpc_waits.specs.declared.Accepted.{Accepted}
 use Rattle.lpc_ports.specs.Table as ports
 use Rattle.lpc_ports.specs.declared.Port.{Port}
 use Rattle.lpc_ports.specs.Table.{QueuedMessage}
-use Rattle.lpc_slots.specs.Table.{at_key, is_key}
+use Rattle.lpc_sections.specs.Sections.{SectionRow}
+use Rattle.lpc_slots.specs.Table.{at_key, is_key, listed}
 use Rattle.lpc_slots.specs.declared.Key.{Key}
 use Rattle.lpc_waits.specs.Table as waits
 use Rattle.lpc_waits.specs.declared.WaitKind.{WaitKind}
 use Rattle.lpc_waits.specs.declared.WaitKind.TheVariants as wait
 use Rattle.lpc_waits.specs.declared.WaitRow.{WaitRow}
 use Rattle.lpc_rows.specs.Names.{Names, are_apart, name_of, names_of, stands}
-use Rattle.lpc_rows.specs.Shown.{Tables, AreNamed, Births, all_pass, birth_of, births_of, message_refs, object_stands, shown_kind, shown_message, shown_port, shown_wait, wait_refs}
+use Rattle.lpc_rows.specs.Shown.{Tables, AreNamed, Births, all_pass, birth_of, births_of, message_refs, object_stands, shown_content, shown_kind, shown_message, shown_port, shown_section, shown_wait, wait_refs}
 use Rattle.lpc_homes.specs.declared.object.Object.{Object}
 use Rattle.lpc_rows.proofs.Naming.{agrees, key_itself, own}
 
@@ -50,15 +51,38 @@ module _ {R : Type 0} (birth : R → Birth) (rows : List (Key × R)) where
   pub own_birth : (row : Key × R) → is_own row ≡ true → name_of (names_of birth rows) row.0 ≡ birth row.1
   own_birth row ok = birth-same _ _ (grind arith)
 
-module _ (it : Tables) (is : AreNamed (births_of it.ports) it) where
+module _ (it : Tables) (is : AreNamed (births_of it) it) where
   abbrev n : Births
-  n = births_of it.ports
+  n = births_of it
 
   abbrev f : Object → Birth
   f = birth_of n
 
   pub agree : (a b : Key) → stands n.ports a ≡ true → stands n.ports b ≡ true → same_birth (name_of n.ports a) (name_of n.ports b) ≡ is_key a b
   agree a b one two = agrees n.ports a b is.ports_apart one two
+
+  pub agree_section : (a b : Key) → stands n.sections a ≡ true → stands n.sections b ≡ true → same_birth (name_of n.sections a) (name_of n.sections b) ≡ is_key a b
+  agree_section a b one two = agrees n.sections a b is.sections_apart one two
+
+  abbrev pub own_section : Key × SectionRow → Bool
+  own_section = is_own (λ (s : SectionRow). s.birth) (listed it.sections)
+
+  pub own_sections : every own_section (listed it.sections) ≡ true
+  own_sections = rows_own (λ (s : SectionRow). s.birth) (listed it.sections) is.sections_apart
+
+  -- the tests of sections agree
+  pub section_same : (key : Key) → stands n.sections key ≡ true → (row : Key × SectionRow) → own_section row ≡ true → is_section (name_of n.sections key) (shown_section row) ≡ at_key key row
+  section_same key there row ok =
+      ap (λ b. same_birth b (name_of n.sections key)) (sym (own_birth (λ (s : SectionRow). s.birth) (listed it.sections) row ok)) ∙ agree_section row.0 key (grind arith) there
+
+  pub content_same : (key : Key) → stands n.sections key ≡ true → (row : Key × SectionRow) → own_section row ≡ true → is_content (name_of n.sections key) (shown_content row) ≡ at_key key row
+  content_same key there row ok = section_same key there row ok
+
+  pub first_section : (key : Key) → stands n.sections key ≡ true → first (is_section (name_of n.sections key)) (map shown_section (listed it.sections)) ≡ option_map shown_section (first (at_key key) (listed it.sections))
+  first_section key there = first-map shown_section own_section (at_key key) (is_section (name_of n.sections key)) (section_same key there) (listed it.sections) own_sections
+
+  pub first_content : (key : Key) → stands n.sections key ≡ true → first (is_content (name_of n.sections key)) (map shown_content (listed it.sections)) ≡ option_map shown_content (first (at_key key) (listed it.sections))
+  first_content key there = first-map shown_content own_section (at_key key) (is_content (name_of n.sections key)) (content_same key there) (listed it.sections) own_sections
 
   abbrev own_port : Key × Port → Bool
   own_port = is_own (λ (r : Port). r.birth) it.ports.ports

@@ -18,13 +18,13 @@ use Rattle.lpc_rows.specs.Held.{is_message_at, is_named, is_registered_port}
 use Rattle.lpc_rows.specs.Kept.{HandleRoom, Roomy, owed_rows, rows_by}
 use Rattle.lpc_rows.specs.Lawful.{AreDrawn, AreLawful, IsLawful, was_drawn, IsPromised}
 use Rattle.lpc_rows.specs.Names.{KeepsOthers, name_of, stands}
-use Rattle.lpc_rows.specs.Shown.{AllPass, AreNamed, Births, Tables, all_pass, binding_refs, birth_of, births_of, message_refs, object_stands, part_refs, port_refs, shown_binding, shown_by, shown_message, shown_part, shown_port, shown_wait, wait_refs}
+use Rattle.lpc_rows.specs.Shown.{AllPass, AreNamed, Births, Tables, all_pass, binding_refs, birth_of, births_of, message_refs, object_stands, part_refs, port_refs, shown_binding, shown_by, shown_message, shown_part, shown_port, shown_space, shown_wait, space_refs, wait_refs}
 use Rattle.lpc_homes.specs.declared.object.Object.{Object}
 use Rattle.lpc_homes.specs.declared.object.Object.TheVariants as object
 use Rattle.lpc_rows.proofs.Changes as changes
 use Rattle.lpc_rows.proofs.Follows as follows
 use Rattle.lpc_rows.proofs.Follows.{is_own}
-use Rattle.lpc_rows.proofs.Makes.{bindings_shape, messages_shape, parts_shape, ports_shape, rows_more, shown_same, waits_shape}
+use Rattle.lpc_rows.proofs.Makes.{bindings_shape, messages_shape, parts_shape, ports_shape, rows_more, shown_same, spaces_shape, waits_shape}
 use Rattle.lpc_rows.proofs.Naming.{apart-without, name-without, stands-without}
 use Rattle.lpc_rows.proofs.Owed.{owed-free}
 use Rattle.lpc_rows.proofs.Registered.{registered-less}
@@ -37,24 +37,25 @@ rows_both : {R : Type 0} (refs : R → List Object) (p q : Object → Bool) (row
 rows_both refs p q rows one two =
     every-both (all_pass refs p) (all_pass refs q) (all_pass refs (λ o. p o && q o)) (λ row a b. every-both p q (λ o. p o && q o) (λ o c d. grind arith) (refs row) a b) rows one two
 
-both_pass : (it : Tables) (p q : Object → Bool) → AllPass p it → AllPass q it → AllPass (λ o. p o && q o) it
+pub both_pass : (it : Tables) (p q : Object → Bool) → AllPass p it → AllPass q it → AllPass (λ o. p o && q o) it
 both_pass it p q one two = record {
   in_handles = rows_both part_refs p q it.parts one.in_handles two.in_handles;
   in_ports = rows_both port_refs p q it.ports.ports one.in_ports two.in_ports;
   in_messages = rows_both message_refs p q it.ports.messages one.in_messages two.in_messages;
   in_waits = rows_both wait_refs p q it.waits.rows one.in_waits two.in_waits;
   in_names = rows_both binding_refs p q it.space.bindings one.in_names two.in_names;
+  in_views = rows_both space_refs p q it.parts one.in_views two.in_views;
 }
 
-module _ (it : Tables) (is : AreNamed (births_of it.ports) it) (key : Key) (room : ℕ) where
+module _ (it : Tables) (is : AreNamed (births_of it) it) (key : Key) (room : ℕ) where
   abbrev n : Births
-  n = births_of it.ports
+  n = births_of it
 
   abbrev after : PortTable
   after = record it.ports { ports = without (at_key key) it.ports.ports; port_room = room }
 
   abbrev m : Births
-  m = births_of after
+  m = births_of (record it { ports = after })
 
   -- what stands and isn't the port
   abbrev ok : Object → Bool
@@ -67,11 +68,13 @@ module _ (it : Tables) (is : AreNamed (births_of it.ports) it) (key : Key) (room
   stands_less (object.Port k) there = rw names_less (stands-without n.ports key k (grind arith) (grind arith))
   stands_less (object.Process birth) there = refl
   stands_less (object.Thread birth) there = refl
+  stands_less (object.Section k) there = grind arith
 
   name_less : (o : Object) → ok o ≡ true → birth_of m o ≡ birth_of n o
   name_less (object.Port k) there = rw names_less (name-without n.ports key k (grind arith))
   name_less (object.Process birth) there = refl
   name_less (object.Thread birth) there = refl
+  name_less (object.Section k) there = refl
 
   pub keeps : KeepsOthers key n.ports m.ports
   keeps = record {
@@ -81,17 +84,20 @@ module _ (it : Tables) (is : AreNamed (births_of it.ports) it) (key : Key) (room
 
   module _ (none : is_named_in it key ≡ false) where
     pass : AllPass ok it
-    pass = both_pass it (object_stands n) (is_other key) is.refs (others_pass key it none)
+    pass = both_pass it (object_stands n) (is_other key) is.refs (others_pass key it none is.unowned)
 
     pub freed_named : AreNamed m (record it { ports = after })
     freed_named = record {
       ports_apart = rw names_less (apart-without n.ports key is.ports_apart);
+      sections_apart = is.sections_apart;
+      unowned = is.unowned;
       refs = record {
         in_handles = rows_more part_refs ok (object_stands m) stands_less it.parts pass.in_handles;
         in_ports = every-without (all_pass port_refs (object_stands m)) (at_key key) it.ports.ports (rows_more port_refs ok (object_stands m) stands_less it.ports.ports pass.in_ports);
         in_messages = rows_more message_refs ok (object_stands m) stands_less it.ports.messages pass.in_messages;
         in_waits = rows_more wait_refs ok (object_stands m) stands_less it.waits.rows pass.in_waits;
         in_names = rows_more binding_refs ok (object_stands m) stands_less it.space.bindings pass.in_names;
+        in_views = rows_more space_refs ok (object_stands m) stands_less it.parts pass.in_views;
       };
     }
 
@@ -108,6 +114,7 @@ module _ (it : Tables) (is : AreNamed (births_of it.ports) it) (key : Key) (room
           shown_same message_refs shown_message messages_shape ok (birth_of m) (birth_of n) name_less it.ports.messages pass.in_messages,
           shown_same wait_refs shown_wait waits_shape ok (birth_of m) (birth_of n) name_less it.waits.rows pass.in_waits,
           shown_same binding_refs shown_binding bindings_shape ok (birth_of m) (birth_of n) name_less it.space.bindings pass.in_names,
+          shown_same space_refs shown_space spaces_shape ok (birth_of m) (birth_of n) name_less it.parts pass.in_views,
         ) refl
 
     pub freed_owed : stands n.ports key ≡ true → owed_rows (shown_by m (record it { ports = after })) ≤ owed_rows (shown_by n it)
@@ -138,29 +145,32 @@ lawful-free w calls made a b c none h = record {
 }
 
 drawn-free : (w : World) (p : model.PortRow → Bool) → AreDrawn w → AreDrawn (record w { ports = without p w.ports })
-drawn-free w p h = record { threads_single = h.threads_single; threads_noted = h.threads_noted; ports_drawn = every-without (λ q. was_drawn w.used_threads w.threads q.birth) p w.ports h.ports_drawn }
+drawn-free w p h = record { threads_single = h.threads_single; threads_noted = h.threads_noted; ports_drawn = every-without (λ q. was_drawn w.used_threads w.threads q.birth) p w.ports h.ports_drawn; sections_drawn = h.sections_drawn }
 
-pub freed_lawful : (it : Tables) (calls made : ℕ) (key : Key) (room : ℕ) → AreLawful it calls made → stands (births_of it.ports).ports key ≡ true → is_named_in it key ≡ false
-    → has (is_sent_on (name_of (births_of it.ports).ports key)) (rows_by it).messages ≡ false → is_registered_port (rows_by it) (name_of (births_of it.ports).ports key) ≡ false → AreLawful (record it { ports = record it.ports { ports = without (at_key key) it.ports.ports; port_room = room } }) calls made
+pub freed_lawful : (it : Tables) (calls made : ℕ) (key : Key) (room : ℕ) → AreLawful it calls made → stands (births_of it).ports key ≡ true → is_named_in it key ≡ false
+    → has (is_sent_on (name_of (births_of it).ports key)) (rows_by it).messages ≡ false → is_registered_port (rows_by it) (name_of (births_of it).ports key) ≡ false → AreLawful (record it { ports = record it.ports { ports = without (at_key key) it.ports.ports; port_room = room } }) calls made
 freed_lawful it calls made key room is there none unsent unregistered = record {
   named = freed_named it is.named key room none;
-  lawful = rw (frees it is.named key room none there) (lawful-free (rows_by it) calls made it.waits.spare it.ports.message_room (name_of (births_of it.ports).ports key) unsent is.lawful);
+  lawful = rw (frees it is.named key room none there) (lawful-free (rows_by it) calls made it.waits.spare it.ports.message_room (name_of (births_of it).ports key) unsent is.lawful);
   counted = record { ports_made = is.counted.ports_made; messages_made = is.counted.messages_made; waits_made = is.counted.waits_made };
-  registered = registered-less (births_of it.ports) (births_of (record it.ports { ports = without (at_key key) it.ports.ports; port_room = room })) key (keeps it is.named key room) it.procs.threads is.registered unregistered;
+  registered = registered-less (births_of it) (births_of (record it { ports = record it.ports { ports = without (at_key key) it.ports.ports; port_room = room } })) key (keeps it is.named key room) it.procs.threads is.registered unregistered;
   headed = is.headed;
-  drawn = rw (frees it is.named key room none there) (drawn-free (rows_by it) (is_port (name_of (births_of it.ports).ports key)) is.drawn);
+  drawn = rw (frees it is.named key room none there) (drawn-free (rows_by it) (is_port (name_of (births_of it).ports key)) is.drawn);
   born = is.born;
   promised = subst (λ (v : World). IsPromised v.waits v.handles it.parts) (sym (frees it is.named key room none there)) is.promised;
+  mapped = is.mapped;
 }
 
 -- The room
-pub room_freed : (a b c d e g : ℕ) (w : World) (hs : List HandleRoom) (p : model.PortRow → Bool) → Roomy (room a b c d e g w hs) (room a b c d (e + 1) g (record w { ports = without p w.ports }) hs)
-room_freed a b c d e g w hs p = let clients = count-left is_client_port p w.ports in record {
+pub room_freed : (s : ℕ) (vs : List HandleRoom) (a b c d e g : ℕ) (w : World) (hs : List HandleRoom) (p : model.PortRow → Bool) → Roomy (room s vs a b c d e g w hs) (room s vs a b c d (e + 1) g (record w { ports = without p w.ports }) hs)
+room_freed s vs a b c d e g w hs p = let clients = count-left is_client_port p w.ports in record {
   for_processes = omega arith;
   for_threads = omega arith;
   for_waits = omega arith;
   for_messages = omega (arith, clients);
   for_ports = omega arith;
   for_names = omega arith;
+  for_sections = omega arith;
   for_handles = λ pid. omega arith;
+  for_views = λ pid. omega arith;
 }

@@ -39,16 +39,18 @@ clients_same k kinds (p ∷ ps) =
     let one : is_client_port (k p) ≡ is_client_port p = rw (kinds p) refl in
     grind (arith, one, clients_same k kinds ps)
 
-pub room_ports : (a b c d e g : ℕ) (w : World) (hs : List HandleRoom) (k : model.PortRow → model.PortRow) → ((p : model.PortRow) → (k p).kind ≡ p.kind)
-    → (v : World) → v.threads ≡ w.threads → v.messages ≡ w.messages → v.waits ≡ w.waits → v.ports ≡ map k w.ports → Roomy (room a b c d e g w hs) (room a b c d e g v hs)
-room_ports a b c d e g w hs k kinds v ts ms xs ps = let clients = clients_same k kinds w.ports in rw (ts, ms, xs, ps) (record {
+pub room_ports : (s : ℕ) (vs : List HandleRoom) (a b c d e g : ℕ) (w : World) (hs : List HandleRoom) (k : model.PortRow → model.PortRow) → ((p : model.PortRow) → (k p).kind ≡ p.kind)
+    → (v : World) → v.threads ≡ w.threads → v.messages ≡ w.messages → v.waits ≡ w.waits → v.ports ≡ map k w.ports → Roomy (room s vs a b c d e g w hs) (room s vs a b c d e g v hs)
+room_ports s vs a b c d e g w hs k kinds v ts ms xs ps = let clients = clients_same k kinds w.ports in rw (ts, ms, xs, ps) (record {
   for_processes = omega arith;
   for_threads = omega arith;
   for_waits = omega arith;
   for_messages = omega (arith, clients);
   for_ports = omega arith;
   for_names = omega arith;
+  for_sections = omega arith;
   for_handles = λ pid. omega arith;
+  for_views = λ pid. omega arith;
 })
 
 -- the definitions' ports, changed
@@ -76,6 +78,7 @@ drawn-ports w k same h = record {
   threads_single = h.threads_single;
   threads_noted = h.threads_noted;
   ports_drawn = every-mapped (λ p. was_drawn w.used_threads w.threads p.birth) k (λ p there. rw (same p) there) w.ports h.ports_drawn;
+  sections_drawn = h.sections_drawn;
 }
 
 -- a change of the ports' rows
@@ -84,30 +87,33 @@ module _ (change_row : Key × Port → Key × Port) (same_key : (row : Key × Po
   names_same [] = refl
   names_same (row ∷ rows) = λ i. (same_key row i, same_own row i) ∷ names_same rows i
 
-  module _ (it : Tables) (is : AreNamed (births_of it.ports) it) where
+  module _ (it : Tables) (is : AreNamed (births_of it) it) where
     abbrev n : Births
-    n = births_of it.ports
+    n = births_of it
 
     abbrev after : PortTable
     after = record it.ports { ports = map change_row it.ports.ports }
 
-    pub births_same : births_of after ≡ n
-    births_same = ap (λ names. record { ports = names }) (names_same it.ports.ports)
+    pub births_same : births_of (record it { ports = after }) ≡ n
+    births_same = ap (λ names. record { ports = names; sections = n.sections }) (names_same it.ports.ports)
 
     module _ (k : model.PortRow → model.PortRow) (kept : (row : Key × Port) → all_pass port_refs (object_stands n) row ≡ true → all_pass port_refs (object_stands n) (change_row row) ≡ true)
         (ok : Key × Port → Bool) (all_ok : every ok it.ports.ports ≡ true) (shows : (row : Key × Port) → ok row ≡ true → shown_port (birth_of n) (change_row row) ≡ k (shown_port (birth_of n) row)) where
-      pub changes : shown_by (births_of after) (record it { ports = after }) ≡ record (shown_by n it) { ports = map k (shown_by n it).ports }
+      pub changes : shown_by (births_of (record it { ports = after })) (record it { ports = after }) ≡ record (shown_by n it) { ports = map k (shown_by n it).ports }
       changes = rw births_same (ap (λ ps. record (shown_by n it) { ports = ps }) (map-follows (shown_port (birth_of n)) ok change_row k shows it.ports.ports all_ok))
 
-      named : AreNamed (births_of after) (record it { ports = after })
+      named : AreNamed (births_of (record it { ports = after })) (record it { ports = after })
       named = rw births_same (record {
         ports_apart = is.ports_apart;
+        sections_apart = is.sections_apart;
+        unowned = is.unowned;
         refs = record {
           in_handles = is.refs.in_handles;
           in_ports = every-mapped (all_pass port_refs (object_stands n)) change_row kept it.ports.ports is.refs.in_ports;
           in_messages = is.refs.in_messages;
           in_waits = is.refs.in_waits;
           in_names = is.refs.in_names;
+          in_views = is.refs.in_views;
         };
       })
 
@@ -121,6 +127,7 @@ module _ (change_row : Key × Port → Key × Port) (same_key : (row : Key × Po
         drawn = rw changes (drawn-ports (rows_by it) k same all.drawn);
         born = all.born;
         promised = subst (λ (v : World). IsPromised v.waits v.handles it.parts) (sym changes) all.promised;
+        mapped = all.mapped;
       }
 
       pub owes : ((p : model.PortRow) → (k p).birth ≡ p.birth) → ((p : model.PortRow) → (k p).kind ≡ p.kind) → owed_rows (rows_by (record it { ports = after })) ≡ owed_rows (rows_by it)
@@ -130,7 +137,7 @@ module _ (change_row : Key × Port → Key × Port) (same_key : (row : Key × Po
       all_after = record it { ports = after }
 
       pub roomy : (places : ℕ) → ((p : model.PortRow) → (k p).kind ≡ p.kind) → Roomy (room_by (rows_by it) it places) (room_by (rows_by all_after) all_after places)
-      roomy places kinds = room_ports _ _ _ _ _ _ (rows_by it) _ k kinds (rows_by all_after) (ap (λ (v : World). v.threads) changes) (ap (λ (v : World). v.messages) changes) (ap (λ (v : World). v.waits) changes) (ap (λ (v : World). v.ports) changes)
+      roomy places kinds = room_ports _ _ _ _ _ _ _ _ (rows_by it) _ k kinds (rows_by all_after) (ap (λ (v : World). v.threads) changes) (ap (λ (v : World). v.messages) changes) (ap (λ (v : World). v.waits) changes) (ap (λ (v : World). v.ports) changes)
 
 -- the row of a key, changed
 abbrev pub at_row : Key → (Port → Port) → Key × Port → Key × Port
@@ -158,9 +165,9 @@ paired_kept ok key other context there row all = elim (at_key key row) as (λ b.
 ]
 
 -- two ports become the ends of a connection
-module _ (it : Tables) (is : AreNamed (births_of it.ports) it) (client server : Key) (context : ℕ) (client_stands : stands (births_of it.ports).ports client ≡ true) (server_stands : stands (births_of it.ports).ports server ≡ true) where
+module _ (it : Tables) (is : AreNamed (births_of it) it) (client server : Key) (context : ℕ) (client_stands : stands (births_of it).ports client ≡ true) (server_stands : stands (births_of it).ports server ≡ true) where
   abbrev names : Births
-  names = births_of it.ports
+  names = births_of it
 
   abbrev join_row : Key × Port → Key × Port
   join_row row = at_row server (ports.paired client context) (at_row client (ports.paired server context) row)
@@ -215,10 +222,10 @@ module _ (it : Tables) (is : AreNamed (births_of it.ports) it) (client server : 
       by false true = refl
       by false false = refl
 
-  pub joined_names : births_of joined_table ≡ names
+  pub joined_names : births_of (record it { ports = joined_table }) ≡ names
   joined_names = rw joined_rows (births_same join_row join_key join_own it is)
 
-  pub joins : shown_by (births_of joined_table) (record it { ports = joined_table }) ≡ basic (rows_by it) (Joins (name_of names.ports client) (name_of names.ports server) context)
+  pub joins : shown_by (births_of (record it { ports = joined_table })) (record it { ports = joined_table }) ≡ basic (rows_by it) (Joins (name_of names.ports client) (name_of names.ports server) context)
   joins = rw joined_rows (changes join_row join_key join_own it is shown_joined join_kept (follows.is_own (λ (r : Port). r.birth) it.ports.ports) (follows.own_ports it is) join_shows)
 
   pub joined_lawful : (calls made : ℕ) → AreLawful it calls made → AreLawful (record it { ports = joined_table }) calls made
@@ -234,9 +241,9 @@ module _ (it : Tables) (is : AreNamed (births_of it.ports) it) (client server : 
   joined_room places = rw joined_rows (roomy join_row join_key join_own it is shown_joined join_kept (follows.is_own (λ (r : Port). r.birth) it.ports.ports) (follows.own_ports it is) join_shows places joined_kind)
 
 -- the connection of a port is completed or not
-module _ (it : Tables) (is : AreNamed (births_of it.ports) it) (key : Key) (completed : Bool) (key_stands : stands (births_of it.ports).ports key ≡ true) where
+module _ (it : Tables) (is : AreNamed (births_of it) it) (key : Key) (completed : Bool) (key_stands : stands (births_of it).ports key ≡ true) where
   abbrev named_by : Births
-  named_by = births_of it.ports
+  named_by = births_of it
 
   abbrev complete_row : Key × Port → Key × Port
   complete_row = at_row key (ports.with_completed completed)
@@ -263,10 +270,10 @@ module _ (it : Tables) (is : AreNamed (births_of it.ports) it) (key : Key) (comp
   completed_kind : (p : model.PortRow) → (shown_completed p).kind ≡ p.kind
   completed_kind p = elim (is_port (name_of named_by.ports key) p) as (λ b. (cond b (with_completed completed p) p).kind ≡ p.kind) [ true ↦ refl | false ↦ refl ]
 
-  pub completed_names : births_of completed_table ≡ named_by
+  pub completed_names : births_of (record it { ports = completed_table }) ≡ named_by
   completed_names = births_same complete_row (key_at key (ports.with_completed completed)) (own_at key (ports.with_completed completed) (λ p. refl)) it is
 
-  pub completes : shown_by (births_of completed_table) (record it { ports = completed_table }) ≡ record (rows_by it) { ports = change (is_port (name_of named_by.ports key)) (with_completed completed) (rows_by it).ports }
+  pub completes : shown_by (births_of (record it { ports = completed_table })) (record it { ports = completed_table }) ≡ record (rows_by it) { ports = change (is_port (name_of named_by.ports key)) (with_completed completed) (rows_by it).ports }
   completes = changes complete_row (key_at key (ports.with_completed completed)) (own_at key (ports.with_completed completed) (λ p. refl)) it is shown_completed complete_kept (follows.is_own (λ (r : Port). r.birth) it.ports.ports) (follows.own_ports it is) complete_shows
 
   pub completed_lawful : (calls made : ℕ) → AreLawful it calls made → AreLawful (record it { ports = completed_table }) calls made

@@ -22,7 +22,7 @@ use Rattle.lpc_model.specs.Closings.{is_closed_post}
 use Rattle.lpc_model.specs.Message.{asks}
 use Rattle.lpc_model.specs.Found.{is_client_port, is_live_thread, is_open, is_own_of, is_port, is_process, is_queued, is_queued_connect, is_table, is_thread, waits_as}
 use Rattle.lpc_model.specs.Entering.{takes}
-use Rattle.lpc_model.specs.Basics.{no_handles, past_identifier, past_ordinal, received, with_handle, without_handle}
+use Rattle.lpc_model.specs.Basics.{no_handles, no_views, past_identifier, past_ordinal, received, with_handle, without_handle}
 use Rattle.lpc_rows.specs.Kept.{is_alive, is_asking, is_pending, is_unsent, owed_messages, owed_rows, owed_waits}
 use Rattle.lpc_rows.proofs.Owed.{none-taken, owed-drop, owed-handle, owed-process, owed-shut}
 use Rattle.lpc_rows.proofs.Registered.{registered-change, registered-push}
@@ -193,7 +193,7 @@ used-self : (used : List ℕ) (pid : ℕ) → is_used (used ++ pid ∷ []) (no_h
 used-self used pid = has-push (λ n. n == pid) used pid (grind (arith, nat_tests))
 
 pub lawful-process : (w : World) (calls made a b : ℕ) (p : ProcessRow) → IsLawful w calls made a b → made + owed_rows w < 16 * calls → has (λ n. n == p.number) w.used_processes ≡ false
-    → IsLawful (record w { processes = w.processes ++ p ∷ []; used_processes = w.used_processes ++ p.number ∷ []; handles = w.handles ++ no_handles p.number ∷ [] }) calls (made + 1) a b
+    → IsLawful (record w { processes = w.processes ++ p ∷ []; used_processes = w.used_processes ++ p.number ∷ []; handles = w.handles ++ no_handles p.number ∷ []; views = w.views ++ no_views p.number ∷ [] }) calls (made + 1) a b
 lawful-process w calls made a b p h lt new = record {
   few = h.few;
   budget = omega (arith, lt, owed-process w p.number);

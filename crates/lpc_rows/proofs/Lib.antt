@@ -37,3 +37,14 @@ pub mod Cut
 pub mod Emptied
 pub mod Unbound
 pub mod Dropped
+pub mod Sections
+pub mod SectionBytes
+pub mod SectionFrees
+pub mod Views
+pub mod ViewRooms
+pub mod ViewBytes
+pub mod FoundSections
+pub mod RoomedViews
+pub mod MappedViews
+pub mod UnmappedViews
+pub mod WrittenViews

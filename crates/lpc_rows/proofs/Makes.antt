@@ -1,7 +1,7 @@
 -- A port more: what stood stands under its name, and the new rows are the step of the rows that the tables stood for.
 use Rattle.std.proofs.Common.{◌≡◌, ◌+◌, ◌-◌, ◌∙◌, ℕ, List, [], ◌∷◌, ◌++◌, Bool, true, false, map, Option, Some, None, refl, ap, arith}
 use Rattle.lpc_base.specs.declared.birth.Birth.{Birth}
-use Rattle.lpc_base.specs.Rows.{every, first}
+use Rattle.lpc_base.specs.Rows.{each, every, first}
 use Rattle.lpc_base.proofs.RowWords.{every-back, every-front, every-more, every-push}
 use Rattle.lpc_base.proofs.RowMaps.{push-map, same-map}
 use Rattle.lpc_handles.specs.declared.table.Row.{Row}
@@ -16,9 +16,10 @@ use Rattle.lpc_ports.specs.declared.Port.{Port}
 use Rattle.std.proofs.lemmas.Bool.Decides.{nat_tests}
 use Rattle.lpc_slots.specs.Table.{at_key}
 use Rattle.lpc_slots.specs.declared.Key.{Key}
+use Rattle.lpc_views.specs.declared.view.View.{View}
 use Rattle.lpc_waits.specs.declared.WaitRow.{WaitRow}
 use Rattle.lpc_rows.specs.Names.{KeepsNames, Names, name_of, names_of, some_stands, stands}
-use Rattle.lpc_rows.specs.Shown.{Tables, AreNamed, Births, all_pass, binding_refs, birth_in, birth_of, births_of, message_refs, name_by, node_refs, object_stands, part_refs, port_refs, ports_in, shown_binding, shown_by, shown_handle, shown_message, shown_node, shown_part, shown_port, shown_wait, wait_refs}
+use Rattle.lpc_rows.specs.Shown.{Tables, AreNamed, Births, all_pass, binding_refs, birth_in, birth_of, births_of, message_refs, name_by, node_refs, object_stands, part_refs, port_refs, ports_in, shown_binding, shown_by, shown_handle, shown_message, shown_node, shown_part, shown_port, shown_space, shown_view, shown_wait, space_refs, view_refs, wait_refs}
 use Rattle.lpc_homes.specs.declared.object.Object.{Object}
 use Rattle.lpc_homes.specs.declared.object.Object.TheVariants as object
 use Rattle.lpc_homes.specs.declared.parts.Part.{Part}
@@ -69,6 +70,18 @@ module _ (ok : Object → Bool) (f g : Object → Birth) (same : (o : Object) �
   part_shape : (part : Part) → every ok (part_refs part) ≡ true → shown_part f part ≡ shown_part g part
   part_shape part all = ap (λ hs. record { process = part.process; rows = hs }) (handles_same part.handles.rows all)
 
+  views_same : (vs : List (View Key)) → every ok (each view_refs vs) ≡ true → map (shown_view f) vs ≡ map (shown_view g) vs
+  views_same [] all = refl
+  views_same (v ∷ vs) all =
+      let own = every-front ok (view_refs v) (each view_refs vs) all in
+      let section = same (object.Section v.section) (every_first ok (object.Section v.section) (ports_in v.owner) own) in
+      let owner = birth_same v.owner (every_later ok (object.Section v.section) (ports_in v.owner) own) in
+      let rest = views_same vs (every-back ok (view_refs v) (each view_refs vs) all) in
+      λ i. (record { base = v.base; size = v.size; section = section i; offset = v.offset; writable = v.writable; owner = owner i }) ∷ rest i
+
+  space_shape : (part : Part) → every ok (space_refs part) ≡ true → shown_space f part ≡ shown_space g part
+  space_shape part all = ap (λ vs. record { process = part.process; rows = vs }) (views_same part.views.views all)
+
 pub ports_shape : IsShape port_refs shown_port
 ports_shape = record { same = port_shape }
 
@@ -84,6 +97,9 @@ bindings_shape = record { same = binding_shape }
 pub parts_shape : IsShape part_refs shown_part
 parts_shape = record { same = part_shape }
 
+pub spaces_shape : IsShape space_refs shown_space
+spaces_shape = record { same = space_shape }
+
 -- rows of a shape under another naming
 pub shown_same : {R N : Type 0} (refs : R → List Object) (shows : (Object → Birth) → R → N) → IsShape refs shows → (ok : Object → Bool) (f g : Object → Birth) → ((o : Object) → ok o ≡ true → f o ≡ g o) → (rows : List R) → every (all_pass refs ok) rows ≡ true → map (shows f) rows ≡ map (shows g) rows
 shown_same refs shows shape ok f g same rows all = same-map (shows f) (all_pass refs ok) (shows g) (λ row there. shape.same ok f g same row there) rows all
@@ -93,15 +109,15 @@ pub rows_more : {R : Type 0} (refs : R → List Object) (ok more : Object → Bo
 rows_more refs ok more wider rows all = every-more (all_pass refs ok) (all_pass refs more) (λ row there. every-more ok more wider (refs row) there) rows all
 
 -- One more port
-module _ (it : Tables) (is : AreNamed (births_of it.ports) it) (key : Key) (row : Port) (room made : ℕ) where
+module _ (it : Tables) (is : AreNamed (births_of it) it) (key : Key) (row : Port) (room made : ℕ) where
   abbrev n : Births
-  n = births_of it.ports
+  n = births_of it
 
   abbrev after : PortTable
   after = record it.ports { ports = it.ports.ports ++ (key, row) ∷ []; port_room = room; ports_made = made }
 
   abbrev m : Births
-  m = births_of after
+  m = births_of (record it { ports = after })
 
   abbrev longer : Names
   longer = n.ports ++ (key, row.birth) ∷ []
@@ -113,11 +129,13 @@ module _ (it : Tables) (is : AreNamed (births_of it.ports) it) (key : Key) (row 
   stands_more (object.Port k) there = rw names_push (stands-push n.ports key row.birth k there)
   stands_more (object.Process birth) there = refl
   stands_more (object.Thread birth) there = refl
+  stands_more (object.Section k) there = there
 
   name_more : (o : Object) → object_stands n o ≡ true → birth_of m o ≡ birth_of n o
   name_more (object.Port k) there = rw names_push (name-push n.ports key row.birth k there)
   name_more (object.Process birth) there = refl
   name_more (object.Thread birth) there = refl
+  name_more (object.Section k) there = refl
 
   pub keeps : KeepsNames n.ports m.ports
   keeps = record { name = λ k there. name_more (object.Port k) there; there = λ k there. stands_more (object.Port k) there }
@@ -137,12 +155,15 @@ module _ (it : Tables) (is : AreNamed (births_of it.ports) it) (key : Key) (row 
     pub made_named : first (is_port row.birth) (map (shown_port (birth_of n)) it.ports.ports) ≡ None → every (object_stands n) (port_refs (key, row)) ≡ true → AreNamed m (record it { ports = after })
     made_named fresh refs = record {
       ports_apart = rw names_push (apart-push n.ports key row.birth is.ports_apart absent (other_births it.ports.ports fresh));
+      sections_apart = is.sections_apart;
+      unowned = is.unowned;
       refs = record {
         in_handles = rows_more part_refs (object_stands n) (object_stands m) stands_more it.parts is.refs.in_handles;
         in_ports = every-push (all_pass port_refs (object_stands m)) it.ports.ports (key, row) (rows_more port_refs (object_stands n) (object_stands m) stands_more it.ports.ports is.refs.in_ports) (every-more (object_stands n) (object_stands m) stands_more (port_refs (key, row)) refs);
         in_messages = rows_more message_refs (object_stands n) (object_stands m) stands_more it.ports.messages is.refs.in_messages;
         in_waits = rows_more wait_refs (object_stands n) (object_stands m) stands_more it.waits.rows is.refs.in_waits;
         in_names = rows_more binding_refs (object_stands n) (object_stands m) stands_more it.space.bindings is.refs.in_names;
+        in_views = rows_more space_refs (object_stands n) (object_stands m) stands_more it.parts is.refs.in_views;
       };
     }
 
@@ -155,22 +176,23 @@ module _ (it : Tables) (is : AreNamed (births_of it.ports) it) (key : Key) (row 
         shown_same message_refs shown_message messages_shape (object_stands n) (birth_of m) (birth_of n) name_more it.ports.messages is.refs.in_messages,
         shown_same wait_refs shown_wait waits_shape (object_stands n) (birth_of m) (birth_of n) name_more it.waits.rows is.refs.in_waits,
         shown_same binding_refs shown_binding bindings_shape (object_stands n) (birth_of m) (birth_of n) name_more it.space.bindings is.refs.in_names,
+        shown_same space_refs shown_space spaces_shape (object_stands n) (birth_of m) (birth_of n) name_more it.parts is.refs.in_views,
         port_shape (object_stands n) (birth_of m) (birth_of n) name_more (key, row) refs,
       ) refl
 
 -- what the adding of a port requires
-absent : (key : Key) (rows : List (Key × Port)) → first (at_key key) rows ≡ None → stands (names_of (λ (r : Port). r.birth) rows) key ≡ false
+pub absent : {R : Type 0} (birth : R → Birth) (key : Key) (rows : List (Key × R)) → first (at_key key) rows ≡ None → stands (names_of birth rows) key ≡ false
 unfolding stands
-absent key [] none = refl
-absent key (row ∷ rows) none = grind (arith, absent key rows)
+absent birth key [] none = refl
+absent birth key (row ∷ rows) none = grind (arith, absent birth key rows)
 
-pub vacant : (key : Key) (p : PortTable) → first (at_key key) p.ports ≡ None → stands (births_of p).ports key ≡ false
-vacant key p none = absent key p.ports none
+pub vacant : (key : Key) (it : Tables) → first (at_key key) it.ports.ports ≡ None → stands (births_of it).ports key ≡ false
+vacant key it none = absent (λ (r : Port). r.birth) key it.ports.ports none
 
-pub refs_stand : (p : PortTable) (key : Key) (row : Port) → row.pair ≡ None → some_stands (births_of p).ports row.connection ≡ true → every (object_stands (births_of p)) (port_refs (key, row)) ≡ true
-refs_stand p key row alone there = rw alone (some row.connection there)
+pub refs_stand : (it : Tables) (key : Key) (row : Port) → row.pair ≡ None → some_stands (births_of it).ports row.connection ≡ true → every (object_stands (births_of it)) (port_refs (key, row)) ≡ true
+refs_stand it key row alone there = rw alone (some row.connection there)
   where
-    some : (o : Option Key) → some_stands (births_of p).ports o ≡ true → every (object_stands (births_of p)) (ports_in o) ≡ true
+    some : (o : Option Key) → some_stands (births_of it).ports o ≡ true → every (object_stands (births_of it)) (ports_in o) ≡ true
     some None h = refl
     some (Some k) h = rw h refl
 

@@ -108,23 +108,24 @@ module _ (f : Object → Birth) where
   other-name (row ∷ rows) b key fresh there = grind (arith, other-name rows b key)
 
 -- so a birth that no port has is that of no open port
-module _ (it : Tables) (is : AreNamed (births_of it.ports) it) (b : Birth) (fresh : first (is_port b) (map (shown_port (birth_of (births_of it.ports))) it.ports.ports) ≡ None) where
+module _ (it : Tables) (is : AreNamed (births_of it) it) (b : Birth) (fresh : first (is_port b) (map (shown_port (birth_of (births_of it))) it.ports.ports) ≡ None) where
   abbrev f : Object → Birth
-  f = birth_of (births_of it.ports)
+  f = birth_of (births_of it)
 
-  unnamed : (row : ℕ × Row Object) → object_stands (births_of it.ports) row.1.object ≡ true → names_port b (shown_handle f row).object ≡ false
+  unnamed : (row : ℕ × Row Object) → object_stands (births_of it) row.1.object ≡ true → names_port b (shown_handle f row).object ≡ false
   unnamed row there = named row.1.object there
     where
-      named : (o : Object) → object_stands (births_of it.ports) o ≡ true → names_port b (shown_handle f (row.0, record { object = o; access = row.1.access })).object ≡ false
+      named : (o : Object) → object_stands (births_of it) o ≡ true → names_port b (shown_handle f (row.0, record { object = o; access = row.1.access })).object ≡ false
       named (object.Port key) stand = grind (arith, other-name f it.ports.ports b key)
       named (object.Process birth) stand = refl
       named (object.Thread birth) stand = refl
+      named (object.Section key) stand = refl
 
-  rows-off : (hs : List (ℕ × Row Object)) → every (object_stands (births_of it.ports)) (map (λ row. row.1.object) hs) ≡ true → has (λ h. names_port b h.object) (map (shown_handle f) hs) ≡ false
+  rows-off : (hs : List (ℕ × Row Object)) → every (object_stands (births_of it)) (map (λ row. row.1.object) hs) ≡ true → has (λ h. names_port b h.object) (map (shown_handle f) hs) ≡ false
   rows-off [] all = refl
   rows-off (row ∷ hs) all = grind (arith, unnamed row, rows-off hs)
 
-  parts-off : (parts : List Part) → every (all_pass part_refs (object_stands (births_of it.ports))) parts ≡ true → has (has_handle_to b) (map (shown_part f) parts) ≡ false
+  parts-off : (parts : List Part) → every (all_pass part_refs (object_stands (births_of it))) parts ≡ true → has (has_handle_to b) (map (shown_part f) parts) ≡ false
   parts-off [] all = refl
   parts-off (part ∷ parts) all = grind (arith, rows-off part.handles.rows, parts-off parts)
 

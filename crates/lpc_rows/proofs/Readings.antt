@@ -1,7 +1,8 @@
 -- What reading calls find in the tables is what is found in the rows that they stand for.
 use Rattle.std.proofs.Common.{◌≡◌, ℕ, List, [], ◌∷◌, ◌++◌, Bool, true, false, ◌&&◌, ◌==◌, map, Option, Some, None, option_map, refl, ap, sym, ◌∙◌, arith}
-use Rattle.std.specs.Prelude.{MatchOption, IfSome, is_none, is_some}
+use Rattle.std.specs.Prelude.{MatchOption, IfSome, IsSome, is_none, is_some}
 use Rattle.std.proofs.lemmas.Bool.{eqb-true}
+use Rattle.std.proofs.lemmas.Bool.Decides.{nat_tests}
 use Rattle.lpc_base.specs.declared.birth.Birth.{Birth}
 use Rattle.lpc_base.specs.Rows.{count, every, first, has}
 use Rattle.lpc_base.proofs.RowMaps.{count-map, every-first, every-map, first-map, has-map}
@@ -14,13 +15,17 @@ use Rattle.lpc_message.specs.declared.kind.TheConstants.{DATAGRAM}
 use Rattle.lpc_model.specs.World as model
 use Rattle.lpc_model.specs.Closings.{is_closed_post}
 use Rattle.lpc_model.specs.Found as found
-use Rattle.lpc_model.specs.Found.{is_port, is_table, port_row, same_object, waits_as}
+use Rattle.lpc_model.specs.Found.{is_port, is_space, is_table, port_row, same_object, section_row, waits_as}
 use Rattle.lpc_model.specs.Tests.{handle_row}
 use Rattle.lpc_ports.specs.Table as ports
 use Rattle.lpc_ports.specs.Table.{QueuedMessage, row_at}
 use Rattle.lpc_ports.specs.declared.Port.{Port}
-use Rattle.lpc_slots.specs.Table.{at_key}
+use Rattle.lpc_sections.specs.Sections.{SectionRow}
+use Rattle.lpc_slots.specs.Table.{at, at_key, listed}
 use Rattle.lpc_slots.specs.declared.Key.{Key}
+use Rattle.lpc_slots.proofs.Same.{at_first}
+use Rattle.lpc_views.specs.Views.{holds as holds_range, view_of}
+use Rattle.lpc_views.specs.declared.view.View.{View}
 use Rattle.lpc_waits.specs.Table as waits
 use Rattle.lpc_waits.specs.Table.{row_of}
 use Rattle.lpc_waits.specs.declared.Accepted.{Accepted}
@@ -30,9 +35,9 @@ use Rattle.lpc_waits.specs.declared.WaitKind.TheVariants as wait
 use Rattle.lpc_waits.specs.declared.WaitRow.{WaitRow}
 use Rattle.lpc_rows.specs.Names.{name_of, names_of, some_stands, stands}
 use Rattle.lpc_rows.specs.Kept.{Kept, is_asking, kept_by, rows_by}
-use Rattle.lpc_homes.specs.Parts.{has_name_of, is_object, is_part, names_it, rows_at, rows_in}
+use Rattle.lpc_homes.specs.Parts.{has_name_of, is_object, is_part, names_it, rows_at, rows_in, views_at, views_in}
 use Rattle.lpc_rows.specs.Ready.{HasRow, IsStanding, IsWait, port_in, port_of, wait_in, waiter}
-use Rattle.lpc_rows.specs.Shown.{Tables, AreNamed, Births, all_pass, birth_of, births_of, message_refs, name_by, object_stands, part_refs, port_refs, ports_in, shown_handle, shown_kind, shown_message, shown_part, shown_port, shown_wait, wait_refs}
+use Rattle.lpc_rows.specs.Shown.{Tables, AreNamed, Births, all_pass, birth_of, births_of, message_refs, name_by, object_stands, part_refs, port_refs, ports_in, shown_handle, shown_kind, shown_message, shown_content, shown_part, shown_port, shown_section, shown_space, shown_view, shown_wait, wait_refs}
 use Rattle.lpc_homes.specs.declared.object.Object.{Object}
 use Rattle.lpc_homes.specs.declared.object.Object.TheVariants as object
 use Rattle.lpc_homes.specs.declared.parts.Part.{Part}
@@ -73,6 +78,17 @@ unfolding stands
 row_there birth [] key there = absurd (cc)
 row_there birth (row ∷ rows) key there = grind (arith, row_there birth rows key)
 
+pub row_listed : {R : Type 0} (birth : R → Birth) (rows : List (Key × R)) (key : Key) → stands (names_of birth rows) key ≡ true → is_some (first (at_key key) rows) ≡ true
+unfolding stands
+row_listed birth [] key there = absurd (cc)
+row_listed birth (row ∷ rows) key there = grind (arith, row_listed birth rows key)
+
+-- a row that is found by its key stands
+pub listed_stands : {R : Type 0} (birth : R → Birth) (rows : List (Key × R)) (key : Key) (row : Key × R) → first (at_key key) rows ≡ Some row → stands (names_of birth rows) key ≡ true
+unfolding stands
+listed_stands birth [] key row is = absurd (cc)
+listed_stands birth (r ∷ rows) key row is = grind (arith, listed_stands birth rows key row)
+
 -- keys that a port's row names
 pair_stands : (n : Births) (a b : Option Key) → every (object_stands n) (ports_in a ++ ports_in b) ≡ true → (some_stands n.ports a ≡ true) × (some_stands n.ports b ≡ true)
 pair_stands n None None all = (refl, refl)
@@ -90,9 +106,9 @@ listen_is wait.Connect bytes None = refl
 listen_is wait.Connect bytes (Some accepted) = refl
 listen_is b bytes accepted = refl
 
-module _ (it : Tables) (is : AreNamed (births_of it.ports) it) where
+module _ (it : Tables) (is : AreNamed (births_of it) it) where
   abbrev n : Births
-  n = births_of it.ports
+  n = births_of it
 
   abbrev f : Object → Birth
   f = birth_of n
@@ -130,6 +146,14 @@ module _ (it : Tables) (is : AreNamed (births_of it.ports) it) where
         connection = both.1;
       }
 
+  -- a section that stands is found under its name
+  pub section_there : (key : Key) → stands n.sections key ≡ true → IsSome (section_row rows (name_of n.sections key))
+  section_there key stand = mapped (first (at_key key) (listed it.sections)) (follows.first_section it is key stand) (row_listed (λ (s : SectionRow). s.birth) (listed it.sections) key stand)
+    where
+      mapped : (o : Option (Key × SectionRow)) → section_row rows (name_of n.sections key) ≡ option_map shown_section o → is_some o ≡ true → IsSome (section_row rows (name_of n.sections key))
+      mapped None is' some = absurd (cc)
+      mapped (Some row) is' some = rw is' refl
+
   -- what stands is found under its name
   module _ (places calls made : ℕ) (loose : Bool) where
     abbrev k : Kept
@@ -148,6 +172,7 @@ module _ (it : Tables) (is : AreNamed (births_of it.ports) it) where
     has_row (object.Port key) stand = standing key stand
     has_row (object.Process birth) stand = tt
     has_row (object.Thread birth) stand = tt
+    has_row (object.Section key) stand = section_there key stand
 
     pub rows_of : (o : Option (Row Object)) → IfSome o (λ row. object_stands n row.object ≡ true) → IfSome o (λ row. HasRow k row.object)
     rows_of None stand = tt
@@ -272,6 +297,13 @@ module _ (it : Tables) (is : AreNamed (births_of it.ports) it) where
   object_same (object.Thread birth) one (object.Port key) two = refl
   object_same (object.Thread birth) one (object.Process other) two = refl
   object_same (object.Thread birth) one (object.Thread other) two = refl
+  object_same (object.Port key) one (object.Section other) two = refl
+  object_same (object.Process birth) one (object.Section other) two = refl
+  object_same (object.Thread birth) one (object.Section other) two = refl
+  object_same (object.Section key) one (object.Port other) two = refl
+  object_same (object.Section key) one (object.Process birth) two = refl
+  object_same (object.Section key) one (object.Thread birth) two = refl
+  object_same (object.Section key) one (object.Section other) two = follows.agree_section it is other key two one
 
   pub named_same : (o : Object) → object_stands n o ≡ true → (row : ℕ × Row Object) → object_stands n row.1.object ≡ true → same_object (name_by f row.1.object) (name_by f o) ≡ names_it o row
   named_same o stand row ok = object_same o stand row.1.object ok
@@ -287,3 +319,37 @@ module _ (it : Tables) (is : AreNamed (births_of it.ports) it) where
   -- an open port
   pub open_is : (key : Key) → stands n.ports key ≡ true → found.is_open rows (name_of n.ports key) ≡ has (has_name_of (object.Port key)) it.parts
   open_is key stand = named_is (object.Port key) stand
+
+  -- Views
+  pub space_is : (pid : ℕ) → has (is_space pid) rows.views ≡ has (is_part pid) it.parts
+  space_is pid = has-shown (shown_space f) (is_part pid) (is_space pid) (λ r. refl) it.parts
+
+  shown_views : (o : Option Part) → found.views_in (option_map (shown_space f) o) ≡ map (shown_view f) (views_in o)
+  shown_views None = refl
+  shown_views (Some part) = refl
+
+  pub views_are : (pid : ℕ) → found.views_of rows pid ≡ map (shown_view f) (views_at it.parts pid)
+  views_are pid = ap found.views_in (first-shown (shown_space f) (is_part pid) (is_space pid) (λ r. refl) it.parts) ∙ shown_views (first (is_part pid) it.parts)
+
+  pub view_is : (pid address n : ℕ) → found.view_holding rows pid address n ≡ option_map (shown_view f) (view_of (views_at it.parts pid) address n)
+  view_is pid address n =
+      ap (first (found.holds_range address n)) (views_are pid)
+      ∙ first-shown (shown_view f) (holds_range address n) (found.holds_range address n) (λ v. grind (arith, nat_tests)) (views_at it.parts pid)
+
+  -- what is found of the views of a process
+  pub found_view : (pid address k : ℕ) (r : Option (View Key)) → r ≡ view_of (views_at it.parts pid) address k → MatchOption r (found.view_holding rows pid address k ≡ None) (λ v. found.view_holding rows pid address k ≡ Some (shown_view f v))
+  found_view pid address k r is' = by r (sym is')
+    where
+      by : (o : Option (View Key)) → view_of (views_at it.parts pid) address k ≡ o → MatchOption o (found.view_holding rows pid address k ≡ None) (λ v. found.view_holding rows pid address k ≡ Some (shown_view f v))
+      by None none = view_is pid address k ∙ ap (option_map (shown_view f)) none
+      by (Some v) some = view_is pid address k ∙ ap (option_map (shown_view f)) some
+
+  -- the bytes of a section
+  pub bytes_are : (key : Key) (s : SectionRow) → at it.sections key ≡ Some s → found.content_of rows.contents (name_of n.sections key) ≡ s.bytes
+  bytes_are key s found_at =
+      let held = holds_row (first (at_key key) (listed it.sections)) (sym (at_first it.sections key) ∙ found_at) in
+      ap found.bytes_in (follows.first_content it is key (listed_stands (λ (r : SectionRow). r.birth) (listed it.sections) key held.row held.found) ∙ ap (option_map shown_content) held.found)
+      ∙ ap (λ (r : SectionRow). r.bytes) held.is
+    where
+      holds_row : (o : Option (Key × SectionRow)) → option_map (λ (r : Key × SectionRow). r.1) o ≡ Some s → Holds (λ (r : Key × SectionRow). r.1) o s
+      holds_row o e = holds (λ (r : Key × SectionRow). r.1) o s e

@@ -12,7 +12,7 @@ use Rattle.lpc_handles.specs.declared.table.Row.{Row}
 use Rattle.lpc_model.specs.World as model
 use Rattle.lpc_model.specs.World.{World}
 use Rattle.lpc_model.specs.Basics as basics
-use Rattle.lpc_model.specs.Found.{is_port, is_live_thread, is_process, is_queued, is_thread, waits_as, is_born_process, is_born_thread}
+use Rattle.lpc_model.specs.Found.{is_port, is_section, is_live_thread, is_process, is_queued, is_thread, waits_as, is_born_process, is_born_thread}
 use Rattle.lpc_model.specs.Entering.{takes}
 use Rattle.lpc_model.specs.Message.{message_of}
 use Rattle.lpc_model.specs.Tests.{next_birth}
@@ -36,10 +36,14 @@ use Rattle.lpc_rows.specs.Shown.{Tables, Births, all_pass, birth_of, births_of, 
 use Rattle.lpc_homes.specs.Parts.{are_single_parts, handed, is_part, roomed, spare_at}
 use Rattle.lpc_rows.specs.Kept.{has_queued, is_alive, is_asking, is_unsent, owed_messages, owed_rows, owed_waits, rows_by}
 use Rattle.lpc_rows.specs.OwedClosings.{TellsOnce, closing_places, is_owed}
-use Rattle.lpc_rows.specs.Lawful.{AreBornIn, AreLawful, IsCounted, IsPromised, can_begin, draws_at_most, drew, has_header, has_named_ports, is_housed, is_quiet}
+use Rattle.lpc_rows.specs.Lawful.{AreBornIn, AreLawful, AreMappedIn, IsCounted, IsPromised, can_begin, draws_at_most, drew, has_header, has_mapped_views, has_named_ports, is_housed, is_quiet}
 use Rattle.lpc_homes.specs.declared.object.Object.{Object}
 use Rattle.lpc_homes.specs.declared.object.Object.TheVariants as object
 use Rattle.lpc_homes.specs.declared.parts.Part.{Part}
+use Rattle.lpc_sections.specs.Sections.{SectionRow}
+use Rattle.lpc_slots.specs.Table.{Table, listed}
+use Rattle.lpc_views.specs.Parts.{is_mapped}
+use Rattle.lpc_views.specs.Views.{Views}
 use Rattle.lpc_rows.proofs.Changes as changes
 use Rattle.lpc_rows.proofs.Born as born
 use Rattle.lpc_rows.proofs.Drawn as drawn
@@ -52,12 +56,22 @@ use Rattle.lpc_rows.proofs.Promised as promised
 use Rattle.lpc_rows.proofs.Promised.{IsWelcome}
 use Rattle.lpc_rows.proofs.Registered.{registered-more}
 
+pub more_mapped : (sections : Table SectionRow) (parts : List Part) (made : ℕ) → AreMappedIn sections parts made → AreMappedIn sections parts (made + 1)
+more_mapped sections parts made h = record { sections_made = omega (arith, h.sections_made); views_mapped = h.views_mapped }
+
+-- views that stay are mapped, whatever else changes in the part of a process
+pub change_mapped : (sections : Table SectionRow) (parts : List Part) (made pid : ℕ) (f : Part → Part) → ((part : Part) → (f part).views ≡ part.views) → AreMappedIn sections parts made → AreMappedIn sections (change (is_part pid) f parts) made
+change_mapped sections parts made pid f same h = record {
+  sections_made = h.sections_made;
+  views_mapped = every-change (has_mapped_views sections) (is_part pid) f (λ part all. ap (λ (v : Views Key). every (is_mapped sections) v.views) (same part) ∙ all) parts h.views_mapped;
+}
+
 more_counted : (p : PortTable) (w : WaitTable) (made : ℕ) → IsCounted p w made → IsCounted p w (made + 1)
 more_counted p w made h = record { ports_made = omega (arith, h.ports_made); messages_made = omega (arith, h.messages_made); waits_made = omega (arith, h.waits_made) }
 
 module _ (it : Tables) (calls made : ℕ) (is : AreLawful it calls made) where
   abbrev n : Births
-  n = births_of it.ports
+  n = births_of it
 
   abbrev rows : World
   rows = rows_by it
@@ -106,6 +120,7 @@ module _ (it : Tables) (calls made : ℕ) (is : AreLawful it calls made) where
     lawful = rw (changes.draws_identifier it is.named who) (lawful.lawful-identifier rows calls made it.waits.spare it.ports.message_room who is.lawful lt);
     counted = more_counted it.ports it.waits made is.counted;
     registered = every-change (has_named_ports n) (procs.is_thread who) procs.past_identifier (λ t there. there) it.procs.threads is.registered;
+    mapped = more_mapped it.sections it.parts made is.mapped;
     headed = is.headed;
     drawn = rw (changes.draws_identifier it is.named who) (drawn.drawn-identifier rows who is.drawn);
     born = subst AreBornIn (sym (changes.draws_identifier it is.named who)) (born.born-by basics.past_identifier (λ t. refl) (λ t. refl) drawn.more-identifier rows.processes rows.threads rows.used_processes rows.used_threads who is.born);
@@ -118,6 +133,7 @@ module _ (it : Tables) (calls made : ℕ) (is : AreLawful it calls made) where
     lawful = rw (changes.draws_ordinal it is.named who) (lawful.lawful-ordinal rows calls made it.waits.spare it.ports.message_room who is.lawful lt);
     counted = more_counted it.ports it.waits made is.counted;
     registered = every-change (has_named_ports n) (procs.is_thread who) procs.past_birth (λ t there. there) it.procs.threads is.registered;
+    mapped = more_mapped it.sections it.parts made is.mapped;
     headed = is.headed;
     drawn = rw (changes.draws_ordinal it is.named who) (drawn.drawn-ordinal rows who is.drawn);
     born = subst AreBornIn (sym (changes.draws_ordinal it is.named who)) (born.born-by basics.past_ordinal (λ t. refl) (λ t. refl) drawn.more-ordinal rows.processes rows.threads rows.used_processes rows.used_threads who is.born);
@@ -128,23 +144,27 @@ module _ (it : Tables) (calls made : ℕ) (is : AreLawful it calls made) where
   some-number m above = grind (arith, nat_tests)
 
   -- processes and threads
-  pub added_process : (row : ProcessRow) (part : Part) (room : ℕ) → part.handles.rows ≡ [] → part.process ≡ row.number → made + owed_rows rows < 16 * calls → has (λ m. m == row.number) it.procs.used_processes ≡ false
+  pub added_process : (row : ProcessRow) (part : Part) (room : ℕ) → part.handles.rows ≡ [] → part.views.views ≡ [] → part.process ≡ row.number → made + owed_rows rows < 16 * calls → has (λ m. m == row.number) it.procs.used_processes ≡ false
       → can_begin rows.threads row.number row.birth ≡ true → ((row.birth.maker == 0) ≡ false → has (is_born_process row.birth) rows.processes ≡ false)
       → AreLawful (record it { procs = record it.procs { processes = it.procs.processes ++ row ∷ []; used_processes = it.procs.used_processes ++ row.number ∷ []; process_room = room }; parts = it.parts ++ part ∷ [] }) calls (made + 1)
-  added_process row part room none same lt new begins other = record {
-    named = changes.processed it is.named _ part none;
-    lawful = rw (changes.adds_process it is.named row part room none same) (lawful.lawful-process rows calls made it.waits.spare it.ports.message_room (shown_process row) is.lawful lt new);
+  added_process row part room none no_views same lt new begins other = record {
+    named = changes.processed it is.named _ part none no_views;
+    lawful = rw (changes.adds_process it is.named row part room none no_views same) (lawful.lawful-process rows calls made it.waits.spare it.ports.message_room (shown_process row) is.lawful lt new);
     counted = more_counted it.ports it.waits made is.counted;
     registered = is.registered;
+    mapped = record {
+      sections_made = omega (arith, is.mapped.sections_made);
+      views_mapped = every-push (has_mapped_views it.sections) it.parts part is.mapped.views_mapped (rw no_views refl);
+    };
     headed = is.headed;
-    drawn = rw (changes.adds_process it is.named row part room none same) (drawn.same-drawn rows _ refl refl refl is.drawn);
-    born = subst AreBornIn (sym (changes.adds_process it is.named row part room none same)) (born.born-process rows.processes rows.threads rows.used_processes rows.used_threads is.born (shown_process row) new (λ there. drawn.drew-drawn rows row.birth there is.drawn) begins other);
-    promised = subst (λ (v : World). IsPromised v.waits v.handles (it.parts ++ part ∷ [])) (sym (changes.adds_process it is.named row part room none same)) (promised.process-comes rows.waits rows.handles it.parts is.promised row.number part same (lawful.unused-table rows.used_processes row.number rows.handles is.lawful.tables_used new));
+    drawn = rw (changes.adds_process it is.named row part room none no_views same) (drawn.same-drawn rows _ refl refl refl refl is.drawn);
+    born = subst AreBornIn (sym (changes.adds_process it is.named row part room none no_views same)) (born.born-process rows.processes rows.threads rows.used_processes rows.used_threads is.born (shown_process row) new (λ there. drawn.drew-drawn rows row.birth there is.drawn) begins other);
+    promised = subst (λ (v : World). IsPromised v.waits v.handles (it.parts ++ part ∷ [])) (sym (changes.adds_process it is.named row part room none no_views same)) (promised.process-comes rows.waits rows.handles it.parts is.promised row.number part same (lawful.unused-table rows.used_processes row.number rows.handles is.lawful.tables_used new));
   }
 
-  pub process_owed : (row : ProcessRow) (part : Part) (room : ℕ) → part.handles.rows ≡ [] → part.process ≡ row.number
+  pub process_owed : (row : ProcessRow) (part : Part) (room : ℕ) → part.handles.rows ≡ [] → part.views.views ≡ [] → part.process ≡ row.number
       → owed_rows (rows_by (record it { procs = record it.procs { processes = it.procs.processes ++ row ∷ []; used_processes = it.procs.used_processes ++ row.number ∷ []; process_room = room }; parts = it.parts ++ part ∷ [] })) ≡ owed_rows rows
-  process_owed row part room none same = rw (changes.adds_process it is.named row part room none same) (owed.owed-process rows row.number)
+  process_owed row part room none no_views same = rw (changes.adds_process it is.named row part room none no_views same) (owed.owed-process rows row.number)
 
   pub added_thread : (row : ThreadRow) (room : ℕ) → 1 ≤ row.number → has (λ u. u.number == row.number) rows.used_threads ≡ false → made + owed_rows rows < 16 * calls → draws_at_most 1 (shown_thread row) ≡ true → row.registered.items ≡ [] → is_housed rows (shown_thread row) ≡ true
       → owed_waits rows < it.waits.spare → owed_messages rows < it.ports.message_room
@@ -155,6 +175,7 @@ module _ (it : Tables) (calls made : ℕ) (is : AreLawful it calls made) where
     lawful = rw (changes.adds_thread it is.named row room) (lawful.lawful-thread rows calls made it.waits.spare it.ports.message_room (shown_thread row) _ is.lawful lt young (rw none refl) home wait_room message_room);
     counted = more_counted it.ports it.waits made is.counted;
     registered = every-push (has_named_ports n) it.procs.threads row is.registered (rw none refl);
+    mapped = more_mapped it.sections it.parts made is.mapped;
     headed = is.headed;
     drawn = rw (changes.adds_thread it is.named row room) (drawn.drawn-thread rows (shown_thread row) _ refl unused is.drawn);
     born = subst AreBornIn (sym (changes.adds_thread it is.named row room)) (born.born-thread rows.processes rows.threads rows.used_processes rows.used_threads is.born (shown_thread row) (record { number = row.number; process = row.process }) (some-number row.number above) is.drawn.threads_noted unused (λ there. drawn.drew-drawn rows row.birth there is.drawn) begins other);
@@ -171,8 +192,9 @@ module _ (it : Tables) (calls made : ℕ) (is : AreLawful it calls made) where
     lawful = rw (changes.enters it is.named row (it.ports.message_room - 1) (it.ports.messages_made + 1)) (lawful.lawful-enter rows calls made it.waits.spare it.ports.message_room (shown_message (birth_of n) row) is.lawful lt place none asks once other);
     counted = record { ports_made = omega (arith, is.counted.ports_made); messages_made = omega (arith, is.counted.messages_made); waits_made = omega (arith, is.counted.waits_made) };
     registered = is.registered;
+    mapped = more_mapped it.sections it.parts made is.mapped;
     headed = every-push has_header it.ports.messages row is.headed long;
-    drawn = drawn.same-drawn rows _ refl refl refl is.drawn;
+    drawn = drawn.same-drawn rows _ refl refl refl refl is.drawn;
     born = is.born;
     promised = is.promised;
   }
@@ -184,8 +206,9 @@ module _ (it : Tables) (calls made : ℕ) (is : AreLawful it calls made) where
     lawful = rw (changes.takes it is.named key (it.ports.message_room + 1) there) (lawful.lawful-take rows calls made it.waits.spare it.ports.message_room (is_queued (name_of n.ports key)) m at is.lawful);
     counted = record { ports_made = is.counted.ports_made; messages_made = is.counted.messages_made; waits_made = is.counted.waits_made };
     registered = is.registered;
+    mapped = is.mapped;
     headed = every-without_first has_header (ports.is_in key) it.ports.messages is.headed;
-    drawn = drawn.same-drawn rows _ refl refl refl is.drawn;
+    drawn = drawn.same-drawn rows _ refl refl refl refl is.drawn;
     born = is.born;
     promised = is.promised;
   }
@@ -199,8 +222,9 @@ module _ (it : Tables) (calls made : ℕ) (is : AreLawful it calls made) where
     lawful = rw (changes.awaits it is.named row (it.waits.spare - 1) (it.waits.made + 1)) (lawful.lawful-wait rows calls made it.waits.spare it.ports.message_room (shown_wait (birth_of n) row) is.lawful lt thread ready still (lawful.wait-place rows calls made it.waits.spare it.ports.message_room row.thread is.lawful thread ready));
     counted = record { ports_made = omega (arith, is.counted.ports_made); messages_made = omega (arith, is.counted.messages_made); waits_made = omega (arith, is.counted.waits_made) };
     registered = is.registered;
+    mapped = more_mapped it.sections it.parts made is.mapped;
     headed = is.headed;
-    drawn = drawn.same-drawn rows _ refl refl refl is.drawn;
+    drawn = drawn.same-drawn rows _ refl refl refl refl is.drawn;
     born = is.born;
     promised = subst (λ (v : World). IsPromised v.waits v.handles it.parts) (sym (changes.awaits it is.named row (it.waits.spare - 1) (it.waits.made + 1))) owed;
   }
@@ -214,8 +238,9 @@ module _ (it : Tables) (calls made : ℕ) (is : AreLawful it calls made) where
     lawful = rw (changes.ends it is.named who (cond (has (waits.is_of who) it.waits.rows) (it.waits.spare + 1) it.waits.spare) it.waits.made, ← has_wait who) (lawful.lawful-end rows calls made it.waits.spare it.ports.message_room who is.lawful none);
     counted = record { ports_made = is.counted.ports_made; messages_made = is.counted.messages_made; waits_made = is.counted.waits_made };
     registered = is.registered;
+    mapped = is.mapped;
     headed = is.headed;
-    drawn = drawn.same-drawn rows _ refl refl refl is.drawn;
+    drawn = drawn.same-drawn rows _ refl refl refl refl is.drawn;
     born = is.born;
     promised = subst (λ (v : World). IsPromised v.waits v.handles it.parts) (sym (changes.ends it is.named who (cond (has (waits.is_of who) it.waits.rows) (it.waits.spare + 1) it.waits.spare) it.waits.made)) (promised.wait-ends rows.waits rows.handles it.parts is.promised (waits_as who));
   }
@@ -227,8 +252,9 @@ module _ (it : Tables) (calls made : ℕ) (is : AreLawful it calls made) where
     lawful = rw (changes.receives it is.named who) (lawful.lawful-receive rows calls made it.waits.spare it.ports.message_room who is.lawful none);
     counted = record { ports_made = is.counted.ports_made; messages_made = is.counted.messages_made; waits_made = is.counted.waits_made };
     registered = is.registered;
+    mapped = is.mapped;
     headed = is.headed;
-    drawn = drawn.same-drawn rows _ refl refl refl is.drawn;
+    drawn = drawn.same-drawn rows _ refl refl refl refl is.drawn;
     born = is.born;
     promised = subst (λ (v : World). IsPromised v.waits v.handles it.parts) (sym (changes.receives it is.named who)) (promised.wait-stays rows.waits rows.handles it.parts is.promised (waits_as who) basics.received (λ x. refl) (λ x. refl) (promised.received-taken who rows.waits is.promised.taken));
   }
@@ -240,8 +266,9 @@ module _ (it : Tables) (calls made : ℕ) (is : AreLawful it calls made) where
     lawful = rw (changes.keeps_message it is.named who bytes) (changes.lawful-message rows calls made it.waits.spare it.ports.message_room who bytes is.lawful);
     counted = record { ports_made = is.counted.ports_made; messages_made = is.counted.messages_made; waits_made = is.counted.waits_made };
     registered = is.registered;
+    mapped = is.mapped;
     headed = is.headed;
-    drawn = drawn.same-drawn rows _ refl refl refl is.drawn;
+    drawn = drawn.same-drawn rows _ refl refl refl refl is.drawn;
     born = is.born;
     promised = subst (λ (v : World). IsPromised v.waits v.handles it.parts) (sym (changes.keeps_message it is.named who bytes)) (promised.wait-stays rows.waits rows.handles it.parts is.promised (waits_as who) (with_message (message_of bytes)) (changes.connect_kept (message_of bytes)) (λ x. refl) (promised.kept-taken who (with_message (message_of bytes)) (changes.accepted_kept (message_of bytes)) (λ x. refl) rows.waits is.promised.taken));
   }
@@ -257,8 +284,9 @@ module _ (it : Tables) (calls made : ℕ) (is : AreLawful it calls made) where
     lawful = rw (changes.hands it is.named pid value row) (lawful.lawful-handle rows calls made it.waits.spare it.ports.message_room pid _ is.lawful lt (single_object row.object));
     counted = is.counted;
     registered = is.registered;
+    mapped = change_mapped it.sections it.parts made pid (handed value row) (λ part. refl) is.mapped;
     headed = is.headed;
-    drawn = drawn.same-drawn rows _ refl refl refl is.drawn;
+    drawn = drawn.same-drawn rows _ refl refl refl refl is.drawn;
     born = is.born;
     promised = subst (λ (v : World). IsPromised v.waits v.handles (change (is_part pid) (handed value row) it.parts)) (sym (changes.hands it is.named pid value row)) (promised.handle-comes rows.waits rows.handles it.parts is.promised pid value (shown_handle (birth_of n) (value, row)) row one is.lawful.tables_single welcome);
   }
@@ -269,8 +297,9 @@ module _ (it : Tables) (calls made : ℕ) (is : AreLawful it calls made) where
     lawful = rw (changes.rooms it is.named pid spare) is.lawful;
     counted = is.counted;
     registered = is.registered;
+    mapped = change_mapped it.sections it.parts made pid (roomed spare) (λ part. refl) is.mapped;
     headed = is.headed;
-    drawn = drawn.same-drawn rows _ refl refl refl is.drawn;
+    drawn = drawn.same-drawn rows _ refl refl refl refl is.drawn;
     born = is.born;
     promised = subst (λ (v : World). IsPromised v.waits v.handles (change (is_part pid) (roomed spare) it.parts)) (sym (changes.rooms it is.named pid spare)) (promised.room-grows rows.waits rows.handles it.parts is.promised pid spare more one);
   }
@@ -286,7 +315,8 @@ module _ (it : Tables) (calls made : ℕ) (is : AreLawful it calls made) where
     named = makes.made_named it is.named key row (it.ports.port_room - 1) (it.ports.ports_made + 1) absent fresh refs;
     lawful = rw (makes.makes it is.named key row (it.ports.port_room - 1) (it.ports.ports_made + 1) refs) (lawful.lawful-port rows calls made it.waits.spare it.ports.message_room (shown_port (birth_of n) (key, row)) is.lawful lt (owed.fresh-shut it is.named row.birth fresh) place);
     counted = record { ports_made = omega (arith, is.counted.ports_made); messages_made = omega (arith, is.counted.messages_made); waits_made = omega (arith, is.counted.waits_made) };
-    registered = registered-more n (births_of (record it.ports { ports = it.ports.ports ++ (key, row) ∷ []; port_room = it.ports.port_room - 1; ports_made = it.ports.ports_made + 1 })) (makes.keeps it is.named key row (it.ports.port_room - 1) (it.ports.ports_made + 1)) it.procs.threads is.registered;
+    registered = registered-more n (births_of (record it { ports = record it.ports { ports = it.ports.ports ++ (key, row) ∷ []; port_room = it.ports.port_room - 1; ports_made = it.ports.ports_made + 1 } })) (makes.keeps it is.named key row (it.ports.port_room - 1) (it.ports.ports_made + 1)) it.procs.threads is.registered;
+    mapped = more_mapped it.sections it.parts made is.mapped;
     headed = is.headed;
     drawn = rw (makes.makes it is.named key row (it.ports.port_room - 1) (it.ports.ports_made + 1) refs) (drawn.drawn-port rows (shown_port (birth_of n) (key, row)) was is.drawn);
     born = is.born;
@@ -294,14 +324,14 @@ module _ (it : Tables) (calls made : ℕ) (is : AreLawful it calls made) where
   }
 
 -- nothing
-pub none_lawful : (space : NameSpace Key) → space.bindings ≡ [] → AreLawful (tables_of (record { processes = []; threads = []; used_processes = []; used_threads = []; process_room = 0; thread_room = 0 }) [] (record { ports = []; messages = []; port_room = 0; message_room = 0; ports_made = 0; messages_made = 0 }) (record { rows = []; spare = 0; made = 0 }) space) 0 0
+pub none_lawful : (space : NameSpace Key) (sections : Table SectionRow) → space.bindings ≡ [] → listed sections ≡ [] → sections.made ≡ 0 → AreLawful (tables_of (record { processes = []; threads = []; used_processes = []; used_threads = []; process_room = 0; thread_room = 0 }) [] (record { ports = []; messages = []; port_room = 0; message_room = 0; ports_made = 0; messages_made = 0 }) (record { rows = []; spare = 0; made = 0 }) space sections) 0 0
 unfolding are_apart
-none_lawful space none = record {
-  named = record { ports_apart = refl; refs = record { in_handles = refl; in_ports = refl; in_messages = refl; in_waits = refl; in_names = rw none refl } };
+none_lawful space sections none no_sections unmade = record {
+  named = record { ports_apart = refl; sections_apart = rw no_sections refl; unowned = refl; refs = record { in_handles = refl; in_ports = refl; in_messages = refl; in_waits = refl; in_names = rw none refl; in_views = refl } };
   lawful = record {
     few = omega arith;
     budget = omega arith;
-    rows = omega arith;
+    rows = rw no_sections (omega arith);
     draws = refl;
     housed = refl;
     tables_used = refl;
@@ -317,8 +347,9 @@ none_lawful space none = record {
   };
   counted = record { ports_made = omega arith; messages_made = omega arith; waits_made = omega arith };
   registered = refl;
+  mapped = record { sections_made = omega (arith, unmade); views_mapped = refl };
   headed = refl;
-  drawn = record { threads_single = refl; threads_noted = refl; ports_drawn = refl };
+  drawn = record { threads_single = refl; threads_noted = refl; ports_drawn = refl; sections_drawn = rw no_sections refl };
   born = record { processes_single = refl; processes_noted = refl; processes_born = refl; threads_born = refl; threads_numbered = refl; process_births = λ b. omega arith; thread_births = λ b. omega arith };
   promised = promised.none-promised;
 }
@@ -332,7 +363,7 @@ module _ (it : Tables) (calls made : ℕ) (is : AreLawful it calls made) where
   all = rows_by it
 
   -- keys that stand
-  pub two_stand : (a b : Key) → stands (births_of it.ports).ports a ≡ true → stands (births_of it.ports).ports b ≡ true → every (object_stands (births_of it.ports)) (object.Port a ∷ object.Port b ∷ []) ≡ true
+  pub two_stand : (a b : Key) → stands (births_of it).ports a ≡ true → stands (births_of it).ports b ≡ true → every (object_stands (births_of it)) (object.Port a ∷ object.Port b ∷ []) ≡ true
   two_stand a b one two = rw (one, two) refl
 
   -- the wait of a thread
@@ -379,15 +410,15 @@ module _ (it : Tables) (calls made : ℕ) (is : AreLawful it calls made) where
       is_some-map (Some row) = refl
 
   -- the oldest message of a queue
-  queued_first : (key : Key) → stands (births_of it.ports).ports key ≡ true → first (is_queued (name_of (births_of it.ports).ports key)) all.messages ≡ option_map (shown_message (birth_of (births_of it.ports))) (first (ports.is_in key) it.ports.messages)
+  queued_first : (key : Key) → stands (births_of it).ports key ≡ true → first (is_queued (name_of (births_of it).ports key)) all.messages ≡ option_map (shown_message (birth_of (births_of it))) (first (ports.is_in key) it.ports.messages)
   queued_first key there = first_queued it is.named key there
 
   no_row : (o : Option (Key × QueuedMessage)) → option_map (λ (row : Key × QueuedMessage). row.0) o ≡ None → o ≡ None
   no_row None h = refl
   no_row (Some row) h = absurd (cc)
 
-  pub none_queued : (key : Key) → stands (births_of it.ports).ports key ≡ true → ports.first_in it.ports.messages key ≡ None → first (is_queued (name_of (births_of it.ports).ports key)) all.messages ≡ None
-  none_queued key there none = queued_first key there ∙ ap (option_map (shown_message (birth_of (births_of it.ports)))) (no_row (first (ports.is_in key) it.ports.messages) none)
+  pub none_queued : (key : Key) → stands (births_of it).ports key ≡ true → ports.first_in it.ports.messages key ≡ None → first (is_queued (name_of (births_of it).ports key)) all.messages ≡ None
+  none_queued key there none = queued_first key there ∙ ap (option_map (shown_message (birth_of (births_of it)))) (no_row (first (ports.is_in key) it.ports.messages) none)
 
   -- the key that is found first in a queue has a row
   oldest_row : (queue key : Key) (ms : List (Key × QueuedMessage)) → option_map (λ (row : Key × QueuedMessage). row.0) (first (ports.is_in queue) ms) ≡ Some key → is_some (first (at_key key) ms) ≡ true
@@ -407,15 +438,15 @@ module _ (it : Tables) (calls made : ℕ) (is : AreLawful it calls made) where
       mapped None h = absurd (cc)
       mapped (Some row) h = refl
 
-  pub first_message : (queue : Key) (m : Message) → stands (births_of it.ports).ports queue ≡ true → option_map (λ (row : Key × QueuedMessage). row.1.message) (first (ports.is_in queue) it.ports.messages) ≡ Some m → first (is_queued (name_of (births_of it.ports).ports queue)) all.messages ≡ Some (pulled_row (births_of it.ports) queue m)
+  pub first_message : (queue : Key) (m : Message) → stands (births_of it).ports queue ≡ true → option_map (λ (row : Key × QueuedMessage). row.1.message) (first (ports.is_in queue) it.ports.messages) ≡ Some m → first (is_queued (name_of (births_of it).ports queue)) all.messages ≡ Some (pulled_row (births_of it) queue m)
   first_message queue m there at = queued_first queue there ∙ found (first (ports.is_in queue) it.ports.messages) refl at
     where
-      found : (o : Option (Key × QueuedMessage)) → first (ports.is_in queue) it.ports.messages ≡ o → option_map (λ (row : Key × QueuedMessage). row.1.message) o ≡ Some m → option_map (shown_message (birth_of (births_of it.ports))) o ≡ Some (pulled_row (births_of it.ports) queue m)
+      found : (o : Option (Key × QueuedMessage)) → first (ports.is_in queue) it.ports.messages ≡ o → option_map (λ (row : Key × QueuedMessage). row.1.message) o ≡ Some m → option_map (shown_message (birth_of (births_of it))) o ≡ Some (pulled_row (births_of it) queue m)
       found None is' h = absurd (cc)
       found (Some row) is' h =
           let same : row.1.message ≡ m = same_Some row.1.message m h in
           let own : row.1.queue ≡ queue = key_is row.1.queue queue (first-passes (ports.is_in queue) it.ports.messages row is') in
-          λ i. Some (record { queue = name_of (births_of it.ports).ports (own i); sender = name_of (births_of it.ports).ports (same i).sender; context = (same i).context; message = message_of (same i).bytes.items })
+          λ i. Some (record { queue = name_of (births_of it).ports (own i); sender = name_of (births_of it).ports (same i).sender; context = (same i).context; message = message_of (same i).bytes.items })
 
   -- the table that the oldest message leaves
   pub oldest : (queue key : Key) (new : PortTable) → new ≡ record it.ports { messages = without (at_key key) it.ports.messages; message_room = it.ports.message_room + 1 } → new.messages ≡ without_first (ports.is_in queue) it.ports.messages
@@ -432,12 +463,13 @@ module _ (it : Tables) (calls made : ℕ) (is : AreLawful it calls made) where
   -- more room for ports and messages
   pub roomed_ports : (ports messages : ℕ) → it.ports.message_room ≤ messages → AreLawful (record it { ports = record it.ports { port_room = ports; message_room = messages } }) calls made
   roomed_ports ports messages more = record {
-    named = record { ports_apart = is.named.ports_apart; refs = record { in_handles = is.named.refs.in_handles; in_ports = is.named.refs.in_ports; in_messages = is.named.refs.in_messages; in_waits = is.named.refs.in_waits; in_names = is.named.refs.in_names } };
+    named = record { ports_apart = is.named.ports_apart; sections_apart = is.named.sections_apart; unowned = is.named.unowned; refs = record { in_handles = is.named.refs.in_handles; in_ports = is.named.refs.in_ports; in_messages = is.named.refs.in_messages; in_waits = is.named.refs.in_waits; in_names = is.named.refs.in_names; in_views = is.named.refs.in_views } };
     lawful = lawful.lawful-room all calls made it.waits.spare it.ports.message_room it.waits.spare messages is.lawful (omega arith) more;
     counted = record { ports_made = is.counted.ports_made; messages_made = is.counted.messages_made; waits_made = is.counted.waits_made };
     registered = is.registered;
+    mapped = is.mapped;
     headed = is.headed;
-    drawn = drawn.same-drawn all _ refl refl refl is.drawn;
+    drawn = drawn.same-drawn all _ refl refl refl refl is.drawn;
     born = is.born;
     promised = is.promised;
   }
@@ -478,6 +510,16 @@ module _ (it : Tables) (calls made : ℕ) (is : AreLawful it calls made) where
           let own : r.number ≡ who = eqb-true r.number who (first-passes (is_thread who) all.threads r is') in
           let P : Birth → Type 0 = λ x. first (is_port x) all.ports ≡ None in
           subst P (same_Some (next_birth r) b h) (drawn.fresh-birth all who r is.drawn is' own)
+
+  pub fresh_section : (who : ℕ) (b : Birth) → option_map next_birth (first (is_thread who) all.threads) ≡ Some b → first (is_section b) all.sections ≡ None
+  fresh_section who b at = by_thread (first (is_thread who) all.threads) refl at
+    where
+      by_thread : (o : Option model.ThreadRow) → first (is_thread who) all.threads ≡ o → option_map next_birth o ≡ Some b → first (is_section b) all.sections ≡ None
+      by_thread None is' h = absurd (cc)
+      by_thread (Some r) is' h =
+          let own : r.number ≡ who = eqb-true r.number who (first-passes (is_thread who) all.threads r is') in
+          let P : Birth → Type 0 = λ x. first (is_section x) all.sections ≡ None in
+          subst P (same_Some (next_birth r) b h) (drawn.fresh-section all who r is.drawn is' own)
 
   -- nor the birth of a process or a thread
   pub next_born : (who : ℕ) (b : Birth) → option_map next_birth (first (is_thread who) all.threads) ≡ Some b → (has (is_born_process b) all.processes ≡ false) × (has (is_born_thread b) (change (is_thread who) basics.past_ordinal all.threads) ≡ false)

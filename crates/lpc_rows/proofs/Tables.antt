@@ -7,7 +7,7 @@ use Rattle.lpc_base.specs.declared.birth.Birth.{Birth}
 use Rattle.lpc_base.specs.Places.{least_handle}
 use Rattle.lpc_base.specs.Rows.{change, count, first, has}
 use Rattle.std.proofs.lemmas.Bool.Decides.{nat_tests}
-use Rattle.lpc_base.proofs.RowMaps.{count-map, every-first, first-map, has-map}
+use Rattle.lpc_base.proofs.RowMaps.{count-map, every-first, first-map, has-map, unseen-change}
 use Rattle.lpc_base.proofs.RowWords.{every-true, first-passes}
 use Rattle.lpc_handles.specs.Handles.{values}
 use Rattle.lpc_handles.specs.declared.table.Row.{Row}
@@ -27,7 +27,7 @@ use Rattle.lpc_waits.specs.declared.WaitRow.{WaitRow}
 use Rattle.lpc_rows.specs.Shown.{Tables, birth_of, births_of, object_stands, shown_handle, shown_kind, shown_part, shown_wait}
 use Rattle.lpc_homes.specs.Parts.{are_single_parts, handed, is_part, roomed, rows_at, rows_in, spare_at, spare_in}
 use Rattle.lpc_rows.specs.Kept as kept
-use Rattle.lpc_rows.specs.Kept.{is_room, room_of_part, rows_by}
+use Rattle.lpc_rows.specs.Kept.{is_room, room_of_part, rows_by, view_room_of}
 use Rattle.lpc_rows.specs.Lawful.{AreLawful, are_single_tables, is_within}
 use Rattle.lpc_homes.specs.declared.object.Object.{Object}
 use Rattle.lpc_homes.specs.declared.parts.Part.{Part}
@@ -63,22 +63,22 @@ module _ (it : Tables) (calls made : ℕ) (is : AreLawful it calls made) where
   rows = rows_by it
 
   pub has_table : (pid : ℕ) → has (is_table pid) rows.handles ≡ has (is_part pid) it.parts
-  has_table pid = has-map (shown_part (birth_of (births_of it.ports))) (λ _. true) (is_part pid) (is_table pid) (λ part _. refl) it.parts (every-true it.parts)
+  has_table pid = has-map (shown_part (birth_of (births_of it))) (λ _. true) (is_part pid) (is_table pid) (λ part _. refl) it.parts (every-true it.parts)
 
-  first_table : (pid : ℕ) → first (is_table pid) rows.handles ≡ option_map (shown_part (birth_of (births_of it.ports))) (first (is_part pid) it.parts)
-  first_table pid = first-map (shown_part (birth_of (births_of it.ports))) (λ _. true) (is_part pid) (is_table pid) (λ part _. refl) it.parts (every-true it.parts)
+  first_table : (pid : ℕ) → first (is_table pid) rows.handles ≡ option_map (shown_part (birth_of (births_of it))) (first (is_part pid) it.parts)
+  first_table pid = first-map (shown_part (birth_of (births_of it))) (λ _. true) (is_part pid) (is_table pid) (λ part _. refl) it.parts (every-true it.parts)
 
-  pub handles_shown : (pid : ℕ) → handles_of rows pid ≡ map (shown_handle (birth_of (births_of it.ports))) (rows_at it.parts pid)
+  pub handles_shown : (pid : ℕ) → handles_of rows pid ≡ map (shown_handle (birth_of (births_of it))) (rows_at it.parts pid)
   handles_shown pid = ap found.rows_in (first_table pid) ∙ shown (first (is_part pid) it.parts)
     where
-      shown : (o : Option Part) → found.rows_in (option_map (shown_part (birth_of (births_of it.ports))) o) ≡ map (shown_handle (birth_of (births_of it.ports))) (rows_in o)
+      shown : (o : Option Part) → found.rows_in (option_map (shown_part (birth_of (births_of it))) o) ≡ map (shown_handle (birth_of (births_of it))) (rows_in o)
       shown None = refl
       shown (Some part) = refl
 
   pub handle_number : (pid : ℕ) → length (handles_of rows pid) ≡ length (rows_at it.parts pid)
-  handle_number pid = ap length (handles_shown pid) ∙ length-map (rows_at it.parts pid) (shown_handle (birth_of (births_of it.ports)))
+  handle_number pid = ap length (handles_shown pid) ∙ length-map (rows_at it.parts pid) (shown_handle (birth_of (births_of it)))
 
-  values_shown : (hs : List (ℕ × Row Object)) → map (λ h. h.value) (map (shown_handle (birth_of (births_of it.ports))) hs) ≡ values hs
+  values_shown : (hs : List (ℕ × Row Object)) → map (λ h. h.value) (map (shown_handle (birth_of (births_of it))) hs) ≡ values hs
   values_shown [] = refl
   values_shown (h ∷ hs) = ap (λ vs. h.0 ∷ vs) (values_shown hs)
 
@@ -86,23 +86,23 @@ module _ (it : Tables) (calls made : ℕ) (is : AreLawful it calls made) where
   free_value pid = ap (λ (hs : List model.HandleRow). least_handle (map (λ h. h.value) hs)) (handles_shown pid) ∙ ap least_handle (values_shown (rows_at it.parts pid))
 
   -- no process has two it.parts
-  single_by : (ps : List Part) → are_single_tables (map (shown_part (birth_of (births_of it.ports))) ps) ≡ true → are_single_parts ps ≡ true
+  single_by : (ps : List Part) → are_single_tables (map (shown_part (birth_of (births_of it))) ps) ≡ true → are_single_parts ps ≡ true
   single_by [] one = refl
   single_by (part ∷ ps) one =
-      let same : has (is_table part.process) (map (shown_part (birth_of (births_of it.ports))) ps) ≡ has (is_part part.process) ps = has-map (shown_part (birth_of (births_of it.ports))) (λ _. true) (is_part part.process) (is_table part.process) (λ q _. refl) ps (every-true ps) in
+      let same : has (is_table part.process) (map (shown_part (birth_of (births_of it))) ps) ≡ has (is_part part.process) ps = has-map (shown_part (birth_of (births_of it))) (λ _. true) (is_part part.process) (is_table part.process) (λ q _. refl) ps (every-true ps) in
       grind (arith, same, single_by ps)
 
   pub single : are_single_parts it.parts ≡ true
   single = single_by it.parts is.lawful.tables_single
 
   -- a handle more, or none
-  pub handed_or_same : (pid : ℕ) (row : Row Object) (r : Result ℕ TableFault) (new : List Part) → object_stands (births_of it.ports) row.object ≡ true → IfOk r (λ v. new ≡ change (is_part pid) (handed v row) it.parts) → OnErr r (new ≡ it.parts) → made + kept.owed_rows rows < 16 * calls → OnOk r (IsWelcome rows.waits rows.handles it.parts pid) → AreLawful (record it { parts = new }) calls made
+  pub handed_or_same : (pid : ℕ) (row : Row Object) (r : Result ℕ TableFault) (new : List Part) → object_stands (births_of it) row.object ≡ true → IfOk r (λ v. new ≡ change (is_part pid) (handed v row) it.parts) → OnErr r (new ≡ it.parts) → made + kept.owed_rows rows < 16 * calls → OnOk r (IsWelcome rows.waits rows.handles it.parts pid) → AreLawful (record it { parts = new }) calls made
   handed_or_same pid row (Ok v) new there more same lt welcome = rw more (steps.handed_lawful it calls made is pid v row there lt single welcome)
   handed_or_same pid row (Err e) new there more same lt welcome = rw same is
 
   -- and one row more is owed at most
   pub handed_owed : (pid : ℕ) (row : Row Object) (r : Result ℕ TableFault) (new : List Part) → IfOk r (λ v. new ≡ change (is_part pid) (handed v row) it.parts) → OnErr r (new ≡ it.parts) → kept.owed_rows (rows_by (record it { parts = new })) ≤ kept.owed_rows rows + 1
-  handed_owed pid row (Ok v) new more same = rw (more, changes.hands it is.named pid v row) (owed.owed-handle rows pid (shown_handle (birth_of (births_of it.ports)) (v, row)) (steps.single_object it calls made is row.object))
+  handed_owed pid row (Ok v) new more same = rw (more, changes.hands it is.named pid v row) (owed.owed-handle rows pid (shown_handle (birth_of (births_of it)) (v, row)) (steps.single_object it calls made is row.object))
   handed_owed pid row (Err e) new more same = rw same (omega arith)
 
   -- which takes one place for handles at most
@@ -133,7 +133,7 @@ module _ (it : Tables) (calls made : ℕ) (is : AreLawful it calls made) where
   handed_spare pid row (Ok v) new more same = rw more (less_spare pid v pid row it.parts)
   handed_spare pid row (Err e) new more same = rw same (omega arith)
 
-  pub hands_or_not : (pid : ℕ) (row : Row Object) (r : Result ℕ TableFault) (new : List Part) → IfOk r (λ v. new ≡ change (is_part pid) (handed v row) it.parts) → IfOk r (λ v. rows_by (record it { parts = new }) ≡ basic rows (AddsHandle pid (shown_handle (birth_of (births_of it.ports)) (v, row))))
+  pub hands_or_not : (pid : ℕ) (row : Row Object) (r : Result ℕ TableFault) (new : List Part) → IfOk r (λ v. new ≡ change (is_part pid) (handed v row) it.parts) → IfOk r (λ v. rows_by (record it { parts = new }) ≡ basic rows (AddsHandle pid (shown_handle (birth_of (births_of it)) (v, row))))
   hands_or_not pid row (Ok v) new more = rw more (changes.hands it is.named pid v row)
   hands_or_not pid row (Err e) new more = tt
 
@@ -143,6 +143,10 @@ module _ (it : Tables) (calls made : ℕ) (is : AreLawful it calls made) where
 
   pub roomed_rows : (pid : ℕ) (new : List Part) → new ≡ change (is_part pid) (roomed (spare_at new pid)) it.parts → rows_by (record it { parts = new }) ≡ rows
   roomed_rows pid new at = ap (λ (ps : List Part). rows_by (record it { parts = ps })) at ∙ changes.rooms it is.named pid (spare_at new pid)
+
+  -- and as much room for views
+  pub roomed_views : (pid : ℕ) (new : List Part) → new ≡ change (is_part pid) (roomed (spare_at new pid)) it.parts → map view_room_of new ≡ map view_room_of it.parts
+  roomed_views pid new at = ap (map view_room_of) at ∙ unseen-change view_room_of (is_part pid) (roomed (spare_at new pid)) (λ part. refl) it.parts
 
   pub roomed_others : (pid : ℕ) (new : List Part) → new ≡ change (is_part pid) (roomed (spare_at new pid)) it.parts → (other : ℕ) → (other == pid) ≡ false → spare_at new other ≡ spare_at it.parts other
   roomed_others pid new at other off = ap (λ (ps : List Part). spare_at ps other) at ∙ ap spare_in (first_other (roomed (spare_at new pid)) (λ part. refl) it.parts pid other off)
@@ -162,7 +166,7 @@ module _ (it : Tables) (calls made : ℕ) (is : AreLawful it calls made) where
 
   -- how many of a process's threads wait in a connect
   pub promised_are : (pid : ℕ) → kept.owed_handles rows pid ≡ count (waits.is_connect_of pid) it.waits.rows
-  promised_are pid = connects_shown (birth_of (births_of it.ports)) pid it.waits.rows
+  promised_are pid = connects_shown (birth_of (births_of it)) pid it.waits.rows
 
   pub load_bound : (pid : ℕ) → has (is_table pid) rows.handles ≡ true → handle_load rows pid ≤ 256
   load_bound pid there = by_first (first (is_table pid) rows.handles) refl
@@ -181,10 +185,10 @@ module _ (it : Tables) (calls made : ℕ) (is : AreLawful it calls made) where
           omega (arith, long, here)
 
   -- a wait that begins isn't accepted
-  pub fresh_taken : (tid : ℕ) (x : Wait) → is_taken (shown_wait (birth_of (births_of it.ports)) (record { thread = tid; wait = x; message = record { items = [] }; accepted = None })) ≡ true
+  pub fresh_taken : (tid : ℕ) (x : Wait) → is_taken (shown_wait (birth_of (births_of it)) (record { thread = tid; wait = x; message = record { items = [] }; accepted = None })) ≡ true
   fresh_taken tid x = by_kind x.kind
     where
-      by_kind : (kind : WaitKind) → is_taken (shown_wait (birth_of (births_of it.ports)) (record { thread = tid; wait = record x { kind = kind }; message = record { items = [] }; accepted = None })) ≡ true
+      by_kind : (kind : WaitKind) → is_taken (shown_wait (birth_of (births_of it)) (record { thread = tid; wait = record x { kind = kind }; message = record { items = [] }; accepted = None })) ≡ true
       by_kind wait.Request = refl
       by_kind wait.Receive = refl
       by_kind wait.Listen = refl

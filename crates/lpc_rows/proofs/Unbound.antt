@@ -16,10 +16,10 @@ use Rattle.lpc_homes.specs.declared.object.Object.{Object}
 use Rattle.lpc_rows.proofs.Bound as bound
 use Rattle.lpc_rows.proofs.Unheld.{node_same}
 
-module _ (it : Tables) (calls made : ℕ) (is : AreLawful it calls made) (key : Key) (there : stands (births_of it.ports).ports key ≡ true)
+module _ (it : Tables) (calls made : ℕ) (is : AreLawful it calls made) (key : Key) (there : stands (births_of it).ports key ≡ true)
     (space : NameSpace Key) (less : space.bindings ≡ without_names is_key key it.space.bindings) where
   abbrev n : Births
-  n = births_of it.ports
+  n = births_of it
 
   abbrev f : Object → Birth
   f = birth_of n
@@ -48,5 +48,7 @@ module _ (it : Tables) (calls made : ℕ) (is : AreLawful it calls made) (key : 
     for_messages = omega arith;
     for_ports = omega arith;
     for_names = more;
+    for_sections = omega arith;
     for_handles = λ pid. omega arith;
+    for_views = λ pid. omega arith;
   }

@@ -1,10 +1,10 @@
 -- A port that no row names: the tables find what the definitions find.
 use Rattle.std.proofs.Common.{◌≡◌, ℕ, List, [], ◌∷◌, ◌||◌, Bool, true, false, not, map, Option, Some, None, refl, ◌∙◌, arith}
-use Rattle.std.specs.Prelude.{IsSome, is_some}
+use Rattle.std.specs.Prelude.{IsSome, is_none, is_some}
 use Rattle.lpc_base.specs.declared.birth.Birth.{Birth}
-use Rattle.lpc_base.specs.Rows.{every, has}
+use Rattle.lpc_base.specs.Rows.{each, every, has}
 use Rattle.lpc_base.proofs.RowMaps.{has-map}
-use Rattle.lpc_base.proofs.RowWords.{every-append, every-back, every-front, every-off}
+use Rattle.lpc_base.proofs.RowWords.{every-append, every-back, every-front, every-more, every-off}
 use Rattle.lpc_handles.specs.declared.table.Row.{Row}
 use Rattle.lpc_model.specs.Found as found
 use Rattle.lpc_model.specs.Found.{same_birth}
@@ -18,11 +18,12 @@ use Rattle.lpc_ports.specs.Table.{QueuedMessage}
 use Rattle.lpc_slots.specs.Table.{is_key}
 use Rattle.lpc_slots.specs.declared.Key.{Key}
 use Rattle.lpc_slots.proofs.Keys.{key_turned}
+use Rattle.lpc_views.specs.declared.view.View.{View}
 use Rattle.lpc_waits.specs.Table as waits
 use Rattle.lpc_waits.specs.declared.WaitRow.{WaitRow}
 use Rattle.lpc_rows.specs.Names.{name_of, stands}
 use Rattle.lpc_homes.specs.Parts.{has_name_of, is_object, names_it}
-use Rattle.lpc_rows.specs.Shown.{Tables, AllPass, AreNamed, Births, all_pass, binding_refs, birth_in, birth_of, births_of, message_refs, node_refs, object_stands, part_refs, port_refs, ports_in, shown_binding, shown_by, shown_message, shown_port, shown_wait, wait_refs}
+use Rattle.lpc_rows.specs.Shown.{Tables, AllPass, AreNamed, Births, all_pass, binding_refs, birth_in, birth_of, births_of, message_refs, node_refs, object_stands, part_refs, port_refs, ports_in, shown_binding, shown_by, shown_message, shown_port, shown_wait, space_refs, view_refs, wait_refs, has_free_views, is_free_view}
 use Rattle.lpc_homes.specs.declared.object.Object.{Object}
 use Rattle.lpc_homes.specs.declared.object.Object.TheVariants as object
 use Rattle.lpc_rows.proofs.Follows as follows
@@ -35,9 +36,9 @@ is_named_in it key =
     || (has (waits.is_wait_at key) it.waits.rows || has_name is_key key it.space.bindings)))
 
 -- The tests of rows agree
-module _ (it : Tables) (is : AreNamed (births_of it.ports) it) (key : Key) (there : stands (births_of it.ports).ports key ≡ true) where
+module _ (it : Tables) (is : AreNamed (births_of it) it) (key : Key) (there : stands (births_of it).ports key ≡ true) where
   abbrev n : Births
-  n = births_of it.ports
+  n = births_of it
 
   abbrev f : Object → Birth
   f = birth_of n
@@ -123,13 +124,23 @@ module _ (key : Key) where
   names_off [] none = refl
   names_off (row ∷ rows) none = grind (arith, node_off row.0 row.1, names_off rows)
 
-  pub others_pass : (it : Tables) → is_named_in it key ≡ false → AllPass (is_other key) it
-  others_pass it none = record {
+  -- a view that goes with no port names its section alone
+  views_off : (vs : List (View Key)) → every is_free_view vs ≡ true → every (is_other key) (each view_refs vs) ≡ true
+  views_off [] free = refl
+  views_off (v ∷ vs) free = every-append (is_other key) (view_refs v) (each view_refs vs) (owner_off v.owner (grind arith)) (views_off vs (grind arith))
+    where
+      owner_off : (o : Option Key) → is_none o ≡ true → every (is_other key) (ports_in o) ≡ true
+      owner_off None none = refl
+      owner_off (Some k) none = absurd (cc)
+
+  pub others_pass : (it : Tables) → is_named_in it key ≡ false → every has_free_views it.parts ≡ true → AllPass (is_other key) it
+  others_pass it none free = record {
     in_handles = every-off (has_name_of (object.Port key)) (all_pass part_refs (is_other key)) (λ part off. handles_off part.handles.rows off) it.parts (grind arith);
     in_ports = every-off (ports.is_joined_to key) (all_pass port_refs (is_other key)) port_off it.ports.ports (grind arith);
     in_messages = every-off (ports.is_message_at key) (all_pass message_refs (is_other key)) message_off it.ports.messages (grind arith);
     in_waits = every-off (waits.is_wait_at key) (all_pass wait_refs (is_other key)) wait_off it.waits.rows (grind arith);
     in_names = names_off it.space.bindings (grind arith);
+    in_views = every-more has_free_views (all_pass space_refs (is_other key)) (λ part all. views_off part.views.views all) it.parts free;
   }
 
   -- and no message stands in its queue

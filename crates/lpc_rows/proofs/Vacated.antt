@@ -107,7 +107,8 @@ module _ (it : Tables) (calls made : ℕ) (is : AreLawful it calls made) where
     named = changes.threaded it is.named _;
     lawful = rw (thread-shown b left) (lawful-less rows calls made it.waits.spare it.ports.message_room (is_born_thread b) over is.lawful);
     counted = is.counted;
-    registered = every-without (has_named_ports (births_of it.ports)) (procs.is_thread_born b) it.procs.threads is.registered;
+    registered = every-without (has_named_ports (births_of it)) (procs.is_thread_born b) it.procs.threads is.registered;
+    mapped = is.mapped;
     headed = is.headed;
     drawn = rw (thread-shown b left) (drawn.drawn-less rows (is_born_thread b) is.drawn);
     born = subst AreBornIn (sym (thread-shown b left)) (born.born-less-threads rows.processes rows.threads rows.used_processes rows.used_threads is.born (is_born_thread b));
@@ -126,15 +127,16 @@ module _ (it : Tables) (calls made : ℕ) (is : AreLawful it calls made) where
     lawful = rw (process-shown b left) (lawful-vacated rows calls made it.waits.spare it.ports.message_room b (sym (zero_has (lives_by rows b) rows.threads) ∙ none) is.lawful);
     counted = is.counted;
     registered = is.registered;
+    mapped = is.mapped;
     headed = is.headed;
-    drawn = drawn.same-drawn rows _ refl refl refl is.drawn;
+    drawn = drawn.same-drawn rows _ refl refl refl refl is.drawn;
     born = subst AreBornIn (sym (process-shown b left)) (born.born-less-processes rows.processes rows.threads rows.used_processes rows.used_threads is.born (is_born_process b));
     promised = is.promised;
   }
 
 -- The room
-module _ (a b c d e g : ℕ) (w : World) (hs : List HandleRoom) where
-  pub room-less : (more : ℕ) (goes : ThreadRow → Bool) → b ≤ more → Roomy (room a b c d e g w hs) (room a more c d e g (record w { threads = without goes w.threads }) hs)
+module _ (s : ℕ) (vs : List HandleRoom) (a b c d e g : ℕ) (w : World) (hs : List HandleRoom) where
+  pub room-less : (more : ℕ) (goes : ThreadRow → Bool) → b ≤ more → Roomy (room s vs a b c d e g w hs) (room s vs a more c d e g (record w { threads = without goes w.threads }) hs)
   room-less more goes le = let fewer = count-left is_alive goes w.threads in let owed = registered-less_threads goes w.threads in record {
     for_processes = omega arith;
     for_threads = le;
@@ -142,10 +144,12 @@ module _ (a b c d e g : ℕ) (w : World) (hs : List HandleRoom) where
     for_messages = omega (arith, fewer, owed);
     for_ports = omega arith;
     for_names = omega arith;
+    for_sections = omega arith;
     for_handles = λ pid. omega arith;
+    for_views = λ pid. omega arith;
   }
 
-  pub room-vacated : (more : ℕ) (ps : List ProcessRow) → a ≤ more → Roomy (room a b c d e g w hs) (room more b c d e g (record w { processes = ps }) hs)
+  pub room-vacated : (more : ℕ) (ps : List ProcessRow) → a ≤ more → Roomy (room s vs a b c d e g w hs) (room s vs more b c d e g (record w { processes = ps }) hs)
   room-vacated more ps le = record {
     for_processes = le;
     for_threads = omega arith;
@@ -153,5 +157,7 @@ module _ (a b c d e g : ℕ) (w : World) (hs : List HandleRoom) where
     for_messages = omega arith;
     for_ports = omega arith;
     for_names = omega arith;
+    for_sections = omega arith;
     for_handles = λ pid. omega arith;
+    for_views = λ pid. omega arith;
   }

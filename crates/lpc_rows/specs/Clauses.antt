@@ -1,20 +1,23 @@
 -- Words of the world's clauses: what stands at a key, what a call leaves of the rows, and the room that it takes.
-use Rattle.std.specs.Prelude.{◌≡◌, ℕ, ◌+◌, ◌<◌, ◌≤◌, Bool, false, true, List, [], map, Option, option_map, is_some, IfErr, MatchOption, None, Some, MatchResult, Result, Ok, Err, length}
+use Rattle.std.specs.Prelude.{◌≡◌, ℕ, ◌+◌, ◌<◌, ◌≤◌, ◌==◌, ◌&&◌, Bool, false, true, not, List, [], map, Option, option_map, is_some, IfErr, MatchOption, None, Some, MatchResult, Result, Ok, Err, length, replicate, if◌then◌else◌}
 use Rattle.lpc_base.specs.declared.birth.Birth.{Birth}
-use Rattle.lpc_base.specs.declared.limits.TheConstants.{HANDLE_LIMIT}
+use Rattle.lpc_base.specs.declared.limits.TheConstants.{HANDLE_LIMIT, VIEW_LIMIT}
 use Rattle.lpc_base.specs.declared.port_kind.PortKind.{PortKind}
 use Rattle.lpc_base.specs.declared.status.Status.{Status}
 use Rattle.lpc_base.specs.Rows.{change, every, first, has, without}
+use Rattle.lpc_base.specs.Views.{least_base, passes_section, view_size}
 use Rattle.lpc_handles.specs.declared.table.Row.{Row}
-use Rattle.lpc_model.specs.Basics.{Basic, basic, AddsHandle, Enters, Joins, Makes}
+use Rattle.lpc_model.specs.Basics.{Basic, basic, AddsHandle, AddsSection, Enters, Joins, Makes, Unmaps, Writes}
 use Rattle.lpc_model.specs.Entering.{takes, takes_from}
-use Rattle.lpc_model.specs.Found.{handles_of, is_port, is_process, is_queued, is_queued_connect, is_table, is_thread, pair_of, port_row, waits_as}
+use Rattle.lpc_model.specs.Found.{handles_of, is_port, is_process, is_queued, is_queued_connect, is_table, is_thread, pair_of, port_row, section_row, view_holding, views_of, waits_as}
+use Rattle.lpc_model.specs.Memory.{bytes_at, place_in}
 use Rattle.lpc_model.specs.Message.{asks}
 use Rattle.lpc_model.specs.Tests.{handle_load, handle_row, next_birth}
 use Rattle.lpc_model.specs.World as model
 use Rattle.lpc_model.specs.World.{ObjectName, World}
 use Rattle.lpc_model.specs.declared.message.Message as whole
 use Rattle.lpc_names.specs.Binding.{Refuses}
+use Rattle.lpc_names.specs.Kept.{seen}
 use Rattle.lpc_names.specs.Walk.{Stands}
 use Rattle.lpc_names.specs.declared.fault.BindFault.{BindFault}
 use Rattle.lpc_names.specs.declared.fault.NameFault.{NameFault}
@@ -22,7 +25,11 @@ use Rattle.lpc_names.specs.declared.names.Found.TheVariants.{Directory, Item}
 use Rattle.lpc_ports.specs.declared.Creator.{Creator}
 use Rattle.lpc_ports.specs.declared.messages.Message.{Message}
 use Rattle.lpc_procs.specs.declared.rows.BornThread.{BornThread}
+use Rattle.lpc_sections.specs.Sections.{SectionRow}
 use Rattle.lpc_slots.specs.declared.Key.{Key}
+use Rattle.lpc_views.specs.declared.view.MapFault.{MapFault}
+use Rattle.lpc_views.specs.declared.view.MapFault.TheVariants.{InvalidViewSize, Quota, SectionProtection}
+use Rattle.lpc_views.specs.declared.view.View.{View}
 use Rattle.lpc_waits.specs.Table as table
 use Rattle.lpc_waits.specs.declared.Wait.{Wait}
 use Rattle.lpc_rows.specs.Bound.{with_name}
@@ -31,7 +38,7 @@ use Rattle.lpc_rows.specs.Kept.{Kept, Room, handle_room, has_queued, is_pending,
 use Rattle.lpc_rows.specs.Lawful.{is_quiet}
 use Rattle.lpc_rows.specs.Names.{name_of}
 use Rattle.lpc_rows.specs.Ready.{port_of, waiter}
-use Rattle.lpc_rows.specs.Shown.{all_pass, birth_of, name_by, object_stands, port_with, pulled_row, row_with, waiting_row, with_message}
+use Rattle.lpc_rows.specs.Shown.{all_pass, birth_of, name_by, object_stands, port_with, pulled_row, row_with, shown_view, waiting_row, with_message}
 use Rattle.lpc_rows.specs.OwedClosings.{TellsOnce, closing_places}
 use Rattle.lpc_homes.specs.declared.object.Object.{Object}
 
@@ -231,3 +238,76 @@ HasHandleRoom w pid = owed_handles w.rows pid < handle_room w.room pid
 
 abbrev pub HasHandlePlaces : Kept → ℕ → ℕ → Type 0
 HasHandlePlaces w pid more = owed_handles w.rows pid + more ≤ handle_room w.room pid
+
+-- Sections and views
+-- the row of the section at a key, and a section as it is added
+abbrev pub section_at : Kept → Key → Option model.SectionRow
+section_at w key = section_row w.rows (name_of w.births.sections key)
+
+abbrev pub with_section : Kept → SectionRow → World
+with_section w s = after w (AddsSection (record { birth = s.birth; size = length s.bytes; writable = s.writable }))
+
+-- its bytes are zeros
+abbrev pub IsBlank : SectionRow → Type 0
+IsBlank s = s.bytes ≡ replicate (length s.bytes) 0
+
+-- and the room with the place that it took
+abbrev pub and_section : Room → Room
+and_section r = record r { sections = r.sections + 1 }
+
+-- a view as the definitions have it
+abbrev pub view_shown : Kept → View Key → model.ViewRow
+view_shown w view = shown_view (birth_of w.births) view
+
+-- the view of a process that holds an address
+abbrev pub view_at : World → ℕ → ℕ → Option model.ViewRow
+view_at w pid address = view_holding w pid address 1
+
+-- a process has fewer views than it may have
+abbrev pub HasFewViews : World → ℕ → Type 0
+HasFewViews w pid = length (views_of w pid) < VIEW_LIMIT
+
+-- the base of a further view of a process: none where it has as many as may be, or none is free
+abbrev pub new_base : World → ℕ → ℕ → Option ℕ
+new_base w pid size =
+    if length (views_of w pid) == VIEW_LIMIT then None else least_base (map (λ v. (v.base, v.size)) (views_of w pid)) size
+
+-- the size of a view of a section, or why there is none
+abbrev pub size_of_view : model.SectionRow → ℕ → ℕ → Bool → Result ℕ MapFault
+size_of_view s offset size writable =
+    if writable && not s.writable then Err SectionProtection else
+    if passes_section s.size offset size then Err InvalidViewSize else
+    Ok (view_size s.size offset size)
+
+-- a view of its own that a process maps, at its base
+abbrev pub view_of_own : model.SectionRow → ℕ → Bool → ℕ → Option ℕ → Result model.ViewRow MapFault
+view_of_own s offset writable size None = Err Quota
+view_of_own s offset writable size (Some base) =
+    Ok (record { base = base; size = size; section = s.birth; offset = offset; writable = writable; owner = None })
+
+abbrev pub view_of_size : World → ℕ → model.SectionRow → ℕ → Bool → Result ℕ MapFault → Result model.ViewRow MapFault
+view_of_size w pid s offset writable (Err fault) = Err fault
+view_of_size w pid s offset writable (Ok size) = view_of_own s offset writable size (new_base w pid size)
+
+-- the new view, or the first cause why there is none: its protection, its range, then the quota
+abbrev pub mapped_view : World → ℕ → model.SectionRow → ℕ → ℕ → Bool → Result model.ViewRow MapFault
+mapped_view w pid s offset size writable = view_of_size w pid s offset writable (size_of_view s offset size writable)
+
+-- the world with these bytes at an address of a view; the same where there is no view
+abbrev pub written_through : World → ℕ → List ℕ → Option model.ViewRow → World
+written_through w address bytes None = w
+written_through w address bytes (Some v) = basic w (Writes v.section (place_in v address) bytes)
+
+-- the world without the view that was found
+abbrev pub unmapped_at : World → ℕ → Option model.ViewRow → World
+unmapped_at w pid None = w
+unmapped_at w pid (Some v) = basic w (Unmaps pid v.base)
+
+-- the bytes that a view shows at an address
+abbrev pub bytes_through : World → ℕ → ℕ → model.ViewRow → List ℕ
+bytes_through w address n v = bytes_at w.contents v address n
+
+-- a mapping answers what the definitions answer
+abbrev pub MapsAs : Kept → ℕ → Key → ℕ → ℕ → Bool → Result (View Key) MapFault → Type 0
+MapsAs w pid section offset size writable result =
+    option_map (λ s. mapped_view w.rows pid s offset size writable) (section_at w section) ≡ Some (seen (view_shown w) result)

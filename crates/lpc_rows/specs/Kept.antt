@@ -5,10 +5,10 @@ use Rattle.lpc_base.specs.Rows.{count, each, first, has}
 use Rattle.lpc_procs.specs.Procs.{most_rows}
 use Rattle.lpc_model.specs.World.{World, MessageRow, PortRow, WaitRow, ThreadRow}
 use Rattle.lpc_model.specs.Closings.{is_closed_post}
-use Rattle.lpc_model.specs.Found.{handles_of, is_client_port, is_connect, is_open, is_own_of, is_request, waits_as}
+use Rattle.lpc_model.specs.Found.{handles_of, views_of, is_client_port, is_connect, is_open, is_own_of, is_request, waits_as}
 use Rattle.lpc_model.specs.Message.{asks}
 use Rattle.lpc_model.specs.Tests.{is_connect_of}
-use Rattle.lpc_rows.specs.Capacity.{Capacity, capacity_by, grown_capacity, handle_places}
+use Rattle.lpc_rows.specs.Capacity.{Capacity, capacity_by, grown_capacity, handle_places, view_places}
 use Rattle.lpc_rows.specs.Shown.{Births, Tables, births_of, shown_by}
 use Rattle.lpc_homes.specs.declared.parts.Part.{Part}
 
@@ -64,7 +64,8 @@ open_clients w = count (is_open_client w) w.ports
 abbrev pub owed_rows : World → ℕ
 owed_rows w = open_clients w + owed_deaths w
 
--- how many more handles go into a process's table without memory, with those that its waiting connects are to get
+-- how many more handles go into a process's table without memory, with those that its waiting connects are to get; or how
+-- many more views
 pub record HandleRoom : Type 0 where
   pub process : ℕ
   pub spare : ℕ
@@ -77,7 +78,9 @@ pub record Room : Type 0 where
   pub messages : ℕ
   pub ports : ℕ
   pub names : ℕ
+  pub sections : ℕ
   pub handles : List HandleRoom
+  pub views : List HandleRoom
 
 -- the rows; the births of keys; how many directive and service calls were made; how many rows and numbers were made, with
 -- the rows that are owed; whether a row went since the last sweep that may have named an object; the room; the memory
@@ -93,6 +96,9 @@ pub record Kept : Type 0 where
 abbrev pub room_of_part : Part → HandleRoom
 room_of_part part = record { process = part.process; spare = part.handles.spare }
 
+abbrev pub view_room_of : Part → HandleRoom
+view_room_of part = record { process = part.process; spare = part.views.spare }
+
 -- the room of tables with so many places for parts left
 abbrev pub room_by : World → Tables → ℕ → Room
 room_by rows it places = record {
@@ -102,16 +108,18 @@ room_by rows it places = record {
   messages = it.ports.message_room - owed_messages rows;
   ports = it.ports.port_room;
   names = it.space.spare;
+  sections = it.sections.spare;
   handles = map room_of_part it.parts;
+  views = map view_room_of it.parts;
 }
 
 abbrev pub rows_by : Tables → World
-rows_by it = shown_by (births_of it.ports) it
+rows_by it = shown_by (births_of it) it
 
 abbrev pub kept_by : Tables → ℕ → ℕ → ℕ → Bool → Kept
 kept_by it places calls made loose = record {
   rows = rows_by it;
-  births = births_of it.ports;
+  births = births_of it;
   calls = calls;
   made = made + owed_rows (rows_by it);
   loose = loose;
@@ -142,6 +150,12 @@ grown_ports w more = grown_capacity w.capacity.ports more (length w.rows.ports)
 abbrev pub grown_handles : Kept → ℕ → ℕ → ℕ
 grown_handles w pid more = grown_capacity (handle_places w.capacity pid) (owed_handles w.rows pid + more) (length (handles_of w.rows pid))
 
+abbrev pub grown_sections : Kept → ℕ → ℕ
+grown_sections w more = grown_capacity w.capacity.sections more (length w.rows.sections)
+
+abbrev pub grown_views : Kept → ℕ → ℕ → ℕ
+grown_views w pid more = grown_capacity (view_places w.capacity pid) more (length (views_of w.rows pid))
+
 -- there is no more memory for processes and threads, those that stand and the room together
 pub record GainsNoLives (old new : Kept) : Type 0 where
   pub for_processes : new.room.processes + length new.rows.processes ≤ old.room.processes + length old.rows.processes
@@ -166,6 +180,10 @@ room_in (Some r) = r.spare
 abbrev pub handle_room : Room → ℕ → ℕ
 handle_room room pid = room_in (first (is_room pid) room.handles)
 
+-- the room in its table of views
+abbrev pub view_room : Room → ℕ → ℕ
+view_room room pid = room_in (first (is_room pid) room.views)
+
 -- no room is lost
 pub record Roomy (old new : Room) : Type 0 where
   pub for_processes : old.processes ≤ new.processes
@@ -174,11 +192,17 @@ pub record Roomy (old new : Room) : Type 0 where
   pub for_messages : old.messages ≤ new.messages
   pub for_ports : old.ports ≤ new.ports
   pub for_names : old.names ≤ new.names
+  pub for_sections : old.sections ≤ new.sections
   pub for_handles : (pid : ℕ) → handle_room old pid ≤ handle_room new pid
+  pub for_views : (pid : ℕ) → view_room old pid ≤ view_room new pid
 
 -- the tables of handles of other processes have the room that they had
 pub record KeepsOtherRoom (pid : ℕ) (old new : Room) : Type 0 where
   pub for_handles : (other : ℕ) → (other == pid) ≡ false → handle_room new other ≡ handle_room old other
+
+-- so have the tables of views
+pub record KeepsOtherViewRoom (pid : ℕ) (old new : Room) : Type 0 where
+  pub for_views : (other : ℕ) → (other == pid) ≡ false → view_room new other ≡ view_room old other
 
 -- a step was taken that leaves these rows; it made no row or number, no key came or went, and no room was lost
 pub record IsStep (left : World) (old new : Kept) : Type 0 where

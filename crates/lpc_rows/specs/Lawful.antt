@@ -10,7 +10,10 @@ use Rattle.lpc_model.specs.SingleClosings.{is_closing_of}
 use Rattle.lpc_ports.specs.Table.{PortTable, QueuedMessage}
 use Rattle.lpc_procs.specs.declared.rows.ThreadRow as procs
 use Rattle.lpc_procs.specs.declared.rows.Registration.{Registration}
+use Rattle.lpc_sections.specs.Sections.{SectionRow}
+use Rattle.lpc_slots.specs.Table.{Table}
 use Rattle.lpc_slots.specs.declared.Key.{Key}
+use Rattle.lpc_views.specs.Parts.{is_mapped}
 use Rattle.lpc_waits.specs.Table.{WaitTable}
 use Rattle.lpc_homes.specs.declared.parts.Part.{Part}
 use Rattle.lpc_rows.specs.Kept.{CALL_BUDGET, owed_messages, owed_rows, owed_waits, pends_as, rows_by}
@@ -52,7 +55,7 @@ pub record IsLawful (w : World) (calls made waits messages : ℕ) : Type 0 where
   -- so no counter reaches its end
   pub few : calls ≤ LINES_LIMIT
   pub budget : made + owed_rows w ≤ CALL_BUDGET * calls
-  pub rows : length w.processes + length w.threads + length w.ports ≤ made
+  pub rows : length w.processes + length w.threads + length w.ports + length w.sections ≤ made
   pub draws : every (draws_at_most (made + 1)) w.threads ≡ true
   -- each live thread's process stands, and each thread's has one table of handles
   pub housed : every (is_housed w) w.threads ≡ true
@@ -98,11 +101,12 @@ drew_own b t = not (t.number == b.maker) || nat_lt b.ordinal t.next_ordinal
 abbrev pub was_drawn : List UsedThread → List ThreadRow → Birth → Bool
 was_drawn used threads b = has (is_used_thread b.maker) used && every (drew_own b) threads
 
--- a port's birth was drawn by its maker, so that what is drawn next is no port's
+-- a port's birth was drawn by its maker, and so was a section's, so that what is drawn next is no port's and no section's
 pub record AreDrawn (w : World) : Type 0 where
   pub threads_single : are_single_threads w.threads ≡ true
   pub threads_noted : every (is_noted w.used_threads) w.threads ≡ true
   pub ports_drawn : every (λ p. was_drawn w.used_threads w.threads p.birth) w.ports ≡ true
+  pub sections_drawn : every (λ s. was_drawn w.used_threads w.threads s.birth) w.sections ≡ true
 
 -- no two processes have one number, and a process's number was used
 abbrev pub are_single_processes : List ProcessRow → Bool
@@ -166,14 +170,24 @@ is_under_name n r = stands n.ports r.port && same_birth (name_of n.ports r.port)
 abbrev pub has_named_ports : Births → procs.ThreadRow → Bool
 has_named_ports n t = every (is_under_name n) t.registered.items
 
+-- each view of a process shows a part of a section that stands
+abbrev pub has_mapped_views : Table SectionRow → Part → Bool
+has_mapped_views sections part = every (is_mapped sections) part.views.views
+
+-- so it is with all views, and what was inserted into the table of sections is counted
+pub record AreMappedIn (sections : Table SectionRow) (parts : List Part) (made : ℕ) : Type 0 where
+  pub sections_made : sections.made ≤ made
+  pub views_mapped : every (has_mapped_views sections) parts ≡ true
+
 -- The tables name what stands, and their rows are lawful.
 pub record AreLawful (it : Tables) (calls made : ℕ) : Type 0 where
-  pub named : AreNamed (births_of it.ports) it
+  pub named : AreNamed (births_of it) it
   pub lawful : IsLawful (rows_by it) calls made it.waits.spare it.ports.message_room
   pub counted : IsCounted it.ports it.waits made
   pub drawn : AreDrawn (rows_by it)
   pub born : AreBornIn (rows_by it)
   pub promised : IsPromised (rows_by it).waits (rows_by it).handles it.parts
-  pub registered : every (has_named_ports (births_of it.ports)) it.procs.threads ≡ true
+  pub registered : every (has_named_ports (births_of it)) it.procs.threads ≡ true
   -- a message that stands in a queue has a header
   pub headed : every has_header it.ports.messages ≡ true
+  pub mapped : AreMappedIn it.sections it.parts made

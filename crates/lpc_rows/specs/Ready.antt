@@ -1,12 +1,12 @@
 -- The caller of a call, whether it can make one, and the room for entries that it asks for.
-use Rattle.std.specs.Prelude.{◌≡◌, ℕ, ◌+◌, ◌*◌, ◌≤◌, ◌&&◌, [], Bool, true, false, Option, Some, None, is_none, is_some}
+use Rattle.std.specs.Prelude.{◌≡◌, ℕ, ◌+◌, ◌*◌, ◌≤◌, ◌&&◌, [], Bool, true, false, Option, Some, None, IsSome, is_none, is_some}
 use Rattle.lpc_base.specs.Rows.{count}
 use Rattle.lpc_base.specs.declared.birth.Birth.{Birth}
 use Rattle.lpc_base.specs.declared.port_kind.PortKind.TheVariants.{Unnamed}
 use Rattle.lpc_model.specs.declared.entry.CallName.TheVariants.{NtReplyWaitReceivePort}
 use Rattle.lpc_model.specs.Listed.{Listed}
 use Rattle.lpc_model.specs.World.{World, PortRow, Receive, ThreadRow, WaitRow}
-use Rattle.lpc_model.specs.Found.{is_listen, is_request, live_thread, no_birth, port_row, wait_of}
+use Rattle.lpc_model.specs.Found.{is_listen, is_request, live_thread, no_birth, port_row, section_row, wait_of}
 use Rattle.lpc_waits.specs.Table as table
 use Rattle.lpc_waits.specs.declared.Wait.{Wait}
 use Rattle.lpc_rows.specs.Names.{name_of, stands}
@@ -51,6 +51,7 @@ abbrev pub HasRow : Kept → Object → Type 0
 HasRow w (object.Port key) = IsStanding w key
 HasRow w (object.Process birth) = Unit
 HasRow w (object.Thread birth) = Unit
+HasRow w (object.Section key) = IsSome (section_row w.rows (name_of w.births.sections key))
 
 -- the wait of a thread that waits
 abbrev pub no_wait : WaitRow

@@ -1,8 +1,8 @@
 -- The tables' rows as the definitions' rows: births in place of keys.
-use Rattle.std.specs.Prelude.{◌≡◌, ℕ, List, [], ◌∷◌, ◌++◌, Bool, true, false, Option, Some, None, option_map, option_to_list, map}
+use Rattle.std.specs.Prelude.{◌≡◌, ℕ, List, [], ◌∷◌, ◌++◌, Bool, true, false, Option, Some, None, is_none, length, option_map, option_to_list, map}
 use Rattle.lpc_base.specs.declared.birth.Birth.{Birth}
 use Rattle.lpc_base.specs.declared.port_kind.PortKind.{PortKind}
-use Rattle.lpc_base.specs.Rows.{every}
+use Rattle.lpc_base.specs.Rows.{each, every}
 use Rattle.lpc_handles.specs.declared.table.Row.{Row}
 use Rattle.lpc_model.specs.declared.entry.CallName.{CallName}
 use Rattle.lpc_model.specs.declared.entry.CallName.TheVariants.{NtConnectPort, NtListenPort, NtReplyWaitReceivePort, NtRequestWaitReplyPort}
@@ -26,7 +26,10 @@ use Rattle.lpc_procs.specs.declared.rows.ProcessRow.{ProcessRow}
 use Rattle.lpc_procs.specs.declared.rows.Registration.{Registration}
 use Rattle.lpc_procs.specs.declared.rows.ThreadRow.{ThreadRow}
 use Rattle.lpc_procs.specs.declared.rows.UsedThread.{UsedThread}
+use Rattle.lpc_sections.specs.Sections.{SectionRow}
+use Rattle.lpc_slots.specs.Table.{Table, listed}
 use Rattle.lpc_slots.specs.declared.Key.{Key}
+use Rattle.lpc_views.specs.declared.view.View.{View}
 use Rattle.lpc_waits.specs.Table.{WaitTable}
 use Rattle.lpc_waits.specs.declared.Accepted.{Accepted}
 use Rattle.lpc_waits.specs.declared.Wait.{Wait}
@@ -42,23 +45,27 @@ use Rattle.lpc_homes.specs.declared.parts.Part.{Part}
 -- the births of keys, for each kind of object that keys name
 pub record Births : Type 0 where
   pub ports : Names
+  pub sections : Names
 
 -- the birth of an object, and whether its key stands; a process and a thread are named by their births, and have none
 abbrev pub birth_of : Births → Object → Birth
 birth_of n (object.Port key) = name_of n.ports key
 birth_of n (object.Process birth) = birth
 birth_of n (object.Thread birth) = birth
+birth_of n (object.Section key) = name_of n.sections key
 
 abbrev pub object_stands : Births → Object → Bool
 object_stands n (object.Port key) = stands n.ports key
 object_stands n (object.Process birth) = true
 object_stands n (object.Thread birth) = true
+object_stands n (object.Section key) = stands n.sections key
 
 -- the kind of an object, and its name
 abbrev pub kind_of : Object → ObjectKind
 kind_of (object.Port key) = kind.Port
 kind_of (object.Process birth) = kind.Process
 kind_of (object.Thread birth) = kind.Thread
+kind_of (object.Section key) = kind.Section
 
 abbrev pub name_by : (Object → Birth) → Object → ObjectName
 name_by f o = record { kind = kind_of o; birth = f o }
@@ -153,6 +160,33 @@ part_refs part = map (λ row. row.1.object) part.handles.rows
 abbrev pub shown_part : (Object → Birth) → Part → model.HandleTable
 shown_part f part = record { process = part.process; rows = map (shown_handle f) part.handles.rows }
 
+-- a section, and its bytes
+abbrev pub shown_section : Key × SectionRow → model.SectionRow
+shown_section row = record { birth = row.1.birth; size = length row.1.bytes; writable = row.1.writable }
+
+abbrev pub shown_content : Key × SectionRow → model.ContentRow
+shown_content row = record { section = row.1.birth; bytes = row.1.bytes }
+
+-- a view names its section, and the port that it goes with
+abbrev pub view_refs : View Key → List Object
+view_refs view = object.Section view.section ∷ ports_in view.owner
+
+abbrev pub shown_view : (Object → Birth) → View Key → model.ViewRow
+shown_view f view = record {
+  base = view.base;
+  size = view.size;
+  section = f (object.Section view.section);
+  offset = view.offset;
+  writable = view.writable;
+  owner = birth_in f view.owner;
+}
+
+abbrev pub space_refs : Part → List Object
+space_refs part = each view_refs part.views.views
+
+abbrev pub shown_space : (Object → Birth) → Part → model.ViewTable
+shown_space f part = record { process = part.process; rows = map (shown_view f) part.views.views }
+
 abbrev pub shown_process : ProcessRow → model.ProcessRow
 shown_process p = record { number = p.number; maker = p.maker; birth = p.birth }
 
@@ -194,20 +228,20 @@ abbrev pub shown_binding : (Object → Birth) → Path × Node Key → Path × N
 shown_binding f = binding_as (port_birth f)
 
 -- All rows
--- the tables: processes and threads, the handles of each process, ports with the messages in their queues, waits, and
--- the name space
+-- the tables: processes and threads, the handles and views of each process, ports with the messages in their queues,
+-- waits, the name space, and sections
 pub record Tables : Type 0 where
   pub procs : procs.Table
   pub parts : List Part
   pub ports : PortTable
   pub waits : WaitTable
   pub space : NameSpace Key
+  pub sections : Table SectionRow
 
-abbrev pub tables_of : procs.Table → List Part → PortTable → WaitTable → NameSpace Key → Tables
-tables_of procs parts ports waits space = record { procs = procs; parts = parts; ports = ports; waits = waits; space = space }
+abbrev pub tables_of : procs.Table → List Part → PortTable → WaitTable → NameSpace Key → Table SectionRow → Tables
+tables_of procs parts ports waits space sections = record { procs = procs; parts = parts; ports = ports; waits = waits; space = space; sections = sections }
 
--- What the tables stand for, under the births of keys. There is no table of sections or views yet, and no call makes one: so
--- there are none, and no bytes.
+-- what the tables stand for, under the births of keys
 abbrev pub shown_by : Births → Tables → World
 shown_by n it = record {
   processes = map shown_process it.procs.processes;
@@ -219,14 +253,20 @@ shown_by n it = record {
   messages = map (shown_message (birth_of n)) it.ports.messages;
   waits = map (shown_wait (birth_of n)) it.waits.rows;
   bindings = map (shown_binding (birth_of n)) it.space.bindings;
-  sections = [];
-  contents = model.Known [];
-  views = [];
+  sections = map shown_section (listed it.sections);
+  contents = model.Known (map shown_content (listed it.sections));
+  views = map (shown_space (birth_of n)) it.parts;
 }
 
 -- the births that the tables give their keys
-abbrev pub births_of : PortTable → Births
-births_of ports = record { ports = names_of (λ (p : Port). p.birth) ports.ports }
+abbrev pub port_names : PortTable → Names
+port_names ports = names_of (λ (p : Port). p.birth) ports.ports
+
+abbrev pub section_names : Table SectionRow → Names
+section_names sections = names_of (λ (s : SectionRow). s.birth) (listed sections)
+
+abbrev pub births_of : Tables → Births
+births_of it = record { ports = port_names it.ports; sections = section_names it.sections }
 
 -- each object that a row names passes
 abbrev pub all_pass : {R : Type 0} → (R → List Object) → (Object → Bool) → R → Bool
@@ -239,11 +279,22 @@ pub record AllPass (ok : Object → Bool) (it : Tables) : Type 0 where
   pub in_messages : every (all_pass message_refs ok) it.ports.messages ≡ true
   pub in_waits : every (all_pass wait_refs ok) it.waits.rows ≡ true
   pub in_names : every (all_pass binding_refs ok) it.space.bindings ≡ true
+  pub in_views : every (all_pass space_refs ok) it.parts ≡ true
 
--- no two objects have one key or one birth, and each object that a row names stands
+-- a view goes with no port
+abbrev pub is_free_view : View Key → Bool
+is_free_view view = is_none view.owner
+
+abbrev pub has_free_views : Part → Bool
+has_free_views part = every is_free_view part.views.views
+
+-- No two objects have one key or one birth, and each object that a row names stands. No view goes with a port: no call maps
+-- one for a connection yet.
 pub record AreNamed (n : Births) (it : Tables) : Type 0 where
   pub ports_apart : are_apart n.ports ≡ true
+  pub sections_apart : are_apart n.sections ≡ true
   pub refs : AllPass (object_stands n) it
+  pub unowned : every has_free_views it.parts ≡ true
 
 -- a message as it enters a queue, and as it is taken from one
 abbrev pub row_with : Births → Key → Key → ℕ → whole.Message → model.MessageRow

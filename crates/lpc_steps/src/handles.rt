@@ -1,14 +1,15 @@
 // Handles: what a handle of a caller's process names, and a handle that a process is given.
-ghost use Rattle.std.specs.Prelude.{◌+◌, ◌<◌, ◌≡◌, ◌≤◌, Err, IfOk, Ok, OnOk, Some, true};
+ghost use Rattle.std.specs.Prelude.{◌+◌, ◌<◌, ◌≡◌, ◌≤◌, Err, IfOk, IsSome, Ok, OnOk, Some, true};
 ghost use Rattle.lpc_base.specs.Rows.{has};
 ghost use Rattle.lpc_base.specs.declared.limits.TheConstants.{HANDLE_LIMIT};
 ghost use Rattle.lpc_model.specs.Found as found;
 ghost use Rattle.lpc_model.specs.Found.{free_handle, is_table};
 ghost use Rattle.lpc_model.specs.Tests as tests;
+ghost use Rattle.lpc_model.specs.declared.entry.ObjectKind.TheVariants.{Section};
 ghost use Rattle.lpc_steps.specs.Clauses.{IsUnderName, handle_for, object_for, port_for};
-ghost use Rattle.lpc_rows.specs.Clauses.{Answers, HasHandleRoom, HasSmallLoad, port_at, row_shown, with_handle};
+ghost use Rattle.lpc_rows.specs.Clauses.{Answers, HasHandleRoom, HasSmallLoad, port_at, row_shown, section_at, with_handle};
 ghost use Rattle.lpc_rows.specs.Kept.{CanMake, handle_room};
-ghost use Rattle.lpc_rows.specs.Names.{stands};
+ghost use Rattle.lpc_rows.specs.Names.{name_of, stands};
 ghost use Rattle.lpc_rows.specs.Ready.{HasRow, is_ready};
 ghost use Rattle.lpc_rows.specs.Shown.{birth_of, kind_of, object_stands};
 
@@ -71,6 +72,7 @@ pub fn kind_of(object: Object) -> ObjectKind
         Object::Port(_) => ObjectKind::Port,
         Object::Process(_) => ObjectKind::Process,
         Object::Thread(_) => ObjectKind::Thread,
+        Object::Section(_) => ObjectKind::Section,
     }
 }
 
@@ -82,6 +84,7 @@ fn is_of_kind(object: Object, kind: ObjectKind) -> bool
         Object::Port(_) => matches!(kind, ObjectKind::Port),
         Object::Process(_) => matches!(kind, ObjectKind::Process),
         Object::Thread(_) => matches!(kind, ObjectKind::Thread),
+        Object::Section(_) => matches!(kind, ObjectKind::Section),
     }
 }
 
@@ -95,7 +98,22 @@ pub fn port_at(world: &World, tid: u32, handle: u32) -> Result<Key, Status>
 {
     match object_at(world, tid, handle, ObjectKind::Port, 1)? {
         Object::Port(port) => Ok(port),
-        Object::Process(_) | Object::Thread(_) => unreachable!(),
+        Object::Process(_) | Object::Thread(_) | Object::Section(_) => unreachable!(),
+    }
+}
+
+/// The section that a handle of the thread's process names, with a right to it: INVALID_HANDLE where no handle has the
+/// value, OBJECT_TYPE_MISMATCH where it names no section, ACCESS_DENIED where it lacks the right.
+pub fn section_at(world: &World, tid: u32, handle: u32, right: u32) -> Result<Key, Status>
+    requires { is_ready world.now.rows tid ≡ true }
+    ensures section { Answers result (name_of world.now.births.sections)
+        (object_for world.now.rows tid Section right handle) }
+    ensures stands { IfOk result (λ key. stands world.now.births.sections key ≡ true) }
+    ensures row { IfOk result (λ key. IsSome (section_at world.now key)) }
+{
+    match object_at(world, tid, handle, ObjectKind::Section, right)? {
+        Object::Section(section) => Ok(section),
+        Object::Port(_) | Object::Process(_) | Object::Thread(_) => unreachable!(),
     }
 }
 

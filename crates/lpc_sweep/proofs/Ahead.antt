@@ -2,14 +2,14 @@
 use Rattle.std.proofs.Common.{◌≡◌, ◌≤◌, Bool, not, refl, ap, sym, subst, ◌∙◌, true, arith}
 use Rattle.std.specs.Prelude.{◌==◌}
 use Rattle.lpc_base.specs.declared.birth.Birth.{Birth}
-use Rattle.lpc_base.specs.Rows.{every}
+use Rattle.lpc_base.specs.Rows.{every, has}
 use Rattle.lpc_base.proofs.RowWords.{every-more, every-without}
 use Rattle.lpc_model.specs.World.{ObjectName, SectionRow, World}
 use Rattle.lpc_model.specs.Basics.{Frees, basic, freed, world_after}
 use Rattle.lpc_model.specs.Found.{is_section, process_name, section_name, thread_name}
 use Rattle.lpc_model.specs.Linked.{HasHeldSections}
 use Rattle.lpc_model.specs.Sweep.{is_unheld, sweep}
-use Rattle.lpc_model.proofs.Held.FreedLife.{process_first, thread_first}
+use Rattle.lpc_model.proofs.Held.FreedLife.{process_first, section_first, thread_first}
 use Rattle.lpc_model.proofs.Held.Lives.{same-section, same-thread}
 use Rattle.lpc_model.specs.declared.entry.ObjectKind.{ObjectKind}
 use Rattle.lpc_model.specs.declared.entry.ObjectKind.TheVariants as kind
@@ -67,6 +67,9 @@ module _ (u v : Kept) (b : Birth) (calls : v.calls ≡ u.calls) (made : v.made �
 
   pub process-ahead : v.rows ≡ basic u.rows (Frees (process_name b)) → is_unheld u.rows (process_name b) ≡ true → SweepsAhead u v
   process-ahead went none = ahead-by (process_name b) went none (process_first u.rows b none)
+
+  pub section-ahead : v.rows ≡ basic u.rows (Frees (section_name b)) → has (is_section b) u.rows.sections ≡ true → is_unheld u.rows (section_name b) ≡ true → SweepsAhead u v
+  section-ahead went there none = ahead-by (section_name b) went none (section_first u.rows b there none)
 
 -- threads that are held stay so where a process goes
 pub threads-held : (w : World) (b : Birth) → is_unheld w (process_name b) ≡ true → HasHeldThreads w → HasHeldThreads (basic w (Frees (process_name b)))

@@ -29,6 +29,12 @@ none-hold w o none = parts (handle_count w o) (holders w o.kind o.birth) none
     parts : (a b : ℕ) → ((a + b) == 0) ≡ true → not (b == 0) ≡ false
     parts a b is = grind (arith, nat_tests)
 
+pub none-handle : (w : World) (o : ObjectName) → is_unheld w o ≡ true → has_handles w o ≡ false
+none-handle w o none = parts (handle_count w o) (holders w o.kind o.birth) none
+  where
+    parts : (a b : ℕ) → ((a + b) == 0) ≡ true → not (a == 0) ≡ false
+    parts a b is = grind (arith, nat_tests)
+
 held-by : (w : World) (o : ObjectName) → not (is_unheld w o) ≡ (has_holders w o || has_handles w o)
 held-by w o = sums (handle_count w o) (holders w o.kind o.birth)
 

@@ -11,8 +11,9 @@ use Rattle.lpc_ports.specs.Table.{PortTable}
 use Rattle.lpc_ports.specs.declared.Port.{Port}
 use Rattle.lpc_slots.proofs.Walk.{drop_row}
 use Rattle.lpc_slots.specs.declared.Key.{Key}
-use Rattle.lpc_rows.specs.Names.{are_apart, name_of, stands}
-use Rattle.lpc_rows.specs.Shown.{Births, birth_of, births_of, shown_port}
+use Rattle.lpc_rows.specs.Names.{Names, are_apart, name_of, names_of, stands}
+use Rattle.lpc_rows.specs.Shown.{port_names, shown_port}
+use Rattle.lpc_homes.specs.declared.object.Object.{Object}
 use Rattle.lpc_rows.proofs.Follows.{is_own, own_birth, rows_own}
 
 -- The port at a place
@@ -26,13 +27,13 @@ mapped_at g [] place = refl
 mapped_at g (x ∷ xs) zero = refl
 mapped_at g (x ∷ xs) (suc place) = mapped_at g xs place
 
-module _ (ports : PortTable) (apart : are_apart (births_of ports).ports ≡ true) where
-  abbrev n : Births
-  n = births_of ports
+module _ (ports : PortTable) (apart : are_apart (port_names ports) ≡ true) (f : Object → Birth) where
+  abbrev n : Names
+  n = port_names ports
 
   pub record IsAt (place : ℕ) (key : Key) : Type 0 where
-    pub there : stands n.ports key ≡ true
-    pub birth : option_map (λ (p : PortRow). p.birth) (slice_get (map (shown_port (birth_of n)) ports.ports) place) ≡ Some (name_of n.ports key)
+    pub there : stands n key ≡ true
+    pub birth : option_map (λ (p : PortRow). p.birth) (slice_get (map (shown_port f) ports.ports) place) ≡ Some (name_of n key)
 
   pub at_place : (place : ℕ) (key : Key) → option_map (λ (row : Key × Port). row.0) (slice_get ports.ports place) ≡ Some key → IsAt place key
   at_place place key at = by_row (slice_get ports.ports place) refl at
@@ -43,9 +44,20 @@ module _ (ports : PortTable) (apart : are_apart (births_of ports).ports ≡ true
           let ok = every_at (is_own (λ (r : Port). r.birth) ports.ports) ports.ports place row (rows_own (λ (r : Port). r.birth) ports.ports apart) here in
           let key_is : row.0 ≡ key = same_Some row.0 key at in
           record {
-            there = subst (λ k. stands n.ports k ≡ true) key_is (grind arith);
-            birth = rw (mapped_at (shown_port (birth_of n)) ports.ports place, here) (ap Some (sym (own_birth (λ (r : Port). r.birth) ports.ports row ok) ∙ ap (name_of n.ports) key_is));
+            there = subst (λ k. stands n k ≡ true) key_is (grind arith);
+            birth = rw (mapped_at (shown_port f) ports.ports place, here) (ap Some (sym (own_birth (λ (r : Port). r.birth) ports.ports row ok) ∙ ap (name_of n) key_is));
           }
+
+-- A row at a place, among rows under their keys
+module _ {R : Type 0} (birth : R → Birth) (rows : List (Key × R)) (apart : are_apart (names_of birth rows) ≡ true) (place : ℕ) (row : Key × R) (here : slice_get rows place ≡ Some row) where
+  own : is_own birth rows row ≡ true
+  own = every_at (is_own birth rows) rows place row (rows_own birth rows apart) here
+
+  pub its_key : stands (names_of birth rows) row.0 ≡ true
+  its_key = let ok = own in grind (arith, ok)
+
+  pub its_name : birth row.1 ≡ name_of (names_of birth rows) row.0
+  its_name = sym (own_birth birth rows row own)
 
 -- Rows held so far
 module _ {X : Type 0} (birth : X → Birth) (held : Birth → Bool) where

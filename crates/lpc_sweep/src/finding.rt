@@ -1,14 +1,14 @@
 // The oldest row of each kind that no row counts for.
 ghost use Rattle.std.specs.Prelude.{◌≡◌, ◌<◌, true, IfNone, IfSome, Some, length, not};
 ghost use Rattle.lpc_base.specs.Rows.{has};
-ghost use Rattle.lpc_model.specs.Found.{is_born_process, is_born_thread, process_name, thread_name};
-ghost use Rattle.lpc_model.specs.Linked.{HasHeldPorts};
+ghost use Rattle.lpc_model.specs.Found.{is_born_process, is_born_thread, is_section, process_name, section_name, thread_name};
+ghost use Rattle.lpc_model.specs.Linked.{HasHeldPorts, HasHeldSections};
 ghost use Rattle.lpc_model.specs.Sweep.{is_unheld};
-ghost use Rattle.lpc_sweep.specs.Clauses.{birth_in_place, has_port, is_unheld_at, oldest_port, oldest_process, oldest_thread, process_in_place, thread_in_place};
+ghost use Rattle.lpc_sweep.specs.Clauses.{birth_in_place, has_port, is_unheld_at, oldest_port, oldest_process, oldest_section, oldest_thread, process_in_place, section_in_place, some_section, thread_in_place};
 ghost use Rattle.lpc_sweep.specs.Sweeping.{CanSweep, HasHeldProcesses, HasHeldThreads};
 ghost use Rattle.lpc_rows.specs.Clauses.{birth_at, name_at, some_birth};
 ghost use Rattle.lpc_rows.specs.Held.{has_holders};
-ghost use Rattle.lpc_rows.specs.Names.{stands};
+ghost use Rattle.lpc_rows.specs.Names.{name_of, stands};
 ghost use Rattle.lpc_rows.specs.Shown.{object_stands};
 
 use lpc_base::Birth;
@@ -62,13 +62,14 @@ pub fn unheld_port(world: &World) -> Option<Key>
     None
 }
 
-/// A process or thread has a handle, or is held by a live thread. No handle is asked for where one lives.
-fn is_life_held(world: &World, object: Object, live: bool) -> bool
+/// An object that isn't a port has a handle, or is held otherwise: a process or thread by a live thread, a section by a
+/// view. No handle is asked for where it is held so.
+fn is_object_held(world: &World, object: Object, held: bool) -> bool
     requires stands { object_stands world.now.births object ≡ true }
-    requires live { live ≡ has_holders world.now.rows (name_at world.now object) }
+    requires held { held ≡ has_holders world.now.rows (name_at world.now object) }
     ensures { result ≡ not (is_unheld world.now.rows (name_at world.now object)) }
 {
-    live || world.has_handles(object)
+    held || world.has_handles(object)
 }
 
 /// How many threads have a row.
@@ -97,7 +98,7 @@ pub fn unheld_thread(world: &World) -> Option<Birth>
 {
     for place in 0..thread_count(world) {
         let thread = thread_life(world, place);
-        if !is_life_held(world, Object::Thread(thread.birth), thread.live) {
+        if !is_object_held(world, Object::Thread(thread.birth), thread.live) {
             return Some(thread.birth);
         }
     }
@@ -130,8 +131,45 @@ pub fn unheld_process(world: &World) -> Option<Birth>
 {
     for place in 0..process_count(world) {
         let process = process_life(world, place);
-        if !is_life_held(world, Object::Process(process.birth), process.live) {
+        if !is_object_held(world, Object::Process(process.birth), process.live) {
             return Some(process.birth);
+        }
+    }
+    None
+}
+
+/// How many sections there are.
+pub fn section_count(world: &World) -> usize
+    ensures { result ≡ length world.now.rows.sections }
+{
+    world.sections().count()
+}
+
+/// The section at a place, in the order of making.
+fn section_key(world: &World, place: usize) -> Key
+    requires { place < length world.now.rows.sections }
+    ensures stands { stands world.now.births.sections result ≡ true }
+    ensures birth { section_in_place world.now place
+        ≡ Some (name_of world.now.births.sections result) }
+{
+    let (key, _) = world.sections().row(place);
+    key
+}
+
+/// The oldest section that no row holds: None exactly where each section is held.
+pub fn unheld_section(world: &World) -> Option<Key>
+    ensures none { IfNone result (HasHeldSections world.now.rows) }
+    ensures oldest { some_section world.now result ≡ oldest_section world.now.rows }
+    ensures stands { IfSome result (λ key. stands world.now.births.sections key ≡ true) }
+    ensures row { IfSome result (λ key.
+        has (is_section (name_of world.now.births.sections key)) world.now.rows.sections ≡ true) }
+    ensures unheld { IfSome result (λ key.
+        is_unheld world.now.rows (section_name (name_of world.now.births.sections key)) ≡ true) }
+{
+    for place in 0..section_count(world) {
+        let section = section_key(world, place);
+        if !is_object_held(world, Object::Section(section), world.is_shown(section)) {
+            return Some(section);
         }
     }
     None

@@ -11,7 +11,8 @@ ghost use Rattle.lpc_rows.specs.Kept.{GainsNoLives, Roomy};
 ghost use Rattle.lpc_rows.specs.Shown.{object_stands};
 
 use crate::finding::{
-    port_count, process_count, thread_count, unheld_port, unheld_process, unheld_thread,
+    port_count, process_count, section_count, thread_count, unheld_port, unheld_process,
+    unheld_section, unheld_thread,
 };
 use lpc_world::{Object, World};
 
@@ -32,6 +33,22 @@ fn free(world: &mut World, object: Object)
         Object::Port(port) => world.ports_free(port),
         Object::Process(birth) => world.processes_free(birth),
         Object::Thread(birth) => world.threads_free(birth),
+        Object::Section(section) => world.sections_free(section),
+    }
+}
+
+/// While there is a section that no row counts for, it goes.
+fn free_sections(world: &mut World)
+    requires can { CanSweep world.old.rows }
+    ensures ahead { SweepsAhead world.old world.new }
+    ensures held { HasHeldSections world.new.rows }
+{
+    for freed in 0..section_count(world) {
+        let _ = freed;
+        match unheld_section(world) {
+            Some(section) => free(world, Object::Section(section)),
+            None => return,
+        }
     }
 }
 
@@ -88,8 +105,8 @@ fn free_ports(world: &mut World)
     }
 }
 
-/// Each object goes that no row counts for, and then each that only those counted for: the threads that have ended,
-/// the processes without a live thread, and ports. There is nothing to do where no row went since the last time.
+/// Each object goes that no row counts for, and then each that only those counted for: sections, the threads that have
+/// ended, the processes without a live thread, and ports. There is nothing to do where no row went since the last time.
 pub fn sweep(world: &mut World)
     requires can { CanSweep world.old.rows }
     requires still { world.old.loose ≡ false → model.unheld world.old.rows ≡ [] }
@@ -102,7 +119,7 @@ pub fn sweep(world: &mut World)
     ensures lives { GainsNoLives world.old world.new }
 {
     if world.is_loose() {
-        world.law_no_sections();
+        free_sections(world);
         free_threads(world);
         free_processes(world);
         free_ports(world);

@@ -9,7 +9,7 @@ ghost use Rattle.std.specs.Prelude.{◌≡◌, ◌∷◌, ◌++◌, ◌+◌, ◌
 ghost use Rattle.lpc_base.specs.Room.{grown_room};
 ghost use Rattle.lpc_base.specs.Rows.{has};
 ghost use Rattle.lpc_model.specs.World.{no_rows};
-ghost use Rattle.lpc_model.specs.Found.{free_handle, handles_of, is_live_thread, is_process, is_table, is_thread, port_row, was_process, was_thread, waits_as, is_born_process, is_born_thread};
+ghost use Rattle.lpc_model.specs.Found.{free_handle, handles_of, is_live_thread, is_process, is_table, is_thread, port_row, section_row, was_process, was_thread, waits_as, is_born_process, is_born_thread};
 ghost use Rattle.lpc_model.specs.Basics.{AddsProcess, AddsThread, Awaits, DrawsIdentifier, DrawsOrdinal, Receives, Takes, Withdraws};
 ghost use Rattle.lpc_model.specs.Machine.{new_process, new_thread};
 ghost use Rattle.lpc_model.specs.Message.{message_of};
@@ -34,6 +34,8 @@ mod lending;
 mod lives;
 mod names;
 mod reading;
+mod sections;
+mod views;
 
 use lpc_base::{Birth, OutOfMemory, PortKind, reserve_rows};
 use lpc_handles::{Table, TableFault};
@@ -42,12 +44,15 @@ use lpc_homes::parts::{self, Part};
 use lpc_names::Names;
 use lpc_ports::{Creator, Message, Ports};
 use lpc_procs::Procs;
-use lpc_slots::Key;
+use lpc_sections::Section;
+use lpc_slots::{Key, Slots};
+use lpc_views::Space;
 use lpc_waits::{Wait, Waits};
 use std::alloc::Global;
 use std::marker::Model;
 
-/// The world: processes and threads, the handles of each process, ports with the messages in their queues, and waits.
+/// The world: processes and threads, the handles and views of each process, ports with the messages in their queues,
+/// waits, and sections.
 ///
 /// Contracts see the rows of the definitions, in which an object is named by its birth, the births of keys, how many
 /// directive and service calls were made, and how many more rows go in without memory.
@@ -57,6 +62,7 @@ pub struct World {
     ports: Ports,
     waits: Waits,
     names: Names<Key>,
+    sections: Slots<Section>,
     calls: u32,
     made: u32,
     loose: bool,
@@ -71,9 +77,9 @@ impl Model for World {
 
     ghost Value = { Kept };
 
-    ghost view = { λ w. kept_by (tables_of w.procs w.parts.items w.ports w.waits w.names) (vec_capacity w.parts - vec_len w.parts) w.calls w.made w.loose };
+    ghost view = { λ w. kept_by (tables_of w.procs w.parts.items w.ports w.waits w.names w.sections) (vec_capacity w.parts - vec_len w.parts) w.calls w.made w.loose };
 
-    ghost invariant = { λ w. AreLawful (tables_of w.procs w.parts.items w.ports w.waits w.names) w.calls w.made };
+    ghost invariant = { λ w. AreLawful (tables_of w.procs w.parts.items w.ports w.waits w.names w.sections) w.calls w.made };
 }
 
 // Written out, so that a proof about what holds a world lets it go in one step, and not table by table.
@@ -85,6 +91,7 @@ impl Drop for World {
             ports: _,
             waits: _,
             names: _,
+            sections: _,
             calls: _,
             made: _,
             loose: _,
@@ -98,6 +105,7 @@ impl World {
     pub fn empty(alloc: Global) -> World
         ensures rows { result.rows ≡ no_rows }
         ensures births { result.births.ports ≡ [] }
+        ensures sections { result.births.sections ≡ [] }
         ensures calls { result.calls ≡ 0 }
         ensures made { result.made ≡ 0 }
         ensures loose { result.loose ≡ false }
@@ -109,6 +117,7 @@ impl World {
             ports: Ports::new(alloc),
             waits: Waits::new(alloc),
             names: Names::new(alloc),
+            sections: Slots::new(alloc),
             calls: 0,
             made: 0,
             loose: false,
@@ -160,6 +169,7 @@ impl World {
         ensures birth { birth_next self.old.rows tid ≡ Some result }
         ensures maker { (result.maker == 0) ≡ false }
         ensures fresh { port_row self.new.rows result ≡ None }
+        ensures section { section_row self.new.rows result ≡ None }
         ensures process { has (is_born_process result) self.new.rows.processes ≡ false }
         ensures thread { has (is_born_thread result) self.new.rows.threads ≡ false }
         ensures drawn { has (drew result) self.new.rows.threads ≡ true }
@@ -171,8 +181,8 @@ impl World {
         self.procs.draw_birth(tid)
     }
 
-    /// Adds a process, without threads and handles. Its number is from 1 to 2,147,483,647 and was never used. Its birth
-    /// is that of a directive with this number, or a thread has drawn it and no process has it.
+    /// Adds a process, without threads, handles and views. Its number is from 1 to 2,147,483,647 and was never used. Its
+    /// birth is that of a directive with this number, or a thread has drawn it and no process has it.
     pub fn procs_add_process(&mut self, pid: u32, maker: Option<u32>, birth: Birth)
         requires room { 0 < self.old.room.processes }
         requires budget { CanMake self.old }
@@ -189,13 +199,17 @@ impl World {
         ensures made { self.new.made ≡ self.old.made + 1 }
         ensures room { Roomy self.old.room (and_process self.new.room) }
         ensures capacity { let old = self.old.capacity in
-            self.new.capacity ≡ record old { handles = old.handles ++ no_places pid ∷ [] } }
+            self.new.capacity ≡ record old {
+              handles = old.handles ++ no_places pid ∷ [];
+              views = old.views ++ no_places pid ∷ [];
+            } }
     {
         self.made += 1;
         self.procs.add_process(pid, maker, birth);
         self.parts.push_reserved(Part {
             process: pid,
             handles: Table::new(self.alloc),
+            views: Space::new(self.alloc),
         });
     }
 
@@ -246,6 +260,7 @@ impl World {
         ensures name { name_of self.new.births.ports result ≡ birth }
         ensures stands { stands self.new.births.ports result ≡ true }
         ensures others { KeepsNames self.old.births.ports self.new.births.ports }
+        ensures sections { self.new.births.sections ≡ self.old.births.sections }
         ensures calls { self.new.calls ≡ self.old.calls }
         ensures loose { self.new.loose ≡ self.old.loose }
         ensures made { self.new.made ≡ self.old.made + 1 }

@@ -1,7 +1,8 @@
 // What goes when a handle is closed, and what is counted of its object.
 ghost use Rattle.std.specs.Prelude.{◌≡◌, ◌+◌, ◌*◌, ◌≤◌, true};
 ghost use Rattle.lpc_base.specs.Rows.{count, has};
-ghost use Rattle.lpc_model.specs.Basics.{Cuts, DropsHandle, DropsViewsOf, Empties, Unbinds};
+ghost use Rattle.lpc_base.specs.declared.limits.TheConstants.{VIEW_LIMIT};
+ghost use Rattle.lpc_model.specs.Basics.{Cuts, DropsHandle, Empties, Unbinds};
 ghost use Rattle.lpc_model.specs.Found.{all_registrations, handle_count, holders, is_table, pointer_count, same_birth};
 ghost use Rattle.lpc_model.specs.declared.entry.ObjectKind.TheVariants as kind;
 ghost use Rattle.lpc_rows.specs.Closing.{HasMutualPairs};
@@ -69,16 +70,6 @@ impl World {
         parts::close_handle(&mut self.parts, pid, value);
     }
 
-    /// All views of a process go. There is no table of views yet, and no call maps one, so none stands.
-    pub fn views_drop(&mut self, pid: u32)
-        ensures step { IsStep (after self.old (DropsViewsOf pid)) self.old self.new }
-        ensures loose { self.new.loose ≡ true }
-        ensures capacity { self.new.capacity ≡ self.old.capacity }
-    {
-        let _ = pid;
-        self.loose = true;
-    }
-
     /// A handle names an object.
     pub fn has_handles(&self, object: Object) -> bool
         requires { object_stands self.now.births object ≡ true }
@@ -108,12 +99,13 @@ impl World {
         requires { object_stands self.now.births object ≡ true }
         ensures holders { let o = name_at self.now object in
             result ≡ holders self.now.rows o.kind o.birth }
-        ensures few { result ≤ 5 * self.now.made }
+        ensures few { result ≤ VIEW_LIMIT * self.now.made }
     {
         match object {
             Object::Port(port) => self.holders_of_port(port),
             Object::Process(birth) => self.procs.lives_of_process(birth),
             Object::Thread(birth) => self.procs.lives_of_thread(birth),
+            Object::Section(section) => self.views_of_section(section),
         }
     }
 

@@ -1,5 +1,5 @@
 // What names a port in the tables, and the rows that go. The sweep, which stands above, lets them go.
-ghost use Rattle.std.specs.Prelude.{◌≡◌, ◌+◌, ◌≤◌, true, false, []};
+ghost use Rattle.std.specs.Prelude.{◌≡◌, ◌+◌, ◌≤◌, true, false};
 ghost use Rattle.lpc_model.specs.Basics.{Frees};
 ghost use Rattle.lpc_model.specs.Found.{port_name, process_name, thread_name};
 ghost use Rattle.lpc_rows.specs.Held as held;
@@ -61,14 +61,6 @@ impl World {
         self.loose = false;
     }
 
-    /// No section stands: there is no table of them yet, and no call makes one.
-    pub fn law_no_sections(&self)
-        ensures { self.now.rows.sections ≡ [] }
-    {
-        // What a world is known to be is known once one of its tables is looked at.
-        let _ = &self.procs;
-    }
-
     /// The row of a thread that has ended goes.
     pub fn threads_free(&mut self, birth: Birth)
         requires ended { has_holders self.old.rows (thread_name birth) ≡ false }
@@ -114,6 +106,7 @@ impl World {
         ensures rows { self.new.rows
             ≡ after self.old (Frees (port_name (birth_at self.old port))) }
         ensures others { KeepsOthers port self.old.births.ports self.new.births.ports }
+        ensures sections { self.new.births.sections ≡ self.old.births.sections }
         ensures calls { self.new.calls ≡ self.old.calls }
         ensures made { self.new.made ≤ self.old.made }
         ensures counted { self.new.made + owed_rows self.old.rows

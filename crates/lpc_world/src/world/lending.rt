@@ -7,8 +7,9 @@ ghost use Rattle.lpc_model.specs.Tests.{handle_load};
 ghost use Rattle.lpc_rows.specs.Kept.{CALL_BUDGET, OwnPend};
 ghost use Rattle.lpc_rows.specs.Lawful.{AreBornIn, are_single};
 ghost use Rattle.lpc_rows.specs.Names.{are_apart};
-ghost use Rattle.lpc_rows.specs.Shown.{births_of, shown_binding, shown_handle, shown_message, shown_port, shown_process, shown_thread, shown_used, shown_wait, wait_refs};
+ghost use Rattle.lpc_rows.specs.Shown.{port_names, section_names, shown_binding, shown_handle, shown_message, shown_port, shown_process, shown_section, shown_thread, shown_used, shown_wait, wait_refs};
 ghost use Rattle.lpc_rows.specs.Clauses.{all_stand, shown_in};
+ghost use Rattle.lpc_slots.specs.Table.{listed};
 
 use crate::world::World;
 use lpc_handles::Table;
@@ -16,7 +17,8 @@ use lpc_homes::{Object, parts};
 use lpc_names::Names;
 use lpc_ports::Ports;
 use lpc_procs::Procs;
-use lpc_slots::Key;
+use lpc_sections::Section;
+use lpc_slots::{Key, Slots};
 use lpc_waits::Waits;
 
 impl World {
@@ -35,13 +37,22 @@ impl World {
 
     /// Ports, and the messages in their queues.
     pub fn ports(&self) -> &Ports
-        ensures births { self.now.births ≡ births_of result.now }
+        ensures births { self.now.births.ports ≡ port_names result.now }
         ensures apart { are_apart self.now.births.ports ≡ true }
         ensures ports { self.now.rows.ports ≡ shown_in self.now shown_port result.now.ports }
         ensures messages { self.now.rows.messages
             ≡ shown_in self.now shown_message result.now.messages }
     {
         &self.ports
+    }
+
+    /// Sections, with their bytes.
+    pub fn sections(&self) -> &Slots<Section>
+        ensures births { self.now.births.sections ≡ section_names result.now }
+        ensures apart { are_apart self.now.births.sections ≡ true }
+        ensures sections { self.now.rows.sections ≡ map shown_section (listed result.now) }
+    {
+        &self.sections
     }
 
     /// The waits of threads.

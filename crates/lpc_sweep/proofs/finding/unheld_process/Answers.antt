@@ -10,8 +10,8 @@ pub loop-place-preserved : goal.loop-place-preserved
 loop-place-preserved c =
     let w = c.args.world.now.rows in
     let b = c.process_life-process.result.birth in
-    let held : not (is_unheld w (process_name b)) ≡ true = grind (arith, c.is_life_held.ensures, c.if-not-is_life_held.false) in
-    let off : is_unheld w (process_name b) ≡ false = grind (arith, c.is_life_held.ensures, c.if-not-is_life_held.false) in (
+    let held : not (is_unheld w (process_name b)) ≡ true = grind (arith, c.is_object_held.ensures, c.if-not-is_object_held.false) in
+    let off : is_unheld w (process_name b) ≡ false = grind (arith, c.is_object_held.ensures, c.if-not-is_object_held.false) in (
       sym (held_on (λ (x : ProcessRow). x.birth) (λ d. not (is_unheld w (process_name d))) w.processes c.loop-place.place b c.process_life-process.ensures.birth held) ∙ c.loop-place.invariant.0,
       sym (passed_on (λ (x : ProcessRow). x.birth) (λ d. is_unheld w (process_name d)) w.processes c.loop-place.place b c.process_life-process.ensures.birth off) ∙ c.loop-place.invariant.1,
     )
@@ -22,8 +22,8 @@ returns-clause-none c =
     sym c.loop-place.invariant.0
     ∙ ap (every (λ x. not (is_unheld w (process_name x.birth)))) (drop_all w.processes c.loop-place.place (omega (arith, c.loop-place-test.false, c.process_count-place-end.ensures)))
 
-pub returns-then-not-is_life_held-clause-row : goal.returns-then-not-is_life_held-clause-row
-returns-then-not-is_life_held-clause-row c = row_at_place (λ (x : ProcessRow). x.birth) c.args.world.now.rows.processes c.loop-place.place c.process_life-process.result.birth c.process_life-process.ensures.birth
+pub returns-then-not-is_object_held-clause-row : goal.returns-then-not-is_object_held-clause-row
+returns-then-not-is_object_held-clause-row c = row_at_place (λ (x : ProcessRow). x.birth) c.args.world.now.rows.processes c.loop-place.place c.process_life-process.result.birth c.process_life-process.ensures.birth
 
 pub returns-clause-oldest : goal.returns-clause-oldest
 returns-clause-oldest c =
@@ -32,9 +32,9 @@ returns-clause-oldest c =
     let passed = drop_all w.processes c.loop-place.place (omega (arith, c.loop-place-test.false, c.process_count-place-end.ensures)) in
     sym (ap (option_map (λ (x : ProcessRow). x.birth)) (sym c.loop-place.invariant.1 ∙ ap (first test) passed))
 
-pub returns-then-not-is_life_held-clause-oldest : goal.returns-then-not-is_life_held-clause-oldest
-returns-then-not-is_life_held-clause-oldest c =
+pub returns-then-not-is_object_held-clause-oldest : goal.returns-then-not-is_object_held-clause-oldest
+returns-then-not-is_object_held-clause-oldest c =
     let w = c.args.world.now.rows in
     let b = c.process_life-process.result.birth in
-    let on : is_unheld w (process_name b) ≡ true = grind (arith, c.is_life_held.ensures, c.if-not-is_life_held.true) in
+    let on : is_unheld w (process_name b) ≡ true = grind (arith, c.is_object_held.ensures, c.if-not-is_object_held.true) in
     sym (ap (option_map (λ (x : ProcessRow). x.birth)) (sym c.loop-place.invariant.1) ∙ found_at (λ (x : ProcessRow). x.birth) (λ d. is_unheld w (process_name d)) w.processes c.loop-place.place b c.process_life-process.ensures.birth on)

@@ -1,6 +1,7 @@
-use Rattle.lpc_model.specs.Found.{process_name, thread_name}
+use Rattle.lpc_model.specs.Found.{process_name, section_name, thread_name}
 use Rattle.lpc_rows.specs.Clauses.{birth_at}
-use Rattle.lpc_sweep.proofs.HeldLives.{none-hold}
+use Rattle.lpc_rows.specs.Names.{name_of}
+use Rattle.lpc_sweep.proofs.HeldLives.{none-handle, none-hold}
 use Rattle.lpc_sweep.proofs.HeldPorts.{free_port}
 use Rattle.lpc_sweep.proofs.freeing.free.Goals as goal
 
@@ -13,3 +14,11 @@ processes_free-requires c = record { empty = none-hold c.args.world.now.rows (pr
 
 pub threads_free-requires : goal.threads_free-requires
 threads_free-requires c = record { ended = none-hold c.args.world.now.rows (thread_name c.in-Thread.birth) (rw c.in-Thread.is at c.requires.unheld) }
+
+pub sections_free-requires-clause-handles : goal.sections_free-requires-clause-handles
+sections_free-requires-clause-handles c =
+    none-handle c.args.world.now.rows (section_name (name_of c.args.world.now.births.sections c.in-Section.section)) (rw c.in-Section.is at c.requires.unheld)
+
+pub sections_free-requires-clause-views : goal.sections_free-requires-clause-views
+sections_free-requires-clause-views c =
+    none-hold c.args.world.now.rows (section_name (name_of c.args.world.now.births.sections c.in-Section.section)) (rw c.in-Section.is at c.requires.unheld)

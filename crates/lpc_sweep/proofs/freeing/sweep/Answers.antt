@@ -6,4 +6,4 @@ pub returns-else-is_loose-clause-rows : goal.returns-else-is_loose-clause-rows
 returns-else-is_loose-clause-rows c = sym (swept_none_world _ (c.requires.still (sym c.is_loose.ensures ∙ c.if-is_loose.false)))
 
 pub free_ports-requires-clause-sections : goal.free_ports-requires-clause-sections
-free_ports-requires-clause-sections c = c.free_processes.ensures.ahead.sections (c.free_threads.ensures.ahead.sections (rw c.law_no_sections.ensures refl))
+free_ports-requires-clause-sections c = c.free_processes.ensures.ahead.sections (c.free_threads.ensures.ahead.sections c.free_sections.ensures.held)

@@ -5,11 +5,11 @@ use Rattle.lpc_rows.proofs.Connecting as connecting
 use Rattle.lpc_world.proofs.world.World.reply_bytes.Goals as goal
 
 pub accepted-requires : goal.accepted-requires
-accepted-requires c = record { waits = connecting.has_its_row (tables_of c.self.inside.procs c.self.inside.parts.items c.self.inside.ports c.self.inside.waits c.self.inside.names) c.self.invariant.named c.args.tid (rw (← c.self.view_is) at c.requires.waits) }
+accepted-requires c = record { waits = connecting.has_its_row (tables_of c.self.inside.procs c.self.inside.parts.items c.self.inside.ports c.self.inside.waits c.self.inside.names c.self.inside.sections) c.self.invariant.named c.args.tid (rw (← c.self.view_is) at c.requires.waits) }
 
 pub unreachable-requires : goal.unreachable-requires
-unreachable-requires c = connecting.no_reply (tables_of c.self.inside.procs c.self.inside.parts.items c.self.inside.ports c.self.inside.waits c.self.inside.names) c.self.invariant.named c.args.tid (c.accepted.ensures.value ∙ ap (λ o. Some (option_copied o)) c.in-None.is) (rw (← c.self.view_is) at c.requires.accepted)
+unreachable-requires c = connecting.no_reply (tables_of c.self.inside.procs c.self.inside.parts.items c.self.inside.ports c.self.inside.waits c.self.inside.names c.self.inside.sections) c.self.invariant.named c.args.tid (c.accepted.ensures.value ∙ ap (λ o. Some (option_copied o)) c.in-None.is) (rw (← c.self.view_is) at c.requires.accepted)
 
 pub returns : goal.returns
 returns c =
-    rw (← c.self.view_is) (c.held.ensures ∙ c.as_slice.ensures.value ∙ connecting.reply_is (tables_of c.self.inside.procs c.self.inside.parts.items c.self.inside.ports c.self.inside.waits c.self.inside.names) c.self.invariant.named c.args.tid c.in-Some.accepted.now (c.accepted.ensures.value ∙ ap (λ o. Some (option_copied o)) c.in-Some.is) (rw (← c.self.view_is) at c.requires.accepted))
+    rw (← c.self.view_is) (c.held.ensures ∙ c.as_slice.ensures.value ∙ connecting.reply_is (tables_of c.self.inside.procs c.self.inside.parts.items c.self.inside.ports c.self.inside.waits c.self.inside.names c.self.inside.sections) c.self.invariant.named c.args.tid c.in-Some.accepted.now (c.accepted.ensures.value ∙ ap (λ o. Some (option_copied o)) c.in-Some.is) (rw (← c.self.view_is) at c.requires.accepted))

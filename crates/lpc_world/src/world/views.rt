@@ -1,0 +1,174 @@
+// The views of each process, and the bytes that they show.
+ghost use Rattle.std.specs.Prelude.{◌≡◌, ◌+◌, ◌%◌, ◌^◌, ◌<◌, ◌≤◌, ◌↔◌, true, None, Some, IfOk, IsErr, OnErr, OnOk, length, option_map};
+ghost use Rattle.lpc_base.specs.Room.{grown_room};
+ghost use Rattle.lpc_base.specs.Rows.{has, passes};
+ghost use Rattle.lpc_base.specs.declared.limits.TheConstants.{PAGE_SIZE, VIEW_LIMIT};
+ghost use Rattle.lpc_model.specs.Basics.{DropsViewsOf, Maps};
+ghost use Rattle.lpc_model.specs.Found.{is_table, view_holding, views_of};
+ghost use Rattle.lpc_rows.specs.Capacity.{KeepsOtherViewPlaces, view_places};
+ghost use Rattle.lpc_rows.specs.Kept.{IsStep, KeepsOtherViewRoom, Roomy, Same, grown_views, view_room};
+ghost use Rattle.lpc_rows.specs.Names.{stands};
+ghost use Rattle.lpc_rows.specs.Clauses.{Finds, HasFewViews, MapsAs, after, bytes_through, unmapped_at, view_at, view_shown, written_through};
+
+use crate::world::World;
+use lpc_base::OutOfMemory;
+use lpc_homes::views;
+use lpc_slots::Key;
+use lpc_views::{Fault, MapFault, View};
+
+impl World {
+    /// Makes room for so many further views of a process.
+    ///
+    /// OutOfMemory comes only where that room wasn't there; nothing has changed then but the room.
+    pub fn views_reserve(&mut self, pid: u32, more: usize) -> Result<(), OutOfMemory>
+        requires { has (is_table pid) self.old.rows.handles ≡ true }
+        ensures same { Same self.old self.new }
+        ensures room { Roomy self.old.room self.new.room }
+        ensures views { OnOk result (more ≤ view_room self.new.room pid) }
+        ensures wanting { OnErr result (view_room self.old.room pid < more) }
+        ensures most { let rows = length (views_of self.old.rows pid) in
+            view_room self.new.room pid ≤ grown_room (view_room self.old.room pid) more rows }
+        ensures others { let new = self.new.room in
+            new ≡ record self.old.room { views = new.views } }
+        ensures other_views { KeepsOtherViewRoom pid self.old.room self.new.room }
+        ensures capacity { let new = self.new.capacity in
+            new ≡ record self.old.capacity { views = new.views } }
+        ensures asked { view_places self.new.capacity pid ≤ grown_views self.old pid more }
+        ensures enough { more ≤ view_room self.old.room pid →
+            view_places self.new.capacity pid ≡ view_places self.old.capacity pid }
+        ensures other_places { KeepsOtherViewPlaces pid self.old.capacity self.new.capacity }
+    {
+        views::reserve_views(&mut self.parts, pid, more)
+    }
+
+    /// The view that `views_map` would map for a process, or its fault; nothing is mapped. The offset is a multiple of
+    /// 4096.
+    pub fn view_for(
+        &self,
+        pid: u32,
+        section: Key,
+        offset: u32,
+        size: u32,
+        writable: bool,
+    ) -> Result<View<Key>, MapFault>
+        requires table { has (is_table pid) self.now.rows.handles ≡ true }
+        requires section { stands self.now.births.sections section ≡ true }
+        requires aligned { offset % PAGE_SIZE ≡ 0 }
+        ensures few { length (views_of self.now.rows pid) ≤ VIEW_LIMIT }
+        ensures answer { MapsAs self.now pid section offset size writable result }
+    {
+        let views = views::views_of(&self.parts, pid);
+        views.view_for(&self.sections, section, offset, size, writable, None)
+    }
+
+    /// Maps a part of a section for a process by itself, at the least free base: the view goes with no port. The offset
+    /// is a multiple of 4096. Unless the process has 128 views, there is room that `views_reserve` made. The faults are
+    /// those of [`Space::map`](lpc_views::Space::map); then nothing changes.
+    pub fn views_map(
+        &mut self,
+        pid: u32,
+        section: Key,
+        offset: u32,
+        size: u32,
+        writable: bool,
+    ) -> Result<View<Key>, MapFault>
+        requires table { has (is_table pid) self.old.rows.handles ≡ true }
+        requires section { stands self.old.births.sections section ≡ true }
+        requires aligned { offset % PAGE_SIZE ≡ 0 }
+        requires room { HasFewViews self.old.rows pid → 0 < view_room self.old.room pid }
+        ensures answer { MapsAs self.old pid section offset size writable result }
+        ensures rows { IfOk result
+            (λ view. self.new.rows ≡ after self.old (Maps pid (view_shown self.old view))) }
+        ensures births { self.new.births ≡ self.old.births }
+        ensures calls { self.new.calls ≡ self.old.calls }
+        ensures loose { self.new.loose ≡ self.old.loose }
+        ensures made { self.new.made ≡ self.old.made }
+        ensures same { OnErr result (self.new ≡ self.old) }
+        ensures places { view_room self.old.room pid ≤ view_room self.new.room pid + 1 }
+        ensures others { let new = self.new.room in
+            new ≡ record self.old.room { views = new.views } }
+        ensures other_views { KeepsOtherViewRoom pid self.old.room self.new.room }
+        ensures capacity { self.new.capacity ≡ self.old.capacity }
+    {
+        views::map_view(
+            &mut self.parts,
+            pid,
+            &self.sections,
+            section,
+            offset,
+            size,
+            writable,
+            None,
+        )
+    }
+
+    /// Takes the view of a process that holds an address away, and answers it; None exactly where none does, and then
+    /// nothing changes but that a sweep is due.
+    pub fn views_unmap(&mut self, pid: u32, address: u32) -> Option<View<Key>>
+        requires table { has (is_table pid) self.old.rows.handles ≡ true }
+        ensures view { Finds result (view_shown self.old) (view_at self.old.rows pid address) }
+        ensures step { let left = unmapped_at self.old.rows pid (view_at self.old.rows pid address) in
+            IsStep left self.old self.new }
+        ensures loose { self.new.loose ≡ true }
+        ensures capacity { self.new.capacity ≡ self.old.capacity }
+    {
+        self.loose = true;
+        views::unmap_view(&mut self.parts, pid, address)
+    }
+
+    /// All views of a process go.
+    pub fn views_drop(&mut self, pid: u32)
+        requires table { has (is_table pid) self.old.rows.handles ≡ true }
+        ensures step { IsStep (after self.old (DropsViewsOf pid)) self.old self.new }
+        ensures loose { self.new.loose ≡ true }
+        ensures capacity { self.new.capacity ≡ self.old.capacity }
+    {
+        self.loose = true;
+        views::drop_views(&mut self.parts, pid);
+    }
+
+    /// The view of a process that holds an address; None exactly where none does.
+    pub fn view_at(&self, pid: u32, address: u32) -> Option<View<Key>>
+        requires table { has (is_table pid) self.now.rows.handles ≡ true }
+        ensures view { Finds result (view_shown self.now) (view_at self.now.rows pid address) }
+    {
+        views::views_of(&self.parts, pid).view_at(address)
+    }
+
+    /// The bytes at a range of addresses of a process: Fault exactly where no one view holds the whole range. They are
+    /// the section's own.
+    pub fn view_bytes(&self, pid: u32, address: u32, len: u32) -> Result<&[u8], Fault>
+        requires table { has (is_table pid) self.now.rows.handles ≡ true }
+        ensures bytes { let view = view_holding self.now.rows pid address len in
+            IfOk result (λ bytes. option_map (bytes_through self.now.rows address len) view
+            ≡ Some bytes.now) }
+        ensures len { IfOk result (λ bytes. length bytes.now ≡ len) }
+        ensures fault { IsErr result ↔ (view_holding self.now.rows pid address len ≡ None) }
+    {
+        views::views_of(&self.parts, pid).slice(&self.sections, address, len)
+    }
+
+    /// One view of a process holds the whole range of addresses, and it may be written.
+    pub fn is_writable(&self, pid: u32, address: u32, len: u32) -> bool
+        requires table { has (is_table pid) self.now.rows.handles ≡ true }
+        ensures writable { let view = view_holding self.now.rows pid address len in
+            result ≡ passes view (λ v. v.writable) }
+    {
+        views::views_of(&self.parts, pid).is_writable(address, len)
+    }
+
+    /// Writes bytes at a range of addresses of a process, which one view holds that may be written. No other byte
+    /// changes.
+    pub fn views_write(&mut self, pid: u32, address: u32, bytes: &[u8])
+        requires table { has (is_table pid) self.old.rows.handles ≡ true }
+        requires few { length bytes.now < 2 ^ 32 }
+        requires writable { let view = view_holding self.old.rows pid address (length bytes.now) in
+            passes view (λ v. v.writable) ≡ true }
+        ensures step { let view = view_holding self.old.rows pid address (length bytes.now) in
+            IsStep (written_through self.old.rows address bytes.now view) self.old self.new }
+        ensures loose { self.new.loose ≡ self.old.loose }
+        ensures capacity { self.new.capacity ≡ self.old.capacity }
+    {
+        views::views_of(&self.parts, pid).write(&mut self.sections, address, bytes);
+    }
+}
