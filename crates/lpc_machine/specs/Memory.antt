@@ -4,14 +4,16 @@ use Rattle.lpc_connect.specs.Room.{lacks_connect_room, lacks_port_room, lacks_ro
 use Rattle.lpc_closing.specs.Calls.{lacks_handle_room}
 use Rattle.lpc_death.specs.Room.{lacks_child_room, lacks_member_room}
 use Rattle.lpc_model.specs.World.{World}
+use Rattle.lpc_ranges.specs.Calls.{lacks_view_room}
 use Rattle.lpc_request.specs.Called.{was_registered}
 use Rattle.lpc_model.specs.Machine.{boot_line, dir_line, link_line, service_of, thread_line}
 use Rattle.lpc_rows.specs.Kept.{Kept, lacks_name_room, lacks_process_room, lacks_thread_room}
 use Rattle.lpc_rows.specs.Ready.{caller, is_ready}
-use Rattle.lpc_model.specs.Lines.{ScriptCall, ScriptLine, boot, thread, dir, link, run, accept_connect_port, connect_port, create_port, create_process, create_thread, duplicate_object, register_thread_terminate_port, request_port}
+use Rattle.lpc_model.specs.Lines.{ScriptCall, ScriptLine, boot, thread, dir, link, run, accept_connect_port, connect_port, create_port, create_process, create_section, create_thread, duplicate_object, map_view_of_section, register_thread_terminate_port, request_port}
 
--- the calls whose step may take memory: they make a port, a process, a thread, a further handle, a message that no
--- thread waits with, or a place for one that is to tell of a thread's end; a refusal of a connect makes none of these
+-- the calls whose step may take memory: they make a port, a process, a thread, a section, a view, a further handle, a
+-- message that no thread waits with, or a place for one that is to tell of a thread's end; a refusal of a connect makes
+-- none of these
 abbrev pub call_takes_memory : ScriptCall → Bool
 call_takes_memory (create_port name) = true
 call_takes_memory (connect_port name info) = true
@@ -21,6 +23,8 @@ call_takes_memory (register_thread_terminate_port handle) = true
 call_takes_memory (duplicate_object handle access) = true
 call_takes_memory (create_process pid tid) = true
 call_takes_memory (create_thread target tid) = true
+call_takes_memory (create_section size prot) = true
+call_takes_memory (map_view_of_section handle offset size prot) = true
 call_takes_memory call = false
 
 -- the lines whose step may take memory; every other step always answers
@@ -58,8 +62,8 @@ Halts w (run tid call) = is_ready w tid ≡ true → IsErr (service_of w (caller
 -- There is no room for what a thread's call makes: a port with its handle, and its name; a client port with its handle
 -- and the message that is to tell that it is closed; a server port with its handle; a message that no thread waits
 -- with; of a port that isn't registered yet, the message that is to tell of a thread's end; a further handle; a process
--- with its first thread and a handle to each; a thread with a handle. What the other calls need was reserved when their
--- threads were made.
+-- with its first thread and a handle to each; a thread with a handle; a view. The bytes of a section are new memory, so for
+-- these there never is room. What the other calls need was reserved when their threads were made.
 abbrev pub lacks_call_room : Kept → ℕ → ScriptCall → Bool
 lacks_call_room w tid (create_port name) = lacks_room_for w (caller w.rows tid) name
 lacks_call_room w tid (connect_port name info) = lacks_connect_room w (caller w.rows tid)
@@ -70,6 +74,8 @@ lacks_call_room w tid (register_thread_terminate_port handle) =
 lacks_call_room w tid (duplicate_object handle access) = lacks_handle_room w (caller w.rows tid)
 lacks_call_room w tid (create_process pid new) = lacks_child_room w (caller w.rows tid)
 lacks_call_room w tid (create_thread target new) = lacks_member_room w (caller w.rows tid)
+lacks_call_room w tid (create_section size prot) = true
+lacks_call_room w tid (map_view_of_section handle offset size prot) = lacks_view_room w (caller w.rows tid)
 lacks_call_room w tid call = false
 
 -- there is no room for what a line makes

@@ -38,6 +38,10 @@ use lpc_connect::{
 use lpc_death::{nt_create_process, nt_create_thread, nt_terminate_process, nt_terminate_thread};
 use lpc_directives::{boot, directory, link, thread};
 use lpc_model::{Call, Entries, Entry, Line, Outcome, Word};
+use lpc_ranges::{
+    nt_create_section, nt_map_view_of_section, nt_read_virtual_memory, nt_unmap_view_of_section,
+    nt_write_virtual_memory,
+};
 use lpc_request::{
     nt_register_thread_terminate_port, nt_reply_port, nt_reply_wait_receive_port, nt_request_port,
     nt_request_wait_reply_port,
@@ -90,6 +94,7 @@ fn serve(
     requires can { CanClose world.old.rows }
     requires ends { CanEnd world.old.rows }
     requires ids { has_call_ids (call_of call.now) ≡ true }
+    requires unread { out.old.reads ≡ false }
     ensures serves { MayServe by (call_of call.now) result world.old world.new out.old out.new }
     ensures wanting { OnErr result (lacks_call_room world.old by (call_of call.now) ≡ true) }
     ensures free { call_takes_memory (call_of call.now) ≡ false → IsOk result }
@@ -144,6 +149,24 @@ fn serve(
         Call::TerminateProcess { process, code } => {
             Ok(nt_terminate_process(world, by, *process, *code, out))
         }
+        Call::CreateSection { size, protection } => {
+            nt_create_section(world, by, *size, *protection, out)
+        }
+        Call::MapViewOfSection {
+            handle,
+            offset,
+            size,
+            protection,
+        } => nt_map_view_of_section(world, by, *handle, *offset, *size, *protection, out),
+        Call::UnmapViewOfSection { address } => {
+            Ok(nt_unmap_view_of_section(world, by, *address, out))
+        }
+        Call::ReadVirtualMemory { address, length } => {
+            Ok(nt_read_virtual_memory(world, by, *address, *length, out))
+        }
+        Call::WriteVirtualMemory { address, bytes } => {
+            Ok(nt_write_virtual_memory(world, by, *address, bytes, out))
+        }
     }
 }
 
@@ -154,6 +177,7 @@ fn run(world: &mut World, tid: u32, call: &Call<'_>, out: &mut Entries) -> Resul
     requires calls { world.old.calls < LINES_LIMIT }
     requires settled { IsSettled world.old }
     requires ids { has_call_ids (call_of call.now) ≡ true }
+    requires unread { out.old.reads ≡ false }
     ensures takes { let t = live_thread world.old.rows tid in
         let steps = thread_steps tid (call_of call.now) t world.old.rows in
         OnOk result (Took steps world.old world.new out.old out.new) }
@@ -195,6 +219,7 @@ fn run(world: &mut World, tid: u32, call: &Call<'_>, out: &mut Entries) -> Resul
 #[tactic(auto, unfolding(lpc_model::specs::Machine::bare_steps), using(crate::proofs::Asked::ports_within, crate::proofs::Asked::messages_within, crate::proofs::Asked::waits_within, crate::proofs::Asked::processes_within, crate::proofs::Asked::threads_within, crate::proofs::Asked::places_by_one, crate::proofs::Asked::places_by_two, crate::proofs::Asked::places_kept, crate::proofs::Asked::places_same))]
 fn take(world: &mut World, line: &Line<'_>, out: &mut Entries) -> Result<(), OutOfMemory>
     requires empty { out.old.list ≡ [] }
+    requires unread { out.old.reads ≡ false }
     requires room { HasRoom world.old out.old }
     requires few { world.old.calls < LINES_LIMIT }
     requires ids { has_ids (line_of line.now) ≡ true }
@@ -278,7 +303,7 @@ impl Machine {
         room_needed(&self.world)
     }
 
-    /// How many objects there are: processes, threads and ports.
+    /// How many objects there are: sections, processes, threads and ports.
     pub fn objects(&self) -> usize
         ensures { result ≡ found.objects self.now.rows }
     {
@@ -292,7 +317,7 @@ impl Machine {
     /// A line that is refused, or that no thread can run, leaves every row as it was. After want of memory nothing has
     /// changed but the room. Only directives, `NtCreatePort`, `NtConnectPort`,
     /// `NtAcceptConnectPort` to accept, `NtRequestPort`, `NtRegisterThreadTerminatePort`, `NtDuplicateObject`,
-    /// `NtCreateProcess` and `NtCreateThread` take memory, only where they aren't refused, and they want for it only
+    /// `NtCreateProcess`, `NtCreateThread`, `NtCreateSection` and `NtMapViewOfSection` take memory, only where they aren't refused, and they want for it only
     /// where the room for what they make wasn't there; every other line is answered. Of ports, messages and waits no
     /// line leaves more memory than there was, than the rows before it need with one more and what was owed, or than
     /// twice these rows do; how far that of processes, threads and handles may grow is said of each call alone, and of
@@ -300,6 +325,7 @@ impl Machine {
     /// not.
     pub fn step(&mut self, line: &Line<'_>, out: &mut Entries) -> Result<(), OutOfMemory>
         requires empty { out.old.list ≡ [] }
+        requires unread { out.old.reads ≡ false }
         requires room { HasRoom self.old out.old }
         requires few { self.old.calls < LINES_LIMIT }
         requires ids { has_ids (line_of line.now) ≡ true }

@@ -40,11 +40,10 @@ pub fn room_needed(world: &World) -> usize
     3 * world.procs().alive() + 1
 }
 
-/// How many objects there are: processes, threads and ports.
+/// How many objects there are: sections, processes, threads and ports.
 pub fn objects(world: &World) -> usize
     ensures { result ≡ found.objects world.now.rows }
 {
-    world.law_no_sections();
     let procs = world.procs();
-    procs.processes() + procs.threads() + world.ports().count()
+    world.sections().count() + procs.processes() + procs.threads() + world.ports().count()
 }

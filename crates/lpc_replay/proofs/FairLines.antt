@@ -5,7 +5,7 @@ use Rattle.lpc_base.specs.declared.status.Status.{Status}
 use Rattle.lpc_model.specs.Basics.{Tells}
 use Rattle.lpc_model.specs.Connect.{nt_connect_port}
 use Rattle.lpc_model.specs.Found.{live_thread, wait_of}
-use Rattle.lpc_model.specs.Lines.{ScriptCall, ScriptLine, accept_connect_port, boot, close, complete_connect_port, connect_port, create_port, create_process, create_thread, dir, duplicate_object, link, listen_port, query_object, register_thread_terminate_port, reply_port, reply_wait_receive_port, request_port, request_wait_reply_port, run, terminate_process, terminate_thread, thread}
+use Rattle.lpc_model.specs.Lines.{ScriptCall, ScriptLine, accept_connect_port, boot, close, complete_connect_port, connect_port, create_port, create_process, create_thread, dir, duplicate_object, link, listen_port, query_object, register_thread_terminate_port, reply_port, reply_wait_receive_port, request_port, request_wait_reply_port, run, terminate_process, terminate_thread, thread, create_section, map_view_of_section, read_virtual_memory, unmap_view_of_section, write_virtual_memory}
 use Rattle.lpc_model.specs.Machine.{bare_steps, boot_line, dir_line, link_line, name_of_call, ready_steps, service_of, steps, thread_line, thread_steps}
 use Rattle.lpc_model.specs.Request.{nt_request_wait_reply_port}
 use Rattle.lpc_model.specs.World.{ThreadRow, WaitRow, World}
@@ -26,6 +26,7 @@ use Rattle.lpc_replay.proofs.FairCreate.{create_fair}
 use Rattle.lpc_replay.proofs.FairDatagram.{datagram_fair}
 use Rattle.lpc_replay.proofs.FairDirectives.{boot_fair, dir_fair, further_fair, link_fair}
 use Rattle.lpc_replay.proofs.FairListen.{listen_fair}
+use Rattle.lpc_replay.proofs.FairMemories.{create_section_fair, map_fair, read_fair, unmap_fair, write_fair}
 use Rattle.lpc_replay.proofs.FairReceive.{receiving_fair}
 use Rattle.lpc_replay.proofs.FairRegister.{register_fair}
 use Rattle.lpc_replay.proofs.FairReply.{reply_fair}
@@ -51,6 +52,11 @@ service_fair w tid by (create_process pid new) are live safe h = create_process_
 service_fair w tid by (create_thread target new) are live safe h = create_thread_fair w _ by target new
 service_fair w tid by (terminate_thread target code) are live safe h = terminate_thread_fair w tid by target code live safe h
 service_fair w tid by (terminate_process target code) are live safe h = terminate_process_fair w tid by target code live safe h
+service_fair w tid by (create_section size prot) are live safe h = create_section_fair w _ by size prot
+service_fair w tid by (map_view_of_section handle offset size prot) are live safe h = map_fair w _ by handle offset size prot
+service_fair w tid by (unmap_view_of_section address) are live safe h = unmap_fair w _ by address
+service_fair w tid by (read_virtual_memory address n) are live safe h = read_fair w _ by address n
+service_fair w tid by (write_virtual_memory address new) are live safe h = write_fair w _ by address new
 
 -- a call that is refused
 refused_fair : (w : World) (line : ScriptLine) (by : ThreadRow) (name : ScriptCall) (s : Status) → service_of w by name ≡ Err s → IsFair w line (Tells (entry.Answer by.number (name_of_call name) s []))
@@ -71,6 +77,11 @@ refused_fair w line by (create_process pid new) s is = (tt, tt)
 refused_fair w line by (create_thread target new) s is = (tt, tt)
 refused_fair w line by (terminate_thread target code) s is = (tt, tt)
 refused_fair w line by (terminate_process target code) s is = (tt, tt)
+refused_fair w line by (create_section size prot) s is = (tt, tt)
+refused_fair w line by (map_view_of_section handle offset size prot) s is = (tt, tt)
+refused_fair w line by (unmap_view_of_section address) s is = (tt, tt)
+refused_fair w line by (read_virtual_memory address n) s is = (tt, tt)
+refused_fair w line by (write_virtual_memory address new) s is = (tt, tt)
 
 -- the lines
 ready_fair : (w : World) (tid : ℕ) (by : ThreadRow) (name : ScriptCall) (o : Option WaitRow) → HasBytes name → live_thread w tid ≡ Some by → IsSafe w → HaveTheirCalls w → AreFair w (run tid name) (ready_steps by name o w)

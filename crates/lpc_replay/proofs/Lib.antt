@@ -19,6 +19,7 @@ pub mod FairDying
 pub mod OnlyHandles
 pub mod FairTerminate
 pub mod FairRegister
+pub mod FairMemories
 pub mod FairLines
 pub mod Waiting
 pub mod Returning
