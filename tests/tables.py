@@ -32,7 +32,7 @@ SERVICES = (pages.DOCS / "SERVICES.md").read_text(encoding="utf-8")
 STATUS = re.compile(r"\b[0-9A-F]{8}\b")
 CODE = re.compile(r"`([^`]*)`")
 # How many there are: who adds one changes the number.
-STATUS_COUNT, SHARED_COUNT, CALL_COUNT, DIRECTIVE_COUNT, LIMIT_COUNT = 18, 5, 17, 4, 6
+STATUS_COUNT, SHARED_COUNT, CALL_COUNT, DIRECTIVE_COUNT, LIMIT_COUNT = 26, 5, 22, 4, 9
 WORKED_ROWS = {"README.md": 8, "docs/CONNECTIONS.md": 30}
 CLAIM_COUNT = 54
 NAMED_IN = {"ARCHITECTURE.md": 700, "DECISIONS.md": 150, "DEFINITIONS.md": 1_300, "ISOLATION.md": 200, "PROOFS.md": 400}
@@ -117,6 +117,9 @@ def sentences():
     links = int(re.search(r"^  walk_if bindings \(Ok path\) = walk_by (\d+) bindings path$", names, re.M)[1])
     threads, children = limit["THREAD_LIMIT"], limit["CHILD_LIMIT"]
     datagrams, ports = limit["DATAGRAM_LIMIT"], limit["REGISTRATION_LIMIT"]
+    views, memory, page = limit["VIEW_LIMIT"], limit["MEMORY_LIMIT"], limit["PAGE_SIZE"]
+    lowest, apart, end = (limit[it] for it in ("LOWEST_USER_ADDRESS", "ALLOCATION_GRANULARITY", "USER_ADDRESS_END"))
+    sections = f"{limit['SECTION_LIMIT'] // 2**20} MiB"
     line, lines = limit["LINE_LIMIT"], limit["LINES_LIMIT"]
     data = message - header
     services = [
@@ -141,6 +144,19 @@ def sentences():
         f"| C0000044 | the caller's process has {children} live children |",
         f"| C0000044 | the process has {threads} live threads |",
         f"a wait, the {datagrams} datagrams",
+        f"| {sections} of a section, and of all sections of a process |",
+        f"| {views} views of a process |",
+        f"| {memory} bytes of one read or write |",
+        f"whole pages of {page} bytes, which are zeros at first",
+        f"the least multiple of {apart}, from {lowest:08X}, where it meets no other view of its process and ends at or "
+        f"below {end:08X}.",
+        f"up to the next multiple of {apart} nothing is mapped.",
+        f"| C0000040 | SIZE is above {sections} |",
+        f"process made would have more than {sections} together,",
+        f"| C0000220 | OFFSET is no multiple of {page} |",
+        f"| C0000044 | the process has {views} views, or no place is left for the view |",
+        f"| C000000D | LEN is 0, or above {memory} |",
+        f"| C000000D | HEX has more than {memory} bytes |",
         f"There are at least {header} bytes.",
         f"MessageSize is at least DataSize + {header}.",
         f"The table begins at {header} or later,",
@@ -154,6 +170,7 @@ def sentences():
         f"| 9 | the line has a byte {line + 1:,} | |",
         f"| 10 | a line {lines + 1:,}: a byte of it,",
         f"| decimal: {message} |",
+        f"the bytes that were read, {memory} at most |",
     ]
     faults = [
         f"A line has more than {line:,} bytes,",
@@ -165,6 +182,10 @@ def sentences():
     profile = [
         f"all limits: {handles} handles of a process, {datagrams} datagrams of a port, {message} bytes of a message, "
         f"{data} of a connect's INFO, {threads} live threads and {children} live children of a process, {ports} ",
+        f"{sections} of a section and of all sections that a process made, {views} views of a process, {memory} bytes "
+        f"of one read or write of memory,",
+        f"a view's offset is a multiple of {page},",
+        f"a read or a write is of 1 to {memory} bytes,",
         f"a closed port counts among the {ports} |",
         f"A message's limit is {message} bytes for each port.",
     ]

@@ -2,11 +2,9 @@
 
 CALLS = {
     "NtCallbackReturn",
-    "NtCreateSection",
     "NtCreateWaitablePort",
     "NtImpersonateClientOfPort",
     "NtImpersonateThread",
-    "NtMapViewOfSection",
     "NtOpenProcess",
     "NtOpenProcessToken",
     "NtOpenThread",
@@ -14,15 +12,12 @@ CALLS = {
     "NtQueryInformationPort",
     "NtQueryInformationToken",
     "NtReadRequestData",
-    "NtReadVirtualMemory",
     "NtReplyWaitReceivePortEx",
     "NtReplyWaitReplyPort",
     "NtSecureConnectPort",
     "NtSetInformationProcess",
     "NtSetInformationThread",
-    "NtUnmapViewOfSection",
     "NtWriteRequestData",
-    "NtWriteVirtualMemory",
     "raise",
 }
 DIRECTIVES = {"resident", "rule", "tick", "token", "turn", "version"}

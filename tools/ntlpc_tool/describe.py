@@ -7,6 +7,8 @@ ROW = 16
 # The data of a message that tells of an end: a birth, which is a maker and a number.
 BIRTH = struct.Struct("<II")
 USE_RIGHT = 1
+# The rights of a handle to a section, by what they let a view be.
+MAP_RIGHTS = {2: "to be written", 4: "to be read alone"}
 LATIN = 0x100
 # The fields that show a number: what the number is.
 NUMBERS = {
@@ -14,6 +16,7 @@ NUMBERS = {
     "thread": "handle of its thread",
     "id": "identifier",
     "max": "longest message",
+    "size": "size",
     "handles": "handles",
     "pointers": "rows that count",
 }
@@ -76,16 +79,25 @@ def of_field(found, name, value):
     """A field of an entry in words."""
     if name == "msg":
         return of_message(found.message())
-    if name == "info":
-        return of_data(bytes.fromhex(value), "info")
+    if name in ("info", "data"):
+        return of_data(bytes.fromhex(value), name)
+    if name == "base":
+        return [_row("first address", value)]
     if name == "ctx":
         return [_row("context", f"{value} ({int(value, 16)})")]
     if name == "access":
-        use = "with" if int(value, 16) & USE_RIGHT else "without"
-        return [_row("access", f"{value}, {use} the right to use the {found.field('type') or 'object'}")]
+        return [_row("access", f"{value}, {_rights(int(value, 16), found.field('type') or 'object')}")]
     if name == "type":
         return [_row("kind of object", value)]
     return [_row(NUMBERS[name], f"{value} bytes with its header" if name == "max" else value)]
+
+
+def _rights(access, kind):
+    """Which of the rights that calls want a handle grants."""
+    if kind == "section":
+        granted = [name for right, name in MAP_RIGHTS.items() if access & right]
+        return f"with the right to map views {' and '.join(granted)}" if granted else "without a right to map views"
+    return f"{'with' if access & USE_RIGHT else 'without'} the right to use the {kind}"
 
 
 def of_message(found):

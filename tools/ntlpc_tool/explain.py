@@ -169,11 +169,11 @@ class Explanation:
         last = self.form[-1].strip("[]") if self.form else ""
         if last in ("NAME", "PATH", "TARGET") and not told:
             told.append("a name can't have a space")
-        if last in ("MSG", "INFO"):
+        if last in ("MSG", "INFO", "HEX"):
             begin = placing.spans_of(self.line)[self.place.word - 1][1]
             if self.probe.kind(self.line[:begin] + "".join(extra).encode()) is None:
                 joined = self.words[self.place.word - 1] + "".join(extra)
-                told.append(f"the digits of a message have no space between them: {joined}")
+                told.append(f"the digits of bytes have no space between them: {joined}")
         if self.words[0] == "boot" and not told:
             told.append("a token of boot isn't built yet")
         return told
@@ -229,10 +229,10 @@ class Explanation:
     def text_meant(self):
         """What the digits are where text stands in their place."""
         word = self.words[self.place.word]
-        front, _, text = word.rpartition(":")
+        front, colon, text = word.rpartition(":")
         if len(re.sub("[0-9A-Fa-f]", "", text)) < 2:
             return []
-        spelled = f"{front}:{text.encode().hex()}"
+        spelled = f"{front}{colon}{text.encode().hex()}"
         whole = placing.Place(*placing.spans_of(self.line)[self.place.word], self.place.word)
         return self.tried(spelled.encode(), whole, front="if text is meant, each of its bytes is two digits: ")
 

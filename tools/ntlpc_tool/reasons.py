@@ -24,6 +24,7 @@ PATH = (
 QUOTA = (("c0000044", "the process has 256 handles, its threads that wait in a connect counted among them"),)
 CLOSED = "c0000037"
 NO_HANDLE, NO_RIGHT = HANDLE[0], ("c0000022", "ACCESS has a bit that the handle's own access lacks")
+PROTECTION = ("c0000045", "the protection is neither 2, to be read alone, nor 4, to be written too")
 NO_WAY = (CLOSED, "the pair of the port is cut or was never made, or the port to which the message would go isn't open")
 
 REFUSALS = {
@@ -107,6 +108,32 @@ REFUSALS = {
         ("c0000022", "the handle doesn't grant the right to end the process"),
         ("c000000b", "the process has ended"),
     ),
+    "NtCreateSection": (
+        PROTECTION,
+        ("c00000f2", "the size is 0"),
+        ("c0000040", "the size is above 4 MiB"),
+        ("c0000044", "the sections that the caller's process made would have more than 4 MiB together"),
+        *QUOTA,
+    ),
+    "NtMapViewOfSection": (
+        NO_HANDLE,
+        ("c0000024", "the handle is one to something that is no section"),
+        ("c0000022", "the handle doesn't grant the right: 2 where the protection is 4, and 4 where it is another"),
+        ("c0000220", "the offset is no multiple of 4096"),
+        PROTECTION,
+        ("c000004e", "the view is to be written, and the section is one to be read alone"),
+        ("c000001f", "the view would pass the section's end, or begin there"),
+        ("c0000044", "the process has 128 views, or no place is left for the view"),
+    ),
+    "NtUnmapViewOfSection": (("c0000019", "no view of the caller's process holds the address"),),
+    "NtReadVirtualMemory": (
+        ("c000000d", "the length is 0, or above 4096"),
+        ("c0000005", "no one view of the caller's process holds all bytes of the range"),
+    ),
+    "NtWriteVirtualMemory": (
+        ("c000000d", "there are more than 4096 bytes"),
+        ("c0000005", "no one view of the caller's process holds all bytes of the range, or it is one to be read alone"),
+    ),
     "NtClose": (NO_HANDLE,),
     "NtDuplicateObject": (NO_HANDLE, NO_RIGHT, *QUOTA),
     "NtQueryObject": (NO_HANDLE,),
@@ -120,6 +147,7 @@ TAKERS = f"{SERVICES}, Who takes a message"
 FITS = f"{SERVICES}, What fits a reply"
 CLOSING = f"{SERVICES}, Closing a port"
 TOLD = f"{SERVICES}, Port closed"
+VIEWS = f"{SERVICES}, Sections and views"
 ENDING = f"{SERVICES}, Threads and processes that end"
 DIED = f"{SERVICES}, Client died"
 TRANSCRIPT = f"{SCRIPTS}, The transcript"
@@ -257,21 +285,35 @@ RULES = {
         "`info` is the data of the message that accepted or refused the connect, and empty where a closing ended it.",
         of_call("NtConnectPort"),
     ),
+    ("NtMapViewOfSection", "base"): (
+        "A view lies at the least multiple of 65536, from 00010000, where it meets no other view of its process.",
+        VIEWS,
+    ),
+    ("NtMapViewOfSection", "size"): (
+        "`size` is the size of the view in whole pages of 4096 bytes; size 0 asks for the rest of the section.",
+        of_call("NtMapViewOfSection"),
+    ),
+    ("NtReadVirtualMemory", "data"): (
+        "A section holds zeros at first, and then what was written last, through whichever view; a view shows it from "
+        "its offset on.",
+        VIEWS,
+    ),
     ("NtQueryObject", "type"): (
-        "`type` is the kind of object that the handle names: `port`, `process` or `thread`.",
+        "`type` is the kind of object that the handle names: `port`, `section`, `process` or `thread`.",
         of_call("NtQueryObject"),
     ),
     ("NtQueryObject", "access"): (
-        "`access` is what this very handle grants: 001f0001 for a new port's, 00000001 for that of a new process or "
-        "thread, and for a duplicate's the ACCESS that was given, or for `same` what the other handle grants.",
+        "`access` is what this very handle grants: 001f0001 for a new port's, 000f001f for a new section's, 00000001 "
+        "for that of a new process or thread, and for a duplicate's the ACCESS that was given, or for `same` what the "
+        "other handle grants.",
         of_call("NtQueryObject"),
     ),
     ("NtQueryObject", "handles"): ("`handles` is how many handles name the object.", of_call("NtQueryObject")),
     ("NtQueryObject", "pointers"): (
         "`pointers` counts the handles to the object. For a port it also counts the ports whose other end it is, the "
         "client and server ports whose connection port it is, the queued messages that were sent on it, the waits that "
-        "were made on it, and the live threads that registered it; for a process its live threads; for a thread one "
-        "while it lives.",
+        "were made on it, and the live threads that registered it; for a section the views that show it; for a process "
+        "its live threads; for a thread one while it lives.",
         of_call("NtQueryObject"),
     ),
     # Messages.
@@ -307,7 +349,8 @@ RULES = {
     ("*", "which bytes"): (_SENT, WRITTEN),
     ("*", "which closing"): (
         "The data of a client port's end are 8 bytes, low bytes first: the number of the thread that connected, and "
-        "which of the things that this thread has made the client port was, from 1: ports, processes and threads.",
+        "which of the things that this thread has made the client port was, from 1: ports, sections, processes and "
+        "threads.",
         TOLD,
     ),
     ("*", "which death"): (
@@ -384,10 +427,11 @@ RULES = {
     ),
     ("end", "ENTRIES"): ("The second number is how many entries were printed.", TRANSCRIPT),
     ("end", "OBJECTS"): (
-        "Processes, threads and ports that are left are counted: live threads and their processes, those that have "
-        "ended and that a handle names, and ports. A port that nothing names any longer goes at the end of the line: "
-        "no handle, no port as its other end or its connection port, no queued message that was sent on it, no wait "
-        "that was made on it, and no live thread that registered it.",
+        "Processes, threads, ports and sections that are left are counted: live threads and their processes, those "
+        "that have ended and that a handle names, ports, and sections that a handle names or a view shows. A port that "
+        "nothing names any longer goes at the end of the line: no handle, no port as its other end or its connection "
+        "port, no queued message that was sent on it, no wait that was made on it, and no live thread that registered "
+        "it.",
         SHARED,
     ),
     ("stop", "LINE"): ("The script stops at its first faulty line; the lines before it are run and printed.", FAULTS),

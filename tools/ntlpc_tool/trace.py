@@ -19,7 +19,7 @@ MOST_TOLD = 300
 # What a symbol alone stands for, where that isn't the handle that its call gave.
 IDENTIFIED = ("NtRequestPort", "NtRequestWaitReplyPort")
 RECEIVES = ("NtListenPort", "NtReplyWaitReceivePort")
-SPELLED_AS_HEX = ("ctx", "access")
+SPELLED_AS_HEX = ("ctx", "access", "base")
 OF_MESSAGE = {"process": "process", "thread": "thread", "id": "message_id"}
 
 

@@ -9,7 +9,8 @@ The keys of an entry's object, in their order:
   status       8 hexadecimal digits, the code where the thread died; null where the call waits, and where the thread was
                busy or is none
   status_name  the status's name; null where there is no status or it has no name here
-  fields       an object: h, thread, id, max, handles and pointers are numbers; the others are text as it is printed
+  fields       an object: h, thread, id, max, size, handles and pointers are numbers; the others are text as it is
+               printed
   message      where there is a field msg: an object with data_size, message_size, type, type_name (null for a number
                that is no type), ranges_offset, ranges (pairs of base and size; null where the table doesn't lie in the
                data), process, thread, message_id, section_size, data (hexadecimal digits) and text (null where the data

@@ -16,8 +16,8 @@ TRACE is a script whose lines may have names for processes and threads, and symb
 $NAME     alone is the handle that the call gave, also when a connect's wake gives it later; for a datagram or a request
           it is the identifier.
 $NAME.FIELD
-          is a field that the call or its wake has in the transcript: h, thread, id, ctx, access, handles, pointers,
-          max. Of a message that was received there are also id, process and thread.
+          is a field that the call or its wake has in the transcript: h, thread, id, ctx, base, size, access, handles,
+          pointers, max. Of a message that was received there are also id, process and thread.
 r:$NAME:HEX
           names the client and the identifier of the message that the call received, or sent.
 r:P.T.M:HEX
