@@ -116,6 +116,27 @@ def creations(lines):
         yield "24 NtClose 12"
 
 
+def views(lines, size):
+    """A section of so many bytes is mapped, its last bytes are written and read through the view, and the view goes."""
+    yield from ("boot 20 24", f"24 NtCreateSection {size} 4")
+    last = 0x10000 + size - 2
+    for _ in range((lines - 2) // 4):
+        yield "24 NtMapViewOfSection 4 0 0 4"
+        yield f"24 NtWriteVirtualMemory {last} 4142"
+        yield f"24 NtReadVirtualMemory {last} 2"
+        yield "24 NtUnmapViewOfSection 0x10000"
+
+
+def small_views(lines):
+    """A section of 4 KiB, the smallest, is mapped, written, read and unmapped; over and over."""
+    yield from views(lines, 4_096)
+
+
+def large_views(lines):
+    """The same with a section of 4 MiB, the largest."""
+    yield from views(lines, 4_194_304)
+
+
 def boots(lines):
     """Processes are made, and stay: each with a thread and an empty table of handles."""
     for process in range(1, lines + 1):
@@ -186,6 +207,8 @@ def main():
             (closings, LONG),
             (endings, LONG),
             (creations, LONG),
+            (small_views, LONG),
+            (large_views, LONG),
             (boots, LONG),
             (connects, SHORT),
         )

@@ -485,9 +485,11 @@ def memory_runs_out(program):
 
 def growth():
     """Ten times the lines take about ten times as long, where a script leaves as many rows as it finds, and where it makes
-    processes alone."""
-    for script in bench.requests, bench.datagrams, bench.closings, bench.boots:
+    processes alone. Lines on a view take as long whatever the size of its section."""
+    scripts = bench.requests, bench.datagrams, bench.closings, bench.small_views, bench.large_views, bench.boots
+    for script in scripts:
         yield f"time grows with the lines: {script.__name__}", grows_with_lines(script)
+    yield "time doesn't grow with a section's size", grows_not_with_sections
 
 
 def grows_with_lines(script):
@@ -499,6 +501,15 @@ def grows_with_lines(script):
             raise Wrong(f"a line takes {long / short:.1f} times as long in {LONG_SCRIPT:,} as in {SHORT_SCRIPT:,}")
 
     return check
+
+
+def grows_not_with_sections(program):
+    """Compares what as many lines take over a section of 4 KiB and over one of 4 MiB, whose zeros are made once."""
+    small, large = (
+        processor_seconds(program, list(script(LONG_SCRIPT))) for script in (bench.small_views, bench.large_views)
+    )
+    if large > TIMES_LONGER * small:
+        raise Wrong(f"a line on a view of 4 MiB takes {large / small:.1f} times as long as on one of 4 KiB")
 
 
 def processor_seconds(program, lines):
