@@ -3,12 +3,13 @@ ghost use Rattle.std.specs.Prelude.{◌≡◌, ◌<◌, ◌≤◌, true, vec_len
 ghost use Rattle.lpc_base.specs.Rows.{has};
 ghost use Rattle.lpc_homes.specs.Parts.{HasFew, are_single_parts, is_part, spare_at};
 
+use crate::common::table_of;
 use lpc_base::Birth;
 use lpc_handles::Table;
 use lpc_homes::parts::{self, Part};
 use lpc_homes::{Object, views};
 use lpc_sections::Section;
-use lpc_slots::{Key, Slots};
+use lpc_slots::Key;
 use lpc_views::Space;
 use std::process::Abort;
 use std::test::Fail;
@@ -104,9 +105,8 @@ fn process_gets_a_handle_to_a_section(rt: HostRuntime) -> Result<(), Fail> {
 
 #[test]
 fn process_maps_and_unmaps_a_view(rt: HostRuntime) -> Result<(), Fail> {
-    let mut sections: Slots<Section> = Slots::new(rt.alloc());
-    sections.reserve(1)?;
-    let key = sections.insert_reserved(Section::new(rt.alloc(), 8192, true, birth())?);
+    let section = Section::new(rt.alloc(), 8192, true, birth())?;
+    let (sections, key) = table_of(&rt, rt.alloc(), section)?;
     let mut parts: Vec<Part> = Vec::new(rt.alloc());
     parts.push(Part {
         process: 2,
@@ -121,5 +121,39 @@ fn process_maps_and_unmaps_a_view(rt: HostRuntime) -> Result<(), Fail> {
     assert!(&rt; views::unmap_view(&mut parts, 2, 0x11000).is_none());
     assert!(&rt; views::unmap_view(&mut parts, 2, 0x10fff).is_some());
     assert!(&rt; !views::shows(&parts, key));
+    Ok(())
+}
+
+#[test]
+fn process_drops_its_views(rt: HostRuntime) -> Result<(), Fail> {
+    let section = Section::new(rt.alloc(), 4096, true, birth())?;
+    let (sections, key) = table_of(&rt, rt.alloc(), section)?;
+    let mut parts: Vec<Part> = Vec::new(rt.alloc());
+    parts.push(Part {
+        process: 2,
+        handles: Table::new(rt.alloc()),
+        views: Space::new(rt.alloc()),
+    })?;
+    views::reserve_views(&mut parts, 2, 1)?;
+    assert!(&rt; views::map_view(&mut parts, 2, &sections, key, 0, 0, true, None).is_ok());
+    views::drop_views(&mut parts, 2);
+    assert!(&rt; views::views_to(&parts, key) == 0);
+    Ok(())
+}
+
+#[test]
+fn process_closes_a_handle_to_a_port(rt: HostRuntime) -> Result<(), Fail> {
+    let mut parts: Vec<Part> = Vec::new(rt.alloc());
+    parts.push(Part {
+        process: 2,
+        handles: Table::new(rt.alloc()),
+        views: Space::new(rt.alloc()),
+    })?;
+    parts::reserve_handles(&mut parts, 2, 1)?;
+    assert!(&rt; parts::add_handle(&mut parts, 2, Object::Port(port()), 1).ok() == Some(4));
+    assert!(&rt; parts::reaches_port(&parts, 2, port()));
+    assert!(&rt; parts::handles_of(&parts, 2).get(4).is_some());
+    parts::close_handle(&mut parts, 2, 4);
+    assert!(&rt; !parts::names(&parts, Object::Port(port())));
     Ok(())
 }

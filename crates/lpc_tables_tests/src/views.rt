@@ -3,6 +3,7 @@ ghost use Rattle.std.specs.Prelude.{◌≡◌, ◌+◌, ◌%◌, ◌<◌, ◌≤
 ghost use Rattle.lpc_slots.specs.Table.{at};
 ghost use Rattle.lpc_views.specs.Parts.{AreMapped};
 
+use crate::common::table_of;
 use lpc_base::Birth;
 use lpc_sections::Section;
 use lpc_slots::{Key, Slots};
@@ -143,17 +144,6 @@ fn places_are_taken_again(
         Ok((0x20000, 65536)),
     );
     lies(rt, space.view_at(0x2ffff), Some(0x20000));
-}
-
-// A table with this section alone, and its key.
-fn table_of(rt: &impl Abort, alloc: Global, section: Section) -> Result<(Slots<Section>, Key), Fail>
-    ensures { IfOk result (λ made. IsSome (at made.0 made.1)) }
-{
-    let mut sections = Slots::new(alloc);
-    sections.reserve(1)?;
-    let key = sections.insert_reserved(section);
-    assert!(rt; sections.get(key).is_some());
-    Ok((sections, key))
 }
 
 // The bytes at a range of addresses are these, or no one view holds it.
@@ -355,5 +345,74 @@ fn protection_is_tested_before_the_size(rt: HostRuntime) -> Result<(), Fail> {
         own(0, 4096, false),
         Ok((0x10000, 4096)),
     );
+    Ok(())
+}
+
+// The view that would be mapped of a section is told, and none is mapped.
+fn tells_the_next_view(
+    rt: &impl Abort,
+    space: &Space<u8>,
+    sections: &Slots<Section>,
+    key: Key,
+    asked: Asked,
+    place: (u32, u32),
+)
+    requires present { IsSome (at sections.now key) }
+    requires aligned { asked.offset % 4096 ≡ 0 }
+{
+    let (offset, size, writable) = (asked.offset, asked.size, asked.writable);
+    match space.view_for(sections, key, offset, size, writable, asked.owner) {
+        Ok(view) => assert!(rt; (view.base, view.size) == place),
+        Err(_) => assert!(rt; false),
+    }
+}
+
+// So many views show the section.
+fn counts(rt: &impl Abort, space: &Space<u8>, key: Key, views: usize) {
+    assert!(rt; space.count_of(key) == views);
+    assert!(rt; space.shows(key) == (views != 0));
+}
+
+// The views of a section of one page are counted, and go together.
+fn views_are_counted_and_go(
+    rt: &impl Abort,
+    space: &mut Space<u8>,
+    sections: &Slots<Section>,
+    key: Key,
+)
+    requires present { IsSome (at sections.now key) }
+    requires room { 2 ≤ space.old.spare }
+{
+    tells_the_next_view(rt, space, sections, key, own(0, 1, true), (0x10000, 4096));
+    counts(rt, space, key, 0);
+    maps(
+        rt,
+        space,
+        sections,
+        key,
+        own(0, 0, true),
+        Ok((0x10000, 4096)),
+    );
+    maps(
+        rt,
+        space,
+        sections,
+        key,
+        own(0, 1, false),
+        Ok((0x20000, 4096)),
+    );
+    counts(rt, space, key, 2);
+    space.clear();
+    counts(rt, space, key, 0);
+    lies(rt, space.view_at(0x10000), None);
+}
+
+#[test]
+fn views_of_a_section_are_counted(rt: HostRuntime) -> Result<(), Fail> {
+    let section = Section::new(rt.alloc(), 4096, true, Birth::default())?;
+    let (sections, key) = table_of(&rt, rt.alloc(), section)?;
+    let mut space = Space::new(rt.alloc());
+    space.reserve(2)?;
+    views_are_counted_and_go(&rt, &mut space, &sections, key);
     Ok(())
 }
