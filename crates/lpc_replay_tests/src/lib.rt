@@ -17,6 +17,8 @@ mod endings;
 #[cfg(test)]
 mod lines;
 #[cfg(test)]
+mod memory;
+#[cfg(test)]
 mod replay;
 #[cfg(test)]
 mod storms;

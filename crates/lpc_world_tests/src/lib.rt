@@ -15,6 +15,10 @@ mod ending;
 #[cfg(test)]
 mod machine;
 #[cfg(test)]
+mod memory;
+#[cfg(test)]
 mod request;
+#[cfg(test)]
+mod views;
 #[cfg(test)]
 mod world;
