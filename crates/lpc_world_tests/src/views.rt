@@ -4,6 +4,7 @@ ghost use Rattle.std.specs.Prelude.{◌≡◌, ◌≤◌, ◌<◌, ◌+◌, true
 ghost use Rattle.lpc_base.specs.declared.limits.TheConstants.{LINES_LIMIT};
 ghost use Rattle.lpc_rows.specs.Names.{stands};
 ghost use Rattle.lpc_rows.specs.Ready.{is_ready};
+ghost use Rattle.lpc_sections.specs.Sections.{IsSectionSize};
 
 use crate::common::{boots, can_call};
 use lpc_base::status::SUCCESS;
@@ -12,8 +13,9 @@ use lpc_world::{Object, World};
 use std::process::Abort;
 use std::test::Fail;
 
-// Thread 24 makes a section of two pages, which may be written and no handle names.
-fn makes_a_section(world: &mut World) -> Result<Key, Fail>
+// Thread 24 makes a section of so many bytes, which may be written and no handle names.
+fn makes_a_section(world: &mut World, size: u32) -> Result<Key, Fail>
+    requires pages { IsSectionSize size }
     requires few { world.old.calls < LINES_LIMIT }
     requires ready { is_ready world.old.rows 24 ≡ true }
     ensures calls { world.new.calls ≤ world.old.calls + 1 }
@@ -23,7 +25,7 @@ fn makes_a_section(world: &mut World) -> Result<Key, Fail>
     world.sections_reserve(1)?;
     world.begin_call();
     let birth = world.procs_draw_birth(by.number);
-    let section = world.new_section(8192, true, birth)?;
+    let section = world.new_section(size, true, birth)?;
     Ok(world.sections_insert_reserved(section))
 }
 
@@ -113,14 +115,14 @@ fn frees_the_section(rt: &impl Abort, world: &mut World, key: Key)
     assert!(rt; world.sections().count() == 0 && world.section_load(20) == 0);
 }
 
-// Process 20 begins, and its thread 24 makes a section.
+// Process 20 begins, and its thread 24 makes a section of two pages.
 fn begins_with_a_section(rt: &impl Abort, world: &mut World) -> Result<Key, Fail>
     requires few { world.old.calls < 1000 }
     ensures stands { IfOk result (λ key. stands world.new.births.sections key ≡ true) }
 {
     boots(rt, world, 20, 24, SUCCESS)?;
     can_call(rt, world, 24);
-    let key = makes_a_section(world)?;
+    let key = makes_a_section(world, 8192)?;
     shows_a_new_section(rt, world, key);
     Ok(key)
 }
