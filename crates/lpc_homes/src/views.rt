@@ -86,7 +86,8 @@ pub fn unmap_view(parts: &mut Vec<Part>, pid: u32, address: u32) -> Option<View<
     requires one { are_single_parts parts.old.items ≡ true }
     requires part { has (is_part pid) parts.old.items ≡ true }
     ensures view { result ≡ view_at (views_at parts.old.items pid) address }
-    ensures parts { IfSome result (λ view. parts.new.items ≡ unmapping pid view.base parts.old.items) }
+    ensures parts { IfSome result
+        (λ view. parts.new.items ≡ unmapping pid view.base parts.old.items) }
     ensures fewer { let old = views_at parts.old.items pid in
         IfSome result (λ view. length (without (lies_at view.base) old) + 1 ≡ length old) }
     ensures same { IfNone result (parts.new.items ≡ parts.old.items) }

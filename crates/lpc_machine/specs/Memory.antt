@@ -62,8 +62,8 @@ Halts w (run tid call) = is_ready w tid ≡ true → IsErr (service_of w (caller
 -- There is no room for what a thread's call makes: a port with its handle, and its name; a client port with its handle
 -- and the message that is to tell that it is closed; a server port with its handle; a message that no thread waits
 -- with; of a port that isn't registered yet, the message that is to tell of a thread's end; a further handle; a process
--- with its first thread and a handle to each; a thread with a handle; a view. The bytes of a section are new memory, so for
--- these there never is room. What the other calls need was reserved when their threads were made.
+-- with its first thread and a handle to each; a thread with a handle; a view. The bytes of a section are new memory, so
+-- for these there never is room. What the other calls need was reserved when their threads were made.
 abbrev pub lacks_call_room : Kept → ℕ → ScriptCall → Bool
 lacks_call_room w tid (create_port name) = lacks_room_for w (caller w.rows tid) name
 lacks_call_room w tid (connect_port name info) = lacks_connect_room w (caller w.rows tid)

@@ -315,14 +315,14 @@ impl Machine {
     /// from 1 to 2147483647, and fewer than 1,000,000 directives and service calls were made before it.
     ///
     /// A line that is refused, or that no thread can run, leaves every row as it was. After want of memory nothing has
-    /// changed but the room. Only directives, `NtCreatePort`, `NtConnectPort`,
-    /// `NtAcceptConnectPort` to accept, `NtRequestPort`, `NtRegisterThreadTerminatePort`, `NtDuplicateObject`,
-    /// `NtCreateProcess`, `NtCreateThread`, `NtCreateSection` and `NtMapViewOfSection` take memory, only where they aren't refused, and they want for it only
-    /// where the room for what they make wasn't there; every other line is answered. Of ports, messages and waits no
-    /// line leaves more memory than there was, than the rows before it need with one more and what was owed, or than
-    /// twice these rows do; how far that of processes, threads and handles may grow is said of each call alone, and of
-    /// names nowhere. A directive, and a call of a thread that lives and doesn't wait, counts as a call, refused or
-    /// not.
+    /// changed but the room. Only directives, `NtCreatePort`, `NtConnectPort`, `NtAcceptConnectPort` to accept,
+    /// `NtRequestPort`, `NtRegisterThreadTerminatePort`, `NtDuplicateObject`, `NtCreateProcess`, `NtCreateThread`,
+    /// `NtCreateSection` and `NtMapViewOfSection` take memory, only where they aren't refused, and they want for it only
+    /// where the room for what they make wasn't there, which the bytes of a section never have; every other line is
+    /// answered. Of ports, messages and waits no line leaves more memory than there was, than the rows before it need
+    /// with one more and what was owed, or than twice these rows do; how far that of processes, threads, handles,
+    /// sections and views may grow is said of each call alone, and of names nowhere. A directive, and a call of a thread
+    /// that lives and doesn't wait, counts as a call, refused or not.
     pub fn step(&mut self, line: &Line<'_>, out: &mut Entries) -> Result<(), OutOfMemory>
         requires empty { out.old.list ≡ [] }
         requires unread { out.old.reads ≡ false }

@@ -249,7 +249,8 @@ impl<P: Copy + Eq> Space<P> {
     ) -> Result<&'a [u8], Fault>
         requires mapped { AreMapped sections.now self.now.views }
         ensures bytes { let view = view_of self.now.views address len in
-            IfOk result (λ bytes. option_map (seen sections.now address len) view ≡ Some bytes.now) }
+            IfOk result
+            (λ bytes. option_map (seen sections.now address len) view ≡ Some bytes.now) }
         ensures len { IfOk result (λ bytes. length bytes.now ≡ len) }
         ensures fault { IsErr result ↔ (view_of self.now.views address len ≡ None) }
     {

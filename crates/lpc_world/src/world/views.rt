@@ -107,7 +107,8 @@ impl World {
     pub fn views_unmap(&mut self, pid: u32, address: u32) -> Option<View<Key>>
         requires table { has (is_table pid) self.old.rows.handles ≡ true }
         ensures view { Finds result (view_shown self.old) (view_at self.old.rows pid address) }
-        ensures step { let left = unmapped_at self.old.rows pid (view_at self.old.rows pid address) in
+        ensures step { let left =
+            unmapped_at self.old.rows pid (view_at self.old.rows pid address) in
             IsStep left self.old self.new }
         ensures loose { self.new.loose ≡ true }
         ensures capacity { self.new.capacity ≡ self.old.capacity }
