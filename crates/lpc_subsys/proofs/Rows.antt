@@ -1,0 +1,173 @@
+-- The rows of clients, and the clients and requests that they stand for.
+use Rattle.std.proofs.Common.{◌≡◌, ℕ, Bool, true, false, cond, refl, inl, inr, sym, ap, ◌∙◌, ◌+◌, ◌||◌, arith, length, take, is_some, List, [], ◌∷◌, ◌++◌, Option, Some, None, map, option_map, set, get_or}
+use Rattle.std.specs.Prelude.{◌==◌, OnErr, OnOk, Result, Ok, Err, nat_le}
+use Rattle.std.specs.List.{position}
+use Rattle.std.specs.Str.{bytes_eq}
+use Rattle.std.proofs.lemmas.Bool.{cases_Bool}
+use Rattle.lpc_base.specs.Rows.{change, differ_by, first, has, without}
+use Rattle.lpc_base.proofs.Differ.{IsRowAt, differ-change, differ-push, differ-without, row-at, set-change}
+use Rattle.lpc_base.proofs.Positions.{none_first}
+use Rattle.lpc_base.proofs.RowMaps.{push-map}
+use Rattle.lpc_base.proofs.RowWords.{change-none}
+use Rattle.lpc_base.specs.declared.status.TheConstants.{QUOTA_EXCEEDED}
+use Rattle.lpc_subsys.specs.Clients.{ClientRow, Follows, History, RepliesByOwnRequests, after_request, client_of, is_client, is_of, new_row, reply_after, reply_of, with_client, with_request, with_text, without_client}
+use Rattle.lpc_subsys.specs.Replies.{IsGranted, atom_in, granted, granted_or, number_bytes}
+use Rattle.lpc_subsys.specs.Requests.{Asked, Request, asked, atom_of, reading, setting, telling, text_of, writing}
+use Rattle.lpc_subsys.specs.declared.profile.TheConstants.{ATOM_LIMIT, CONSOLE_LIMIT, FIRST_ATOM}
+use Rattle.lpc_subsys.proofs.Kept.{goes-on, tells-reply}
+use Rattle.lpc_subsys.proofs.Texts.{new-atom}
+
+abbrev process : ClientRow → ℕ
+process row = row.process
+
+-- no process has two rows
+abbrev pub AreSingle : List ClientRow → Type 0
+AreSingle rows = differ_by process rows ≡ true
+
+abbrev pub IsAt : (rows : List ClientRow) (pid place : ℕ) (row : ClientRow) → Type 0
+IsAt = IsRowAt process
+
+pub row_is : (rows : List ClientRow) (pid place : ℕ) (row : ClientRow) → position (is_client pid) rows ≡ Some place → row ≡ get_or rows place row → IsAt rows pid place row
+row_is = row-at process
+
+-- a request leaves the number of the process
+same_process : (row : ClientRow) (what : Option Asked) → (after_request row what).process ≡ row.process
+same_process row None = refl
+same_process row (Some (atom_of text)) = refl
+same_process row (Some (text_of atom)) = refl
+same_process row (Some (writing bytes)) = refl
+same_process row (Some (reading from count)) = refl
+same_process row (Some (setting level)) = refl
+same_process row (Some telling) = refl
+
+-- The rows with another one, without one, and with one changed
+pub single-push : (rows : List ClientRow) (pid : ℕ) → AreSingle rows → has (is_client pid) rows ≡ false → AreSingle (rows ++ new_row pid ∷ [])
+single-push rows pid single new = differ-push process rows (new_row pid) single new
+
+pub single-without : (rows : List ClientRow) (pid : ℕ) → AreSingle rows → AreSingle (without (is_client pid) rows)
+single-without rows pid single = differ-without process (is_client pid) rows single
+
+abbrev pub changed : List ClientRow → ℕ → Option Asked → List ClientRow
+changed rows pid what = change (is_client pid) (λ row. after_request row what) rows
+
+pub single-changed : (rows : List ClientRow) (pid : ℕ) (what : Option Asked) → AreSingle rows → AreSingle (changed rows pid what)
+single-changed rows pid what single = differ-change process (is_client pid) (λ row. after_request row what) (λ row. same_process row what) rows single
+
+pub set-changed : (rows : List ClientRow) (pid place : ℕ) (row : ClientRow) (what : Option Asked) → AreSingle rows → IsAt rows pid place row → set rows place (after_request row what) ≡ changed rows pid what
+set-changed rows pid place row what single at = set-change process (λ r. after_request r what) rows place pid row single at.here at.own
+
+change-same : (test : ClientRow → Bool) (rows : List ClientRow) → change test (λ row. row) rows ≡ rows
+change-same test [] = refl
+change-same test (row ∷ rows) = grind (arith, change-same test rows)
+
+pub set-same : (rows : List ClientRow) (pid place : ℕ) (row : ClientRow) → AreSingle rows → IsAt rows pid place row → set rows place row ≡ rows
+set-same rows pid place row single at = set-change process (λ r. r) rows place pid row single at.here at.own ∙ change-same (is_client pid) rows
+
+pub single-pushed : (b : Bool) (rows : List ClientRow) (pid : ℕ) → AreSingle rows → has (is_client pid) rows ≡ false → AreSingle (cond b (rows ++ new_row pid ∷ []) rows)
+single-pushed true rows pid single new = single-push rows pid single new
+single-pushed false rows pid single new = single
+
+-- what is granted begins with success
+is_granted : (results : List ℕ) → IsGranted (granted results)
+unfolding granted
+is_granted results = refl
+
+-- what isn't granted changes nothing
+unchanged : (row : ClientRow) (what : Option Asked) → (IsGranted (reply_of row what) → ⊥) → after_request row what ≡ row
+unchanged row None not_granted = refl
+unchanged row (Some (text_of atom)) not_granted = refl
+unchanged row (Some (reading from count)) not_granted = refl
+unchanged row (Some telling) not_granted = refl
+unchanged row (Some (setting level)) not_granted = absurd (not_granted (is_granted []))
+unchanged row (Some (writing bytes)) not_granted =
+    elim (nat_le (length row.console + length bytes) CONSOLE_LIMIT) as (λ b.
+    (IsGranted (granted_or QUOTA_EXCEEDED (option_map number_bytes (cond b (Some (length row.console + length bytes)) None))) → ⊥)
+    → record row { console = cond b (row.console ++ bytes) row.console } ≡ row) [
+      | true ↦ λ no. absurd (no (is_granted _))
+      | false ↦ λ no. refl
+    ] not_granted
+unchanged row (Some (atom_of text)) not_granted =
+    elim (cases_Bool (has (bytes_eq text) row.texts || (length row.texts == ATOM_LIMIT))) [
+      | inl stands ↦ ap (λ (b : Bool). record row { texts = cond b row.texts (row.texts ++ text ∷ []) }) stands
+      | inr new ↦
+          let off : has (bytes_eq text) row.texts ≡ false = grind arith in
+          let texts : with_text row.texts text ≡ row.texts ++ text ∷ [] = ap (λ (b : Bool). cond b row.texts (row.texts ++ text ∷ [])) new in
+          let atom : atom_in (with_text row.texts text) text ≡ Some (FIRST_ATOM + length row.texts) = ap (λ (known : List (List ℕ)). atom_in known text) texts ∙ sym (new-atom row.texts text off) in
+          absurd (not_granted (ap (λ (o : Option ℕ). take 4 (granted_or QUOTA_EXCEEDED (option_map number_bytes o))) atom ∙ is_granted _))
+    ]
+
+-- What the rows stand for
+first_served : (pid : ℕ) (all : List History) → first (is_client pid) (map client_of all) ≡ option_map client_of (first (is_of pid) all)
+first_served pid [] = refl
+first_served pid (history ∷ all) = grind (arith, first_served pid all)
+
+changed_served : (pid : ℕ) (request : Request) (all : List History) → changed (map client_of all) pid (asked request) ≡ map client_of (with_request pid request all)
+changed_served pid request [] = refl
+changed_served pid request (history ∷ all) = grind (arith, goes-on history request, changed_served pid request all)
+
+without_served : (pid : ℕ) (all : List History) → without (is_client pid) (map client_of all) ≡ map client_of (without_client pid all)
+without_served pid [] = refl
+without_served pid (history ∷ all) = grind (arith, without_served pid all)
+
+pub follows-join : (rows : List ClientRow) (pid : ℕ) → Follows (with_client pid) rows (rows ++ new_row pid ∷ [])
+follows-join rows pid all serves = ap (λ (old : List ClientRow). old ++ new_row pid ∷ []) serves ∙ sym (push-map client_of all (record { process = pid; requests = [] }))
+
+pub follows-leave : (rows : List ClientRow) (pid : ℕ) → Follows (without_client pid) rows (without (is_client pid) rows)
+follows-leave rows pid all serves = ap (without (is_client pid)) serves ∙ without_served pid all
+
+pub follows-changed : (rows : List ClientRow) (pid : ℕ) (request : Request) → Follows (with_request pid request) rows (changed rows pid (asked request))
+follows-changed rows pid request all serves = ap (λ (old : List ClientRow). changed old pid (asked request)) serves ∙ changed_served pid request all
+
+-- the reply to a client
+reply_at : (o : Option History) (row : ClientRow) (request : Request) → Some row ≡ option_map client_of o → reply_of row (asked request) ≡ reply_after o request
+reply_at None row request at = absurd (cc)
+reply_at (Some history) row request at =
+    let same : row ≡ client_of history = cc in
+    ap (λ (r : ClientRow). reply_of r (asked request)) same ∙ tells-reply history request
+
+pub replies-row : (rows : List ClientRow) (pid : ℕ) (row : ClientRow) (request : Request) → first (is_client pid) rows ≡ Some row → RepliesByOwnRequests rows pid request (reply_of row (asked request))
+replies-row rows pid row request at all serves =
+    reply_at (first (is_of pid) all) row request (sym at ∙ ap (first (is_client pid)) serves ∙ first_served pid all)
+
+-- the reply to a process that is no client
+reply_none : (o : Option History) (request : Request) → None ≡ option_map client_of o → reply_after None request ≡ reply_after o request
+reply_none None request at = refl
+reply_none (Some history) request at = absurd (cc)
+
+pub replies-none : (rows : List ClientRow) (pid : ℕ) (request : Request) → position (is_client pid) rows ≡ None → RepliesByOwnRequests rows pid request (reply_after None request)
+replies-none rows pid request none all serves =
+    reply_none (first (is_of pid) all) request (sym (none_first (is_client pid) rows none) ∙ ap (first (is_client pid)) serves ∙ first_served pid all)
+
+-- An answer at the place of a client
+module _ {A E : Type 0} (rows : List ClientRow) (pid place : ℕ) (row : ClientRow) (request : Request) (single : AreSingle rows) (at : IsAt rows pid place row) where
+  pub single-set : (r : Result A E) (new : ClientRow) → OnOk r (new ≡ after_request row (asked request)) → OnErr r (new ≡ row) → AreSingle (set rows place new)
+  single-set (Ok a) new answered same =
+      let is : set rows place new ≡ changed rows pid (asked request) = ap (set rows place) answered ∙ set-changed rows pid place row (asked request) single at in
+      ap (differ_by process) is ∙ single-changed rows pid (asked request) single
+  single-set (Err e) new answered same =
+      let is : set rows place new ≡ rows = ap (set rows place) same ∙ set-same rows pid place row single at in
+      ap (differ_by process) is ∙ single
+
+  pub replies-set : (r : Result A E) (reply : List ℕ) → OnOk r (reply ≡ reply_of row (asked request)) → OnOk r (RepliesByOwnRequests rows pid request reply)
+  replies-set (Ok a) reply answered = λ all serves. answered ∙ replies-row rows pid row request at.is_first all serves
+  replies-set (Err e) reply answered = tt
+
+  pub follows-set : (r : Result A E) (new : ClientRow) → OnOk r (new ≡ after_request row (asked request)) → OnOk r (Follows (with_request pid request) rows (set rows place new))
+  follows-set (Ok a) new answered = λ all serves. ap (set rows place) answered ∙ set-changed rows pid place row (asked request) single at ∙ follows-changed rows pid request all serves
+  follows-set (Err e) new answered = tt
+
+  pub same-set : (r : Result A E) (new : ClientRow) → OnErr r (new ≡ row) → OnErr r (set rows place new ≡ rows)
+  same-set (Ok a) new same = tt
+  same-set (Err e) new same = ap (set rows place) same ∙ set-same rows pid place row single at
+
+  -- a refusal changes nothing
+  pub refused-set : (r : Result A E) (new : ClientRow) (reply : List ℕ) → OnOk r (new ≡ after_request row (asked request)) → OnOk r (reply ≡ reply_of row (asked request)) → OnOk r ((IsGranted reply → ⊥) → set rows place new ≡ rows)
+  refused-set (Ok a) new reply answered replied = λ not_granted.
+      ap (set rows place) (answered ∙ unchanged row (asked request) (λ is. not_granted (ap (take 4) replied ∙ is))) ∙ set-same rows pid place row single at
+  refused-set (Err e) new reply answered replied = tt
+
+-- a process that is no client
+pub follows-none : (rows : List ClientRow) (pid : ℕ) (request : Request) → position (is_client pid) rows ≡ None → Follows (with_request pid request) rows rows
+follows-none rows pid request none all serves =
+    sym (change-none (is_client pid) (λ row. after_request row (asked request)) rows (ap is_some (none_first (is_client pid) rows none)))
+    ∙ follows-changed rows pid request all serves
