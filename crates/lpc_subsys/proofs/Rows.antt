@@ -1,21 +1,18 @@
 -- The rows of clients, and the clients and requests that they stand for.
-use Rattle.std.proofs.Common.{◌≡◌, ℕ, Bool, true, false, cond, refl, inl, inr, sym, ap, ◌∙◌, ◌+◌, ◌||◌, arith, length, take, is_some, List, [], ◌∷◌, ◌++◌, Option, Some, None, map, option_map, set, get_or}
-use Rattle.std.specs.Prelude.{◌==◌, OnErr, OnOk, Result, Ok, Err, nat_le}
+use Rattle.std.proofs.Common.{◌≡◌, ℕ, Bool, true, false, cond, refl, sym, ap, ◌∙◌, arith, take, is_some, List, [], ◌∷◌, ◌++◌, Option, Some, None, map, option_map, set, get_or}
+use Rattle.std.specs.Prelude.{OnErr, OnOk, Result, Ok, Err}
 use Rattle.std.specs.List.{position}
-use Rattle.std.specs.Str.{bytes_eq}
-use Rattle.std.proofs.lemmas.Bool.{cases_Bool}
 use Rattle.lpc_base.specs.Rows.{change, differ_by, first, has, without}
 use Rattle.lpc_base.proofs.Differ.{IsRowAt, differ-change, differ-push, differ-without, row-at, set-change}
 use Rattle.lpc_base.proofs.Positions.{none_first}
 use Rattle.lpc_base.proofs.RowMaps.{push-map}
 use Rattle.lpc_base.proofs.RowWords.{change-none}
-use Rattle.lpc_base.specs.declared.status.TheConstants.{QUOTA_EXCEEDED}
-use Rattle.lpc_subsys.specs.Clients.{ClientRow, Follows, History, RepliesByOwnRequests, after_request, client_of, is_client, is_of, new_row, reply_after, reply_of, with_client, with_request, with_text, without_client}
-use Rattle.lpc_subsys.specs.Replies.{IsGranted, atom_in, granted, granted_or, number_bytes}
+use Rattle.lpc_subsys.specs.Clients.{ClientRow, Follows, History, RepliesByOwnRequests, after_request, client_of, is_client, is_of, new_row, reply_after, reply_of, with_client, with_request, without_client}
+use Rattle.lpc_subsys.specs.Laws.{ServesClients}
+use Rattle.lpc_subsys.specs.Replies.{IsGranted}
 use Rattle.lpc_subsys.specs.Requests.{Asked, Request, asked, atom_of, reading, setting, telling, text_of, writing}
-use Rattle.lpc_subsys.specs.declared.profile.TheConstants.{ATOM_LIMIT, CONSOLE_LIMIT, FIRST_ATOM}
 use Rattle.lpc_subsys.proofs.Kept.{goes-on, tells-reply}
-use Rattle.lpc_subsys.proofs.Texts.{new-atom}
+use Rattle.lpc_subsys.proofs.Refused.{unchanged}
 
 abbrev process : ClientRow → ℕ
 process row = row.process
@@ -27,8 +24,9 @@ AreSingle rows = differ_by process rows ≡ true
 abbrev pub IsAt : (rows : List ClientRow) (pid place : ℕ) (row : ClientRow) → Type 0
 IsAt = IsRowAt process
 
-pub row_is : (rows : List ClientRow) (pid place : ℕ) (row : ClientRow) → position (is_client pid) rows ≡ Some place → row ≡ get_or rows place row → IsAt rows pid place row
-row_is = row-at process
+-- a client that was found, in the slice that shows the rows
+pub found-at : (rows shown : List ClientRow) (pid place : ℕ) (row : ClientRow) → shown ≡ rows → Some place ≡ position (is_client pid) shown → row ≡ get_or rows place row → IsAt rows pid place row
+found-at rows shown pid place row same found read = row-at process rows pid place row (ap (position (is_client pid)) (sym same) ∙ sym found) read
 
 -- a request leaves the number of the process
 same_process : (row : ClientRow) (what : Option Asked) → (after_request row what).process ≡ row.process
@@ -67,35 +65,6 @@ pub single-pushed : (b : Bool) (rows : List ClientRow) (pid : ℕ) → AreSingle
 single-pushed true rows pid single new = single-push rows pid single new
 single-pushed false rows pid single new = single
 
--- what is granted begins with success
-is_granted : (results : List ℕ) → IsGranted (granted results)
-unfolding granted
-is_granted results = refl
-
--- what isn't granted changes nothing
-unchanged : (row : ClientRow) (what : Option Asked) → (IsGranted (reply_of row what) → ⊥) → after_request row what ≡ row
-unchanged row None not_granted = refl
-unchanged row (Some (text_of atom)) not_granted = refl
-unchanged row (Some (reading from count)) not_granted = refl
-unchanged row (Some telling) not_granted = refl
-unchanged row (Some (setting level)) not_granted = absurd (not_granted (is_granted []))
-unchanged row (Some (writing bytes)) not_granted =
-    elim (nat_le (length row.console + length bytes) CONSOLE_LIMIT) as (λ b.
-    (IsGranted (granted_or QUOTA_EXCEEDED (option_map number_bytes (cond b (Some (length row.console + length bytes)) None))) → ⊥)
-    → record row { console = cond b (row.console ++ bytes) row.console } ≡ row) [
-      | true ↦ λ no. absurd (no (is_granted _))
-      | false ↦ λ no. refl
-    ] not_granted
-unchanged row (Some (atom_of text)) not_granted =
-    elim (cases_Bool (has (bytes_eq text) row.texts || (length row.texts == ATOM_LIMIT))) [
-      | inl stands ↦ ap (λ (b : Bool). record row { texts = cond b row.texts (row.texts ++ text ∷ []) }) stands
-      | inr new ↦
-          let off : has (bytes_eq text) row.texts ≡ false = grind arith in
-          let texts : with_text row.texts text ≡ row.texts ++ text ∷ [] = ap (λ (b : Bool). cond b row.texts (row.texts ++ text ∷ [])) new in
-          let atom : atom_in (with_text row.texts text) text ≡ Some (FIRST_ATOM + length row.texts) = ap (λ (known : List (List ℕ)). atom_in known text) texts ∙ sym (new-atom row.texts text off) in
-          absurd (not_granted (ap (λ (o : Option ℕ). take 4 (granted_or QUOTA_EXCEEDED (option_map number_bytes o))) atom ∙ is_granted _))
-    ]
-
 -- What the rows stand for
 first_served : (pid : ℕ) (all : List History) → first (is_client pid) (map client_of all) ≡ option_map client_of (first (is_of pid) all)
 first_served pid [] = refl
@@ -108,6 +77,13 @@ changed_served pid request (history ∷ all) = grind (arith, goes-on history req
 without_served : (pid : ℕ) (all : List History) → without (is_client pid) (map client_of all) ≡ map client_of (without_client pid all)
 without_served pid [] = refl
 without_served pid (history ∷ all) = grind (arith, without_served pid all)
+
+has_served : (pid : ℕ) (all : List History) → has (is_client pid) (map client_of all) ≡ has (is_of pid) all
+has_served pid [] = refl
+has_served pid (history ∷ all) = grind (arith, has_served pid all)
+
+pub serves-clients : ServesClients
+serves-clients rows all process serves = ap (has (is_client process)) serves ∙ has_served process all
 
 pub follows-join : (rows : List ClientRow) (pid : ℕ) → Follows (with_client pid) rows (rows ++ new_row pid ∷ [])
 follows-join rows pid all serves = ap (λ (old : List ClientRow). old ++ new_row pid ∷ []) serves ∙ sym (push-map client_of all (record { process = pid; requests = [] }))

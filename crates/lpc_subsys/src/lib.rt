@@ -11,5 +11,8 @@ pub mod profile;
 mod reply;
 mod server;
 
-pub use laws::{law_kept_is_enough, law_profile};
+pub use laws::{
+    law_kept_is_enough, law_kept_is_small, law_others_do_not_show, law_profile,
+    law_refused_counts_for_nothing, law_served_clients_have_states, law_worked_replies,
+};
 pub use server::Server;
