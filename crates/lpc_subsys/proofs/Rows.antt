@@ -1,12 +1,13 @@
 -- The rows of clients, and the clients and requests that they stand for.
 use Rattle.std.proofs.Common.{◌≡◌, ℕ, Bool, true, false, cond, refl, sym, ap, ◌∙◌, arith, take, is_some, List, [], ◌∷◌, ◌++◌, Option, Some, None, map, option_map, set, get_or}
-use Rattle.std.specs.Prelude.{OnErr, OnOk, Result, Ok, Err}
+use Rattle.std.specs.Prelude.{eqb, OnErr, OnOk, Result, Ok, Err}
 use Rattle.std.specs.List.{position}
+use Rattle.std.proofs.lemmas.Bool.Decides.{nat_tests}
 use Rattle.lpc_base.specs.Rows.{change, differ_by, first, has, without}
 use Rattle.lpc_base.proofs.Differ.{IsRowAt, differ-change, differ-push, differ-without, row-at, set-change}
 use Rattle.lpc_base.proofs.Positions.{none_first}
 use Rattle.lpc_base.proofs.RowMaps.{push-map}
-use Rattle.lpc_base.proofs.RowWords.{change-none}
+use Rattle.lpc_base.proofs.RowWords.{change-none, has-change, has-push}
 use Rattle.lpc_subsys.specs.Clients.{ClientRow, Follows, History, RepliesByOwnRequests, after_request, client_of, is_client, is_of, new_row, reply_after, reply_of, with_client, with_request, without_client}
 use Rattle.lpc_subsys.specs.Laws.{ServesClients}
 use Rattle.lpc_subsys.specs.Replies.{IsGranted}
@@ -114,6 +115,15 @@ pub replies-none : (rows : List ClientRow) (pid : ℕ) (request : Request) → p
 replies-none rows pid request none all serves =
     reply_none (first (is_of pid) all) request (sym (none_first (is_client pid) rows none) ∙ ap (first (is_client pid)) serves ∙ first_served pid all)
 
+-- a client that left is none
+pub gone : (rows : List ClientRow) (pid : ℕ) → has (is_client pid) (without (is_client pid) rows) ≡ false
+gone [] pid = refl
+gone (row ∷ rows) pid = grind (arith, gone rows pid)
+
+-- a client that joined is one
+pub stands : (rows : List ClientRow) (pid : ℕ) → has (is_client pid) (rows ++ new_row pid ∷ []) ≡ true
+stands rows pid = has-push (is_client pid) rows (new_row pid) (grind (arith, nat_tests))
+
 -- An answer at the place of a client
 module _ {A E : Type 0} (rows : List ClientRow) (pid place : ℕ) (row : ClientRow) (request : Request) (single : AreSingle rows) (at : IsAt rows pid place row) where
   pub single-set : (r : Result A E) (new : ClientRow) → OnOk r (new ≡ after_request row (asked request)) → OnErr r (new ≡ row) → AreSingle (set rows place new)
@@ -135,6 +145,13 @@ module _ {A E : Type 0} (rows : List ClientRow) (pid place : ℕ) (row : ClientR
   pub same-set : (r : Result A E) (new : ClientRow) → OnErr r (new ≡ row) → OnErr r (set rows place new ≡ rows)
   same-set (Ok a) new same = tt
   same-set (Err e) new same = ap (set rows place) same ∙ set-same rows pid place row single at
+
+  -- who is a client stays
+  pub clients-set : (r : Result A E) (new : ClientRow) → OnOk r (new ≡ after_request row (asked request)) → OnErr r (new ≡ row) → (other : ℕ) → has (is_client other) (set rows place new) ≡ has (is_client other) rows
+  clients-set (Ok a) new answered same other =
+      ap (has (is_client other)) (ap (set rows place) answered ∙ set-changed rows pid place row (asked request) single at)
+      ∙ has-change (is_client other) (is_client pid) (λ r. after_request r (asked request)) (λ r. ap (λ (n : ℕ). eqb n other) (same_process r (asked request))) rows
+  clients-set (Err e) new answered same other = ap (has (is_client other)) (ap (set rows place) same ∙ set-same rows pid place row single at)
 
   -- a refusal changes nothing
   pub refused-set : (r : Result A E) (new : ClientRow) (reply : List ℕ) → OnOk r (new ≡ after_request row (asked request)) → OnOk r (reply ≡ reply_of row (asked request)) → OnOk r ((IsGranted reply → ⊥) → set rows place new ≡ rows)

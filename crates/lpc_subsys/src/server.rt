@@ -1,5 +1,5 @@
 // The server: its clients.
-ghost use Rattle.std.specs.Prelude.{◌≡◌, [], true, false, position, OnErr, OnOk};
+ghost use Rattle.std.specs.Prelude.{◌≡◌, ℕ, [], true, false, position, OnErr, OnOk};
 ghost use Rattle.std.specs.Option.{option_copied};
 ghost use Rattle.lpc_base.specs.Rows.{has};
 ghost use Rattle.lpc_subsys.specs.Clients.{Follows, RepliesByOwnRequests, Serves, client_in, is_client, request_in, with_client, with_request, without_client};
@@ -25,7 +25,7 @@ pub struct Server {
 }
 
 impl Model for Server {
-    ghost use Rattle.std.specs.Prelude.{◌≡◌, List, true};
+    ghost use Rattle.std.specs.Prelude.{◌≡◌, ℕ, List, true};
     ghost use Rattle.lpc_base.specs.Rows.{differ_by};
     ghost use Rattle.lpc_subsys.specs.Clients.{ClientRow};
 
@@ -39,7 +39,8 @@ impl Model for Server {
 impl Server {
     /// A server without clients. What it keeps later takes memory from `alloc`.
     pub fn new(alloc: Global) -> Server
-        ensures { Serves result [] }
+        ensures nobody { Serves result [] }
+        ensures no_states { (process : ℕ) → has (is_client process) result ≡ false }
     {
         Server {
             alloc,
@@ -50,22 +51,23 @@ impl Server {
     /// Makes a process a client that has asked for nothing. It is none yet.
     ///
     /// After `OutOfMemory` nothing has changed.
+    #[tactic(auto, using(crate::proofs::Rows::stands))]
     pub fn join(&mut self, process: u32) -> Result<(), OutOfMemory>
         requires { has (is_client process) self.old ≡ false }
         ensures joined { OnOk result (Follows (with_client process) self.old self.new) }
+        ensures stands { OnOk result (has (is_client process) self.new ≡ true) }
         ensures same { OnErr result (self.new ≡ self.old) }
     {
         let client = Client::new(self.alloc, process);
-        match self.clients.push(client) {
-            Ok(()) => Ok(()),
-            Err(_) => Err(OutOfMemory),
-        }
+        self.clients.push(client).map_err(|_| OutOfMemory)?;
+        Ok(())
     }
 
     /// Takes a client away, with all that was kept of it.
     pub fn leave(&mut self, process: u32)
         requires { has (is_client process) self.old ≡ true }
         ensures left { Follows (without_client process) self.old self.new }
+        ensures gone { has (is_client process) self.new ≡ false }
     {
         self.clients.retain(|client| client.process() != process);
     }
@@ -88,6 +90,8 @@ impl Server {
         ensures answered { let request = request_in m.now.now (option_copied view.entry) in
             let process = client_in m.now.now in
             OnOk result (Follows (with_request process request) self.old self.new) }
+        ensures clients { (other : ℕ)
+            → has (is_client other) self.new ≡ has (is_client other) self.old }
         ensures refused { OnOk result (¬ IsGranted reply.new.items → self.new ≡ self.old) }
         ensures same { OnErr result (self.new ≡ self.old) }
         ensures unanswered { OnErr result (reply.new.items ≡ []) }

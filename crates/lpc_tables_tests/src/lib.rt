@@ -21,6 +21,8 @@ mod procs;
 #[cfg(test)]
 mod sections;
 #[cfg(test)]
+mod server;
+#[cfg(test)]
 mod sid;
 #[cfg(test)]
 mod slots;

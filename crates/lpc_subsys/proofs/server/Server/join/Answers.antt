@@ -5,7 +5,7 @@ use Rattle.lpc_subsys.specs.Clients.{ClientRow, is_client}
 use Rattle.lpc_subsys.proofs.Rows.{single-pushed}
 use Rattle.lpc_subsys.proofs.server.Server.join.Goals as goal
 
-pub invariant_of-self : goal.invariant_of-self
-invariant_of-self c =
+pub invariant_of-self-2 : goal.invariant_of-self-2
+invariant_of-self-2 c =
     let new = ap (λ (rows : List ClientRow). has (is_client c.args.process) rows) c.self.view_is ∙ c.requires in
     rw (c.push.ensures.items, c.new-client.ensures) (single-pushed (is_ok c.push.result) c.self.inside.clients.items c.args.process c.self.invariant new)

@@ -1,7 +1,7 @@
 use Rattle.std.proofs.Common.{sym}
 use Rattle.std.specs.Option.{option_copied}
 use Rattle.lpc_subsys.specs.Clients.{request_in}
-use Rattle.lpc_subsys.proofs.Rows.{follows-none, follows-set, found-at, refused-set, replies-none, replies-set, single-set}
+use Rattle.lpc_subsys.proofs.Rows.{clients-set, follows-none, follows-set, found-at, refused-set, replies-none, replies-set, single-set}
 use Rattle.lpc_subsys.proofs.server.Server.turn.Goals as goal
 
 pub invariant_of-self : goal.invariant_of-self
@@ -30,6 +30,13 @@ returns-in-Some-clause-refused c =
     rw (← c.self.view_is)
     (refused-set _ c.client_in-process.result _ _ request c.self.invariant (found-at _ _ _ _ _ c.deref.ensures.value c.in-Some.ensures c.index_mut.ensures.value)
     _ _ _ (rw c.body.ensures.data_bytes at c.answer.ensures.row) (rw c.body.ensures.data_bytes at c.answer.ensures.reply))
+
+pub returns-in-Some-clause-clients : goal.returns-in-Some-clause-clients
+returns-in-Some-clause-clients c =
+    let request = request_in c.args.m.now.now (option_copied c.args.view) in
+    rw (← c.self.view_is)
+    (clients-set _ c.client_in-process.result _ _ request c.self.invariant (found-at _ _ _ _ _ c.deref.ensures.value c.in-Some.ensures c.index_mut.ensures.value)
+    _ _ (rw c.body.ensures.data_bytes at c.answer.ensures.row) c.answer.ensures.same)
 
 pub returns-in-None-clause-reply : goal.returns-in-None-clause-reply
 returns-in-None-clause-reply c =
