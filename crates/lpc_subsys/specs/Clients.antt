@@ -5,7 +5,7 @@ use Rattle.lpc_base.specs.Rows.{change, first, has, without}
 use Rattle.lpc_base.specs.declared.status.TheConstants.{ACCESS_DENIED}
 use Rattle.lpc_message.specs.Layout.{header_of}
 use Rattle.lpc_subsys.specs.Replies.{console_after, level_after, refused, reply_by, reply_to, reply_where, texts_after, with_bytes}
-use Rattle.lpc_subsys.specs.Requests.{Asked, Request, atom_of, reading, setting, telling, text_of, writing}
+use Rattle.lpc_subsys.specs.Requests.{Asked, Request, atom_of, reading, request_of, setting, telling, text_of, writing}
 use Rattle.lpc_subsys.specs.declared.profile.TheConstants.{ATOM_LIMIT, FIRST_LEVEL}
 
 -- the process whose request a message is, and the request
@@ -13,7 +13,7 @@ unfoldable pub client_in : List ℕ → ℕ
 client_in message = (header_of message).client.process
 
 abbrev pub request_in : List ℕ → Option (List ℕ) → Request
-request_in message view = record { data_bytes = drop 24 message; view_bytes = view }
+request_in message view = request_of (drop 24 message) view
 
 -- a client process, and the requests of it that were answered since its state began, the oldest first
 pub record History : Type 0 where

@@ -3,7 +3,7 @@ use Rattle.std.specs.Prelude.{◌≡◌, ◌≤◌, ◌==◌, ◌++◌, ℕ, tru
 use Rattle.lpc_base.specs.Rows.{every, has}
 use Rattle.lpc_subsys.specs.Clients.{ClientRow, History, Serves, after_request, client_of, is_client, is_of, reply_in, reply_of, with_client, with_request, without_client}
 use Rattle.lpc_subsys.specs.Replies.{IsGranted, reply_to}
-use Rattle.lpc_subsys.specs.Requests.{Request, asked}
+use Rattle.lpc_subsys.specs.Requests.{Request, asked, request_of}
 use Rattle.lpc_subsys.specs.declared.profile.TheConstants.{ATOM_LIMIT, CONSOLE_LIMIT, TEXT_LIMIT}
 
 -- a process has a state where it is among the clients for which the server stands
@@ -64,10 +64,10 @@ OthersDontShow = (events : List Event) (process : ℕ) (request : Request)
 
 -- worked replies: the first text's atom; how many bytes stand in the console once 3,000 of the view were put there
 abbrev pub text_request : Request
-text_request = record { data_bytes = 1 ∷ 0 ∷ 0 ∷ 0 ∷ 0x4f ∷ 0x4b ∷ []; view_bytes = None }
+text_request = request_of (1 ∷ 0 ∷ 0 ∷ 0 ∷ 0x4f ∷ 0x4b ∷ []) None
 
 abbrev pub view_request : Request
-view_request = record { data_bytes = 4 ∷ 0 ∷ 0 ∷ 0 ∷ 0 ∷ 0 ∷ 0 ∷ 0 ∷ 0xb8 ∷ 0x0b ∷ 0 ∷ 0 ∷ []; view_bytes = Some (replicate 3000 0x61) }
+view_request = request_of (4 ∷ 0 ∷ 0 ∷ 0 ∷ 0 ∷ 0 ∷ 0 ∷ 0 ∷ 0xb8 ∷ 0x0b ∷ 0 ∷ 0 ∷ []) (Some (replicate 3000 0x61))
 
 pub record WorkedReplies : Type 0 where
   pub text : reply_to [] text_request ≡ 0 ∷ 0 ∷ 0 ∷ 0 ∷ 0 ∷ 0xc0 ∷ 0 ∷ 0 ∷ []

@@ -11,6 +11,9 @@ pub record Request : Type 0 where
   pub data_bytes : List ℕ
   pub view_bytes : Option (List ℕ)
 
+abbrev pub request_of : List ℕ → Option (List ℕ) → Request
+request_of bytes view = record { data_bytes = bytes; view_bytes = view }
+
 -- what a request asks for
 pub data Asked : Type 0 where
   -- the atom of a text; the text of an atom

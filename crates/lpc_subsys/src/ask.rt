@@ -2,7 +2,7 @@
 ghost use Rattle.std.specs.Prelude.{◌≡◌, ◌+◌, ◌≤◌, length, option_map, IfSome};
 ghost use Rattle.std.specs.Option.{option_copied};
 ghost use Rattle.lpc_message.specs.Layout.{word_at};
-ghost use Rattle.lpc_subsys.specs.Requests.{IsInBounds, asked, asked_atom, asked_by, asked_level, asked_of, asked_read, asked_telling, asked_text, asked_view, asked_write, part_of_view};
+ghost use Rattle.lpc_subsys.specs.Requests.{IsInBounds, asked, asked_atom, asked_by, asked_level, asked_of, asked_read, asked_telling, asked_text, asked_view, asked_write, part_of_view, request_of};
 
 use crate::profile::{CONSOLE_LIMIT, LEVEL_LIMIT, READ_LIMIT, TEXT_LIMIT, WRITE_LIMIT};
 use byteorder::{ByteOrder, LittleEndian};
@@ -35,7 +35,12 @@ pub enum Ask<'a> {
     /// That these bytes be put behind those in the console.
     Write(&'a [u8]),
     /// The console's bytes from a place on, so many at most.
-    Read { from: u32, count: u32 },
+    Read {
+        /// The place in the console.
+        from: u32,
+        /// How many bytes, at most.
+        count: u32,
+    },
     /// Another shutdown level.
     SetLevel(u32),
     /// The shutdown level.
@@ -47,7 +52,7 @@ pub enum Ask<'a> {
 #[tactic(auto, unfolding(crate::specs::Requests::asked))]
 pub fn read_ask<'a>(bytes: &'a [u8], view: Option<&'a [u8]>) -> Option<Ask<'a>>
     ensures what { option_map asked_of result
-        ≡ asked (record { data_bytes = bytes.now; view_bytes = option_copied view.entry }) }
+        ≡ asked (request_of bytes.now (option_copied view.entry)) }
     ensures bounds { IfSome result IsInBounds }
 {
     if bytes.len() < API_SIZE {

@@ -2,7 +2,7 @@
 ghost use Rattle.std.specs.Prelude.{◌≡◌, ◌≤◌, [], length, OnErr, OnOk};
 ghost use Rattle.std.specs.Option.{option_copied};
 ghost use Rattle.lpc_subsys.specs.Clients.{after_asked, after_request, new_row, reply_of, reply_of_asked};
-ghost use Rattle.lpc_subsys.specs.Requests.{IsInBounds, asked, asked_of};
+ghost use Rattle.lpc_subsys.specs.Requests.{IsInBounds, asked, asked_of, request_of};
 
 use crate::ask::{Ask, read_ask};
 use crate::atoms::Atoms;
@@ -61,10 +61,10 @@ impl Client {
         reply: &mut Reply,
     ) -> Result<(), OutOfMemory>
         requires { reply.old.items ≡ [] }
-        ensures reply { OnOk result (reply.new.items ≡ reply_of self.old
-            (asked (record { data_bytes = bytes.now; view_bytes = option_copied view.entry }))) }
-        ensures row { OnOk result (self.new ≡ after_request self.old
-            (asked (record { data_bytes = bytes.now; view_bytes = option_copied view.entry }))) }
+        ensures reply { let request = request_of bytes.now (option_copied view.entry) in
+            OnOk result (reply.new.items ≡ reply_of self.old (asked request)) }
+        ensures row { let request = request_of bytes.now (option_copied view.entry) in
+            OnOk result (self.new ≡ after_request self.old (asked request)) }
         ensures same { OnErr result (self.new ≡ self.old) }
         ensures unanswered { OnErr result (reply.new.items ≡ []) }
     {
@@ -81,7 +81,8 @@ impl Client {
     fn answer_ask(&mut self, ask: Ask<'_>, reply: &mut Reply) -> Result<(), OutOfMemory>
         requires empty { reply.old.items ≡ [] }
         requires bounds { IsInBounds ask }
-        ensures reply { OnOk result (reply.new.items ≡ reply_of_asked self.old (asked_of ask.entry)) }
+        ensures reply { OnOk result
+            (reply.new.items ≡ reply_of_asked self.old (asked_of ask.entry)) }
         ensures row { OnOk result (self.new ≡ after_asked self.old (asked_of ask.entry)) }
         ensures same { OnErr result (self.new ≡ self.old) }
         ensures unanswered { OnErr result (reply.new.items ≡ []) }

@@ -33,7 +33,8 @@ impl Model for Server {
 
     ghost view = { λ server. server.clients.items };
 
-    ghost invariant = { λ server. differ_by (λ (row : ClientRow). row.process) server.clients.items ≡ true };
+    ghost invariant = { λ server.
+        differ_by (λ (row : ClientRow). row.process) server.clients.items ≡ true };
 }
 
 impl Server {

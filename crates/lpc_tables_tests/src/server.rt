@@ -1,4 +1,6 @@
 // The resident server's core with ample memory, against replies worked out by hand.
+ghost use Rattle.std.specs.Prelude.{◌≤◌};
+
 use arrayvec::ArrayVec;
 use lpc_message::{ClientId, Header, MessageRef, kind, write_header};
 use lpc_subsys::Server;
