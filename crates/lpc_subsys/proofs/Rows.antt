@@ -8,7 +8,7 @@ use Rattle.lpc_base.proofs.Differ.{IsRowAt, differ-change, differ-push, differ-w
 use Rattle.lpc_base.proofs.Positions.{none_first}
 use Rattle.lpc_base.proofs.RowMaps.{push-map}
 use Rattle.lpc_base.proofs.RowWords.{change-none, has-change, has-push}
-use Rattle.lpc_subsys.specs.Clients.{ClientRow, Follows, History, RepliesByOwnRequests, after_request, client_of, is_client, is_of, new_row, reply_after, reply_of, with_client, with_request, without_client}
+use Rattle.lpc_subsys.specs.Clients.{ClientRow, Follows, History, IsServed, IsSound, RepliesByOwnRequests, after_request, client_of, is_client, is_of, new_row, reply_after, reply_of, with_client, with_request, without_client}
 use Rattle.lpc_subsys.specs.Laws.{ServesClients}
 use Rattle.lpc_subsys.specs.Replies.{IsGranted}
 use Rattle.lpc_subsys.specs.Requests.{Asked, Request, asked, atom_of, reading, setting, telling, text_of, writing}
@@ -61,10 +61,6 @@ change-same test (row ∷ rows) = grind (arith, change-same test rows)
 
 pub set-same : (rows : List ClientRow) (pid place : ℕ) (row : ClientRow) → AreSingle rows → IsAt rows pid place row → set rows place row ≡ rows
 set-same rows pid place row single at = set-change process (λ r. r) rows place pid row single at.here at.own ∙ change-same (is_client pid) rows
-
-pub single-pushed : (b : Bool) (rows : List ClientRow) (pid : ℕ) → AreSingle rows → has (is_client pid) rows ≡ false → AreSingle (cond b (rows ++ new_row pid ∷ []) rows)
-single-pushed true rows pid single new = single-push rows pid single new
-single-pushed false rows pid single new = single
 
 -- What the rows stand for
 first_served : (pid : ℕ) (all : List History) → first (is_client pid) (map client_of all) ≡ option_map client_of (first (is_of pid) all)
@@ -124,15 +120,32 @@ gone (row ∷ rows) pid = grind (arith, gone rows pid)
 pub stands : (rows : List ClientRow) (pid : ℕ) → has (is_client pid) (rows ++ new_row pid ∷ []) ≡ true
 stands rows pid = has-push (is_client pid) rows (new_row pid) (grind (arith, nat_tests))
 
+-- the rows are sound with another client, and without one
+pub sound-pushed : (b : Bool) (rows : List ClientRow) (pid : ℕ) → IsSound rows → has (is_client pid) rows ≡ false → IsSound (cond b (rows ++ new_row pid ∷ []) rows)
+sound-pushed true rows pid sound new = record {
+  single = single-push rows pid sound.single new;
+  served = (with_client pid sound.served.0, follows-join rows pid sound.served.0 sound.served.1);
+}
+sound-pushed false rows pid sound new = sound
+
+pub sound-without : (rows : List ClientRow) (pid : ℕ) → IsSound rows → IsSound (without (is_client pid) rows)
+sound-without rows pid sound = record {
+  single = single-without rows pid sound.single;
+  served = (without_client pid sound.served.0, follows-leave rows pid sound.served.0 sound.served.1);
+}
+
 -- An answer at the place of a client
 module _ {A E : Type 0} (rows : List ClientRow) (pid place : ℕ) (row : ClientRow) (request : Request) (single : AreSingle rows) (at : IsAt rows pid place row) where
-  pub single-set : (r : Result A E) (new : ClientRow) → OnOk r (new ≡ after_request row (asked request)) → OnErr r (new ≡ row) → AreSingle (set rows place new)
-  single-set (Ok a) new answered same =
+  pub sound-set : (r : Result A E) (new : ClientRow) → OnOk r (new ≡ after_request row (asked request)) → OnErr r (new ≡ row) → IsServed rows → IsSound (set rows place new)
+  sound-set (Ok a) new answered same served =
       let is : set rows place new ≡ changed rows pid (asked request) = ap (set rows place) answered ∙ set-changed rows pid place row (asked request) single at in
-      ap (differ_by process) is ∙ single-changed rows pid (asked request) single
-  single-set (Err e) new answered same =
+      record {
+        single = ap (differ_by process) is ∙ single-changed rows pid (asked request) single;
+        served = (with_request pid request served.0, is ∙ follows-changed rows pid request served.0 served.1);
+      }
+  sound-set (Err e) new answered same served =
       let is : set rows place new ≡ rows = ap (set rows place) same ∙ set-same rows pid place row single at in
-      ap (differ_by process) is ∙ single
+      record { single = ap (differ_by process) is ∙ single; served = (served.0, is ∙ served.1) }
 
   pub replies-set : (r : Result A E) (reply : List ℕ) → OnOk r (reply ≡ reply_of row (asked request)) → OnOk r (RepliesByOwnRequests rows pid request reply)
   replies-set (Ok a) reply answered = λ all serves. answered ∙ replies-row rows pid row request at.is_first all serves

@@ -1,7 +1,7 @@
 -- What the server stands for: for each client process, the requests that it has answered.
-use Rattle.std.specs.Prelude.{ℕ, ◌≡◌, ◌==◌, ◌||◌, Bool, List, [], ◌∷◌, ◌++◌, drop, length, map, Option, None, Some, if◌then◌else◌}
+use Rattle.std.specs.Prelude.{ℕ, ◌≡◌, ◌==◌, ◌||◌, Bool, List, [], ◌∷◌, ◌++◌, true, drop, length, map, Option, None, Some, if◌then◌else◌}
 use Rattle.std.specs.Str.{bytes_eq}
-use Rattle.lpc_base.specs.Rows.{change, first, has, without}
+use Rattle.lpc_base.specs.Rows.{change, differ_by, first, has, without}
 use Rattle.lpc_base.specs.declared.status.TheConstants.{ACCESS_DENIED}
 use Rattle.lpc_message.specs.Layout.{header_of}
 use Rattle.lpc_subsys.specs.Replies.{console_after, level_after, refused, reply_by, reply_to, reply_where, texts_after, with_bytes}
@@ -63,6 +63,15 @@ client_of history = record {
 -- what the server keeps stands for these clients and their requests
 abbrev pub Serves : List ClientRow → List History → Type 0
 Serves rows all = rows ≡ map client_of all
+
+-- there are clients and requests for which it stands
+abbrev pub IsServed : List ClientRow → Type 0
+IsServed rows = (all : List History) × Serves rows all
+
+-- what each server keeps: no process has two rows, and the rows stand for clients and their requests
+pub record IsSound (rows : List ClientRow) : Type 0 where
+  pub single : differ_by (λ row. row.process) rows ≡ true
+  pub served : IsServed rows
 
 -- whatever the server stood for, it stands for what is made of that
 abbrev pub Follows : (List History → List History) → List ClientRow → List ClientRow → Type 0

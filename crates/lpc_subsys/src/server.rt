@@ -2,7 +2,7 @@
 ghost use Rattle.std.specs.Prelude.{◌≡◌, ℕ, [], true, false, position, OnErr, OnOk};
 ghost use Rattle.std.specs.Option.{option_copied};
 ghost use Rattle.lpc_base.specs.Rows.{has};
-ghost use Rattle.lpc_subsys.specs.Clients.{Follows, RepliesByOwnRequests, Serves, client_in, is_client, request_in, with_client, with_request, without_client};
+ghost use Rattle.lpc_subsys.specs.Clients.{Follows, IsServed, RepliesByOwnRequests, Serves, client_in, is_client, request_in, with_client, with_request, without_client};
 ghost use Rattle.lpc_subsys.specs.Replies.{IsGranted};
 
 use crate::client::Client;
@@ -16,8 +16,8 @@ use std::marker::Model;
 
 /// A server of clients, each with atoms, a console and a shutdown level of its own.
 ///
-/// A clause sees what is kept of each client, and speaks of the lists of requests, one for each client, that this stands
-/// for: whatever lists these are, a call says what they become, and a reply is told by the list of the one client.
+/// A clause sees what is kept of each client. That always stands for some lists of requests, one for each client; and
+/// whatever lists it stands for, a call says what they become, and a reply is told by the list of the one client.
 #[derive(Drop)]
 pub struct Server {
     alloc: Global,
@@ -25,16 +25,14 @@ pub struct Server {
 }
 
 impl Model for Server {
-    ghost use Rattle.std.specs.Prelude.{◌≡◌, ℕ, List, true};
-    ghost use Rattle.lpc_base.specs.Rows.{differ_by};
-    ghost use Rattle.lpc_subsys.specs.Clients.{ClientRow};
+    ghost use Rattle.std.specs.Prelude.{List};
+    ghost use Rattle.lpc_subsys.specs.Clients.{ClientRow, IsSound};
 
     ghost Value = { List ClientRow };
 
     ghost view = { λ server. server.clients.items };
 
-    ghost invariant = { λ server.
-        differ_by (λ (row : ClientRow). row.process) server.clients.items ≡ true };
+    ghost invariant = { λ server. IsSound server.clients.items };
 }
 
 impl Server {
@@ -85,6 +83,7 @@ impl Server {
         reply: &mut ArrayVec<u8, 232>,
     ) -> Result<(), OutOfMemory>
         requires { reply.old.items ≡ [] }
+        ensures served { IsServed self.old }
         ensures reply { let request = request_in m.now.now (option_copied view.entry) in
             let process = client_in m.now.now in
             OnOk result (RepliesByOwnRequests self.old process request reply.new.items) }

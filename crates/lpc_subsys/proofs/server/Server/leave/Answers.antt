@@ -2,13 +2,13 @@ use Rattle.std.proofs.Common.{rules, ◌∙◌, ◌≡◌}
 use Rattle.std.proofs.lemmas.Fn.{filter_same}
 use Rattle.lpc_base.specs.Rows.{without}
 use Rattle.lpc_subsys.specs.Clients.{is_client}
-use Rattle.lpc_subsys.proofs.Rows.{follows-leave, gone, single-without}
+use Rattle.lpc_subsys.proofs.Rows.{follows-leave, gone, sound-without}
 use Rattle.lpc_subsys.proofs.server.Server.leave.Goals as goal
 
 pub invariant_of-self : goal.invariant_of-self
 invariant_of-self c =
     let is : c.retain.new.self.items ≡ without (is_client c.args.process) c.self.inside.clients.items = filter_same _ _ _ (λ x b q h. search rules) _ _ c.retain.ensures.filtered in
-    rw is (single-without c.self.inside.clients.items c.args.process c.self.invariant)
+    rw is (sound-without c.self.inside.clients.items c.args.process c.self.invariant)
 
 pub returns-clause-left : goal.returns-clause-left
 returns-clause-left c =
