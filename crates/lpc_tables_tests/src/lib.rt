@@ -1,5 +1,5 @@
-//! Tests of the tables and of what stands below them, call by call: what no clause says. They stand in a crate of their
-//! own, so that each crate that they test is proved once.
+//! Tests of the tables, of what stands below them and of the core of a resident server, call by call: what no clause
+//! says. They stand in a crate of their own, so that each crate that they test is proved once.
 #![tactic(auto)]
 
 #[cfg(test)]
