@@ -21,4 +21,6 @@ pub mod Terminates
 pub mod Sections
 pub mod Mappings
 pub mod Memories
+pub mod Described
+pub mod Ranges
 pub mod Instances

@@ -6,3 +6,4 @@ pub mod Calls
 pub mod Lines
 pub mod Bytes
 pub mod ByteLines
+pub mod ViewLines

@@ -11,3 +11,4 @@ pub mod Known
 pub mod Stands
 pub mod Fine
 pub mod Written
+pub mod Mapped

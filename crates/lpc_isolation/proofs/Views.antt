@@ -8,3 +8,4 @@ pub mod Apart
 pub mod Callers
 pub mod Mine
 pub mod Bytes
+pub mod Reads

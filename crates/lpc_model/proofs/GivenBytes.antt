@@ -22,9 +22,9 @@ use Rattle.lpc_model.specs.declared.fault.LineFault.{LineFault}
 use Rattle.lpc_model.specs.declared.fault.LineFault.TheVariants as fault
 use Rattle.lpc_model.specs.Then.{◌>>=◌}
 use Rattle.lpc_model.specs.Message.{bytes_of, message_of}
-use Rattle.lpc_model.specs.Lines.{ScriptCall, ScriptLine, accept_connect_port, reply_port, reply_wait_receive_port, request_port, request_wait_reply_port, run, write_virtual_memory}
+use Rattle.lpc_model.specs.Lines.{ScriptCall, ScriptLine, accept_connect_port, reply_port, reply_wait_receive_port, request_port, request_wait_reply_port, run, write_virtual_memory, read_request_data, write_request_data}
 use Rattle.lpc_model.specs.Words.{begins, split_once, hex_message, hex_or_fault, hex_word, id_word, info_word, message_word, number_word, parts, reply_message, three_parts, words}
-use Rattle.lpc_model.specs.Grammar.{accept_word, access_word, call_line, call_named, call_words, directive_line, directive_named, directive_words, four_words, given_message, handle_and_message, handle_and_reply, is_printable, one_handle, one_or_two_words, one_word, qos_word, read_line, starts_call, process_and_thread, target_and_code, target_and_thread, thread_call, two_words, view_word, words_line, address_and_bytes, four_numbers, two_numbers}
+use Rattle.lpc_model.specs.Grammar.{accept_word, access_word, call_line, call_named, call_words, directive_line, directive_named, directive_words, four_words, given_message, handle_and_message, handle_and_reply, is_printable, one_handle, one_or_two_words, one_word, qos_word, read_line, starts_call, process_and_thread, target_and_code, target_and_thread, thread_call, two_words, view_word, words_line, address_and_bytes, range_words, range_and_bytes, four_numbers, two_numbers}
 use Rattle.lpc_model.specs.Run.{numbered_line, said_from, unless_faulty}
 
 abbrev pub AreBytes : List ℕ → Type 0
@@ -114,6 +114,8 @@ HasBytes (request_wait_reply_port handle bytes) = AreBytes bytes
 HasBytes (reply_port handle bytes) = AreBytes bytes
 HasBytes (reply_wait_receive_port handle (Some bytes)) = AreBytes bytes
 HasBytes (write_virtual_memory address bytes) = AreBytes bytes
+HasBytes (read_request_data handle bytes index n) = AreBytes bytes
+HasBytes (write_request_data handle bytes index new) = AreBytes bytes × AreBytes new
 HasBytes call = Unit {0}
 
 abbrev pub GivesBytes : ScriptLine → Type 0
@@ -148,6 +150,19 @@ written_gives others =
     then_gives (two_words others) _ P (λ two _. then_gives (number_word two.0) _ P (λ address _. then_gives (hex_word two.1) _ P (λ bytes is.
     gives_ok AreBytes (hex_word two.1) bytes (hex_bytes two.1) is)))
 
+range_gives : (others : List (List ℕ)) → Gives (λ range. AreBytes range.1) (range_words others)
+range_gives others =
+    let P : ℕ × List ℕ × ℕ × ℕ → Type 0 = λ range. AreBytes range.1 in
+    then_gives (four_words others) _ P (λ four _. then_gives (number_word four.0) _ P (λ handle _. then_gives (message_word four.1) _ P (λ bytes is.
+    then_gives (number_word four.2) _ P (λ index _. then_gives (number_word four.3) _ P (λ n _. gives_ok AreBytes (message_word four.1) bytes (message_bytes four.1) is)))))
+
+range_bytes_give : (others : List (List ℕ)) → Gives (λ new. AreBytes new.1 × AreBytes new.3) (range_and_bytes others)
+range_bytes_give others =
+    let P : ℕ × List ℕ × ℕ × List ℕ → Type 0 = λ new. AreBytes new.1 × AreBytes new.3 in
+    then_gives (four_words others) _ P (λ four _. then_gives (number_word four.0) _ P (λ handle _. then_gives (message_word four.1) _ P (λ bytes is.
+    then_gives (number_word four.2) _ P (λ index _. then_gives (hex_word four.3) _ P (λ new are.
+    (gives_ok AreBytes (message_word four.1) bytes (message_bytes four.1) is, gives_ok AreBytes (hex_word four.3) new (hex_bytes four.3) are))))))
+
 call_gives : (name : CallName) (others : List (List ℕ)) → Gives HasBytes (call_words name others)
 unfolding call_words
 call_gives call.NtCreatePort others = then_gives (one_word others) _ HasBytes (λ _ _. tt)
@@ -181,6 +196,8 @@ call_gives call.NtMapViewOfSection others = then_gives (four_numbers others) _ H
 call_gives call.NtUnmapViewOfSection others = then_gives (one_handle others) _ HasBytes (λ _ _. tt)
 call_gives call.NtReadVirtualMemory others = then_gives (two_numbers others) _ HasBytes (λ _ _. tt)
 call_gives call.NtWriteVirtualMemory others = then_gives (address_and_bytes others) _ HasBytes (λ two is. gives_ok (λ (two : ℕ × List ℕ). AreBytes two.1) (address_and_bytes others) two (written_gives others) is)
+call_gives call.NtReadRequestData others = then_gives (range_words others) _ HasBytes (λ range is. gives_ok (λ (range : ℕ × List ℕ × ℕ × ℕ). AreBytes range.1) (range_words others) range (range_gives others) is)
+call_gives call.NtWriteRequestData others = then_gives (range_and_bytes others) _ HasBytes (λ new is. gives_ok (λ (new : ℕ × List ℕ × ℕ × List ℕ). AreBytes new.1 × AreBytes new.3) (range_and_bytes others) new (range_bytes_give others) is)
 
 directive_gives : (name : Word) (others : List (List ℕ)) → Gives GivesBytes (directive_words name others)
 unfolding directive_words

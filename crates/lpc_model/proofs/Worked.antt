@@ -5,4 +5,5 @@ pub mod Closings
 pub mod Endings
 pub mod Creations
 pub mod Views
+pub mod Ranges
 pub mod Neighbours

@@ -12,12 +12,13 @@ use Rattle.lpc_names.specs.declared.names.Found.{Found}
 use Rattle.lpc_names.specs.declared.names.Found.TheVariants.{Directory, Item as PortThere}
 use Rattle.lpc_model.specs.declared.entry.Entry.{Entry}
 use Rattle.lpc_model.specs.declared.entry.Entry.TheVariants.{Answer, Busy, Died, Directive, NoThread, Waits, Wakes}
-use Rattle.lpc_model.specs.World.{Birth, PortRow, ProcessRow, UsedThread, ViewRow, ViewTable, World}
-use Rattle.lpc_model.specs.Found.{is_used_thread, same_birth, shows_section, views_of, was_process}
+use Rattle.lpc_model.specs.World.{Birth, PortRow, ProcessRow, ThreadRow, UsedThread, ViewRow, ViewTable, World}
+use Rattle.lpc_model.specs.Found.{is_used_thread, live_thread, same_birth, shows_section, views_of, wait_of, was_process}
 use Rattle.lpc_model.specs.Basics.{Basic, Writes}
-use Rattle.lpc_model.specs.Lines.{ScriptCall, ScriptLine, accept_connect_port, boot, complete_connect_port, connect_port, create_port, dir, link, listen_port, close, duplicate_object, query_object, create_process, create_thread, register_thread_terminate_port, reply_port, reply_wait_receive_port, request_port, request_wait_reply_port, run, terminate_process, terminate_thread, thread, create_section, map_view_of_section, unmap_view_of_section, read_virtual_memory, write_virtual_memory}
+use Rattle.lpc_model.specs.Lines.{ScriptCall, ScriptLine, accept_connect_port, boot, complete_connect_port, connect_port, create_port, dir, link, listen_port, close, duplicate_object, query_object, create_process, create_thread, register_thread_terminate_port, reply_port, reply_wait_receive_port, request_port, request_wait_reply_port, run, terminate_process, terminate_thread, thread, create_section, map_view_of_section, unmap_view_of_section, read_virtual_memory, write_virtual_memory, read_request_data, write_request_data}
 use Rattle.lpc_model.specs.Linked.{passes_or_none}
 use Rattle.lpc_model.specs.Machine.{step, steps}
+use Rattle.lpc_model.specs.Ranges.{Described, described_test}
 use Rattle.lpc_model.specs.Run.{Along, State, first_state, said_in, world_behind}
 
 -- The group
@@ -206,6 +207,8 @@ is_fine_call group w (map_view_of_section handle offset size prot) = true
 is_fine_call group w (unmap_view_of_section address) = true
 is_fine_call group w (read_virtual_memory address n) = true
 is_fine_call group w (write_virtual_memory address new) = true
+is_fine_call group w (read_request_data handle message index n) = names_no_outsider group w message
+is_fine_call group w (write_request_data handle message index new) = names_no_outsider group w message
 
 -- The circle: what c may see of sections
 -- the views are an outsider's, and one of them is of the section; a step writes the section
@@ -229,16 +232,26 @@ is_outer group w (None ∷ later) b = is_outer group w later b
 is_outer group w (Some line ∷ later) b =
     is_outer_at group w line b || is_outer group (step w line).world later b
 
--- c has no view of a section that is outer in the run: at no line, and not behind the last
+-- c has no view of a section that is outer in the run
 abbrev pub is_inner_view : (Birth → Bool) → ViewRow → Bool
 is_inner_view outer v = not (outer v.section)
 
 abbrev pub HasInnerViews : ℕ → (Birth → Bool) → World → Type 0
 HasInnerViews c outer w = every (is_inner_view outer) (views_of w c) ≡ true
 
+-- where a line is an NtReadRequestData of c that is answered with bytes, they are of a section that isn't outer
+abbrev pub ReadsInner : ℕ → (Birth → Bool) → World → ScriptLine → Type 0
+ReadsInner c outer w (run tid (read_request_data handle message index n)) =
+    (by : ThreadRow) (d : Described) → live_thread w tid ≡ Some by → wait_of w tid ≡ None → by.process ≡ c →
+    described_test w by handle message index n ≡ Ok d → outer d.view.section ≡ false
+ReadsInner c outer w line = Unit {0}
+
+-- of a line, and the world before it; and of all lines, and the world behind the last
+abbrev pub IsInnerAt : ℕ → (Birth → Bool) → World → ScriptLine → Type 0
+IsInnerAt c outer w line = HasInnerViews c outer w × ReadsInner c outer w line
+
 abbrev pub SeesInner : ℕ → (Birth → Bool) → State → List (Option ScriptLine) → Type 0
-SeesInner c outer w lines =
-    Along (λ w line. HasInnerViews c outer w) w lines × HasInnerViews c outer (world_behind w lines)
+SeesInner c outer w lines = Along (IsInnerAt c outer) w lines × HasInnerViews c outer (world_behind w lines)
 
 -- where a line is a call of c, it is such a call; directives and other processes may name whom they like
 abbrev pub is_fine_line : Group → ℕ → World → ScriptLine → Bool
@@ -253,7 +266,7 @@ abbrev pub IsFineAt : Group → ℕ → World → ScriptLine → Type 0
 IsFineAt group c w line = IsFineWorld group c w × (is_fine_line group c w line ≡ true)
 
 -- The group is a circle of c in a run of lines from a state on: at each line, and behind the last; and of the sections
--- that are outer in that run, c sees none.
+-- that are outer in that run, c sees none, and reads none through a range that a request describes.
 abbrev pub IsCircle : Group → ℕ → State → List (Option ScriptLine) → Type 0
 IsCircle group c w lines =
     Along (IsFineAt group c) w lines × IsFineWorld group c (world_behind w lines)

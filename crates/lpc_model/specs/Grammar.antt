@@ -6,13 +6,13 @@ use Rattle.std.specs.Option.{ok_or}
 use Rattle.std.specs.Str.{bytes_eq}
 use Rattle.lpc_base.specs.declared.limits.TheConstants.{LINE_LIMIT}
 use Rattle.lpc_model.specs.declared.entry.CallName.{CallName}
-use Rattle.lpc_model.specs.declared.entry.CallName.TheVariants.{NtCreatePort, NtConnectPort, NtListenPort, NtAcceptConnectPort, NtCompleteConnectPort, NtRequestPort, NtRequestWaitReplyPort, NtReplyPort, NtReplyWaitReceivePort, NtRegisterThreadTerminatePort, NtClose, NtDuplicateObject, NtQueryObject, NtCreateProcess, NtCreateThread, NtTerminateProcess, NtTerminateThread, NtCreateSection, NtMapViewOfSection, NtUnmapViewOfSection, NtReadVirtualMemory, NtWriteVirtualMemory}
+use Rattle.lpc_model.specs.declared.entry.CallName.TheVariants.{NtCreatePort, NtConnectPort, NtListenPort, NtAcceptConnectPort, NtCompleteConnectPort, NtRequestPort, NtRequestWaitReplyPort, NtReplyPort, NtReplyWaitReceivePort, NtRegisterThreadTerminatePort, NtClose, NtDuplicateObject, NtQueryObject, NtCreateProcess, NtCreateThread, NtTerminateProcess, NtTerminateThread, NtCreateSection, NtMapViewOfSection, NtUnmapViewOfSection, NtReadVirtualMemory, NtWriteVirtualMemory, NtReadRequestData, NtWriteRequestData}
 use Rattle.lpc_model.specs.declared.entry.Word.{Word}
 use Rattle.lpc_model.specs.declared.entry.Word.TheVariants.{Boot, Thread, Dir, Link}
 use Rattle.lpc_model.specs.declared.line.ProcArg.TheVariants.{By, Current}
 use Rattle.lpc_model.specs.declared.fault.LineFault.{LineFault}
 use Rattle.lpc_model.specs.declared.fault.LineFault.TheVariants as fault
-use Rattle.lpc_model.specs.Lines.{ScriptCall, create_port, connect_port, listen_port, accept_connect_port, complete_connect_port, request_port, request_wait_reply_port, reply_port, reply_wait_receive_port, register_thread_terminate_port, close, duplicate_object, query_object, create_process, create_thread, terminate_process, terminate_thread, create_section, map_view_of_section, unmap_view_of_section, read_virtual_memory, write_virtual_memory, ProcArg, ScriptLine, boot, thread, dir, link, run}
+use Rattle.lpc_model.specs.Lines.{ScriptCall, create_port, connect_port, listen_port, accept_connect_port, complete_connect_port, request_port, request_wait_reply_port, reply_port, reply_wait_receive_port, register_thread_terminate_port, close, duplicate_object, query_object, create_process, create_thread, terminate_process, terminate_thread, create_section, map_view_of_section, unmap_view_of_section, read_virtual_memory, write_virtual_memory, read_request_data, write_request_data, ProcArg, ScriptLine, boot, thread, dir, link, run}
 use Rattle.lpc_model.specs.Words.{fault_if, hex_word, words, begins, number_word, id_word, is_id, message_word, info_word}
 use Rattle.lpc_model.specs.Text.{call_text, word_text}
 use Rattle.lpc_model.specs.Then.{◌>>=◌}
@@ -42,6 +42,8 @@ calls =
     ∷ NtUnmapViewOfSection
     ∷ NtReadVirtualMemory
     ∷ NtWriteVirtualMemory
+    ∷ NtReadRequestData
+    ∷ NtWriteRequestData
     ∷ []
 
 -- the call whose name a word is
@@ -191,6 +193,26 @@ address_and_bytes others = do
   bytes ← hex_word two.1
   Ok (address, bytes)
 
+-- a handle, a message, the number of a range that the message's request describes, and how many of its bytes
+abbrev pub range_words : List (List ℕ) → Result (ℕ × List ℕ × ℕ × ℕ) LineFault
+range_words others = do
+  four ← four_words others
+  handle ← number_word four.0
+  message ← message_word four.1
+  index ← number_word four.2
+  n ← number_word four.3
+  Ok (handle, message, index, n)
+
+-- the same with the bytes that are to stand there
+abbrev pub range_and_bytes : List (List ℕ) → Result (ℕ × List ℕ × ℕ × List ℕ) LineFault
+range_and_bytes others = do
+  four ← four_words others
+  handle ← number_word four.0
+  message ← message_word four.1
+  index ← number_word four.2
+  bytes ← hex_word four.3
+  Ok (handle, message, index, bytes)
+
 -- a call by the words behind its name
 unfoldable pub call_words : CallName → List (List ℕ) → Result ScriptCall LineFault
 call_words NtCreatePort others = do
@@ -268,6 +290,12 @@ call_words NtReadVirtualMemory others = do
 call_words NtWriteVirtualMemory others = do
   new ← address_and_bytes others
   Ok (write_virtual_memory new.0 new.1)
+call_words NtReadRequestData others = do
+  range ← range_words others
+  Ok (read_request_data range.0 range.1 range.2 range.3)
+call_words NtWriteRequestData others = do
+  new ← range_and_bytes others
+  Ok (write_request_data new.0 new.1 new.2 new.3)
 
 -- a directive by the words behind it; a path may be any word
 unfoldable pub directive_words : Word → List (List ℕ) → Result ScriptLine LineFault

@@ -19,6 +19,7 @@ pub mod Targets
 pub mod Creation
 pub mod Death
 pub mod Memory
+pub mod Ranges
 pub mod Sweep
 pub mod Machine
 pub mod Text
@@ -52,4 +53,5 @@ pub mod WorkedClosings
 pub mod WorkedEndings
 pub mod WorkedCreations
 pub mod WorkedViews
+pub mod WorkedRanges
 pub mod WorkedNeighbours

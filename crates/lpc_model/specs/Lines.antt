@@ -32,6 +32,8 @@ pub data ScriptCall : Type 0 where
   unmap_view_of_section : ℕ → ScriptCall
   read_virtual_memory : ℕ → ℕ → ScriptCall
   write_virtual_memory : ℕ → List ℕ → ScriptCall
+  read_request_data : ℕ → List ℕ → ℕ → ℕ → ScriptCall
+  write_request_data : ℕ → List ℕ → ℕ → List ℕ → ScriptCall
 
 -- a directive, or a call of a thread; a path is its bytes
 pub data ScriptLine : Type 0 where
@@ -65,6 +67,8 @@ call_of (call.MapViewOfSection handle offset size protection) = map_view_of_sect
 call_of (call.UnmapViewOfSection address) = unmap_view_of_section address
 call_of (call.ReadVirtualMemory address length) = read_virtual_memory address length
 call_of (call.WriteVirtualMemory address bytes) = write_virtual_memory address bytes.now
+call_of (call.ReadRequestData handle message index length) = read_request_data handle message.now index length
+call_of (call.WriteRequestData handle message index bytes) = write_request_data handle message.now index bytes.now
 
 abbrev pub line_of : Line → ScriptLine
 line_of (line.Boot pid tid) = boot pid tid

@@ -6,7 +6,7 @@ use Rattle.lpc_model.specs.declared.entry.Entry.{Entry}
 use Rattle.lpc_model.specs.declared.entry.Entry.TheVariants.{Answer, Busy, Directive, NoThread}
 use Rattle.lpc_model.specs.declared.entry.Word.{Word}
 use Rattle.lpc_model.specs.declared.entry.Word.TheVariants as word
-use Rattle.lpc_model.specs.declared.entry.CallName.TheVariants.{NtAcceptConnectPort, NtCompleteConnectPort, NtConnectPort, NtCreatePort, NtListenPort, NtReplyPort, NtReplyWaitReceivePort, NtRequestPort, NtRequestWaitReplyPort, NtRegisterThreadTerminatePort, NtClose, NtDuplicateObject, NtQueryObject, NtCreateProcess, NtCreateThread, NtTerminateProcess, NtTerminateThread, NtCreateSection, NtMapViewOfSection, NtUnmapViewOfSection, NtReadVirtualMemory, NtWriteVirtualMemory}
+use Rattle.lpc_model.specs.declared.entry.CallName.TheVariants.{NtAcceptConnectPort, NtCompleteConnectPort, NtConnectPort, NtCreatePort, NtListenPort, NtReplyPort, NtReplyWaitReceivePort, NtRequestPort, NtRequestWaitReplyPort, NtRegisterThreadTerminatePort, NtClose, NtDuplicateObject, NtQueryObject, NtCreateProcess, NtCreateThread, NtTerminateProcess, NtTerminateThread, NtCreateSection, NtMapViewOfSection, NtUnmapViewOfSection, NtReadVirtualMemory, NtWriteVirtualMemory, NtReadRequestData, NtWriteRequestData}
 use Rattle.lpc_model.specs.Then.{◌>>=◌}
 use Rattle.lpc_model.specs.World.{World, Birth, CallName, MessageRow, ThreadRow, WaitRow}
 use Rattle.lpc_model.specs.Found.{live_thread, wait_of}
@@ -16,6 +16,7 @@ use Rattle.lpc_model.specs.Connect.{nt_accept_connect_port, nt_complete_connect_
 use Rattle.lpc_model.specs.Close.{nt_close}
 use Rattle.lpc_model.specs.Counts.{nt_duplicate_object, nt_query_object}
 use Rattle.lpc_model.specs.Memory.{nt_create_section, nt_map_view_of_section, nt_read_virtual_memory, nt_unmap_view_of_section, nt_write_virtual_memory}
+use Rattle.lpc_model.specs.Ranges.{nt_read_request_data, nt_write_request_data}
 use Rattle.lpc_model.specs.Register.{nt_register_thread_terminate_port}
 use Rattle.lpc_model.specs.Death.{nt_terminate_process, nt_terminate_thread}
 pub use Rattle.lpc_model.specs.Creation.{new_process, new_thread, thread_count_test, thread_test, unused_test, unused_thread_test}
@@ -25,7 +26,7 @@ use Rattle.lpc_model.specs.Named.{free_name, spelled_name}
 use Rattle.lpc_names.specs.Walk.{LinkTo, Stands}
 use Rattle.lpc_names.specs.declared.names.Found.TheVariants.{Directory}
 use Rattle.lpc_model.specs.Request.{nt_reply_port, nt_reply_wait_receive_port, nt_request_port, nt_request_wait_reply_port}
-use Rattle.lpc_model.specs.Lines.{ScriptCall, create_port, connect_port, listen_port, accept_connect_port, complete_connect_port, request_port, request_wait_reply_port, reply_port, reply_wait_receive_port, register_thread_terminate_port, close, duplicate_object, query_object, create_process, create_thread, terminate_process, terminate_thread, create_section, map_view_of_section, unmap_view_of_section, read_virtual_memory, write_virtual_memory, ScriptLine, boot, thread, dir, link, run}
+use Rattle.lpc_model.specs.Lines.{ScriptCall, create_port, connect_port, listen_port, accept_connect_port, complete_connect_port, request_port, request_wait_reply_port, reply_port, reply_wait_receive_port, register_thread_terminate_port, close, duplicate_object, query_object, create_process, create_thread, terminate_process, terminate_thread, create_section, map_view_of_section, unmap_view_of_section, read_virtual_memory, write_virtual_memory, read_request_data, write_request_data, ScriptLine, boot, thread, dir, link, run}
 
 -- the name of a call
 abbrev pub name_of_call : ScriptCall → CallName
@@ -51,6 +52,8 @@ name_of_call (map_view_of_section handle offset size prot) = NtMapViewOfSection
 name_of_call (unmap_view_of_section address) = NtUnmapViewOfSection
 name_of_call (read_virtual_memory address n) = NtReadVirtualMemory
 name_of_call (write_virtual_memory address new) = NtWriteVirtualMemory
+name_of_call (read_request_data handle message index n) = NtReadRequestData
+name_of_call (write_request_data handle message index new) = NtWriteRequestData
 
 -- the service that serves a call
 abbrev pub service_of : World → ThreadRow → ScriptCall → Result (List Basic) Status
@@ -76,6 +79,8 @@ service_of w by (map_view_of_section handle offset size prot) = nt_map_view_of_s
 service_of w by (unmap_view_of_section address) = nt_unmap_view_of_section w by address
 service_of w by (read_virtual_memory address n) = nt_read_virtual_memory w by address n
 service_of w by (write_virtual_memory address new) = nt_write_virtual_memory w by address new
+service_of w by (read_request_data handle message index n) = nt_read_request_data w by handle message index n
+service_of w by (write_request_data handle message index new) = nt_write_request_data w by handle message index new
 
 -- a refusal is one answer, and changes nothing
 abbrev pub settled : ThreadRow → CallName → Result (List Basic) Status → List Basic

@@ -37,11 +37,13 @@ pub enum CallName {
     NtUnmapViewOfSection,
     NtReadVirtualMemory,
     NtWriteVirtualMemory,
+    NtReadRequestData,
+    NtWriteRequestData,
 }
 
 impl CallName {
     /// Each call, in the order in which the grammar lists them.
-    pub const ALL: [CallName; 22] = [
+    pub const ALL: [CallName; 24] = [
         CallName::NtCreatePort,
         CallName::NtConnectPort,
         CallName::NtListenPort,
@@ -64,6 +66,8 @@ impl CallName {
         CallName::NtUnmapViewOfSection,
         CallName::NtReadVirtualMemory,
         CallName::NtWriteVirtualMemory,
+        CallName::NtReadRequestData,
+        CallName::NtWriteRequestData,
     ];
 
     /// The name of the call, as scripts and transcripts spell it.
@@ -93,6 +97,8 @@ impl CallName {
             CallName::NtUnmapViewOfSection => b"NtUnmapViewOfSection",
             CallName::NtReadVirtualMemory => b"NtReadVirtualMemory",
             CallName::NtWriteVirtualMemory => b"NtWriteVirtualMemory",
+            CallName::NtReadRequestData => b"NtReadRequestData",
+            CallName::NtWriteRequestData => b"NtWriteRequestData",
         }
     }
 }

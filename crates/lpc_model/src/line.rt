@@ -126,6 +126,21 @@ pub enum Call<'a> {
         address: u32,
         bytes: &'a [u8],
     },
+    /// `NtReadRequestData H MSG INDEX LEN`: reads bytes of the client's process, from the beginning of the range of
+    /// that number that the request describes which the message names.
+    ReadRequestData {
+        handle: u32,
+        message: &'a [u8],
+        index: u32,
+        length: u32,
+    },
+    /// `NtWriteRequestData H MSG INDEX HEX`: writes bytes of the client's process, from the beginning of such a range.
+    WriteRequestData {
+        handle: u32,
+        message: &'a [u8],
+        index: u32,
+        bytes: &'a [u8],
+    },
 }
 
 /// What one line of a script says. Process and thread numbers are from 1 to 2147483647. A path is a word as it stands;

@@ -1,11 +1,12 @@
 -- What calls come to in the machine whose rows never go, each with its steps and what its tests found. What holds of each deed
 -- holds of each call that is served.
+use Rattle.lpc_model.specs.Ranges.{Described, described_test, read_range_steps, write_range_steps}
 use Rattle.lpc_base.specs.Views.{whole_pages}
 use Rattle.lpc_base.specs.declared.limits.TheConstants.{SECTION_LIMIT}
 use Rattle.lpc_model.specs.Refusal.{refuse_if}
 use Rattle.lpc_model.specs.Register.{is_registered, register_steps}
 use Rattle.lpc_model.specs.Counts.{asked, counts_of, duplicate_steps}
-use Rattle.lpc_model.specs.declared.entry.CallName.TheVariants.{NtDuplicateObject, NtMapViewOfSection, NtQueryObject, NtReadVirtualMemory, NtRegisterThreadTerminatePort, NtUnmapViewOfSection, NtWriteVirtualMemory}
+use Rattle.lpc_model.specs.declared.entry.CallName.TheVariants.{NtDuplicateObject, NtMapViewOfSection, NtQueryObject, NtReadVirtualMemory, NtRegisterThreadTerminatePort, NtUnmapViewOfSection, NtWriteVirtualMemory, NtReadRequestData, NtWriteRequestData}
 use Rattle.lpc_model.specs.Memory.{map_steps, mapped_view, memory_test, read_steps, section_steps, section_test, mapping_right, unmap_steps, write_steps, protection_test, is_transfer}
 use Rattle.lpc_model.proofs.Calls.Outcomes.{IsMapping}
 use Rattle.lpc_base.specs.Rows.{first, when}
@@ -20,7 +21,7 @@ use Rattle.lpc_model.specs.Basics.{AddsHandle, Basic, DrawsIdentifier, Maps, Reg
 use Rattle.lpc_model.specs.Close.{close_steps}
 use Rattle.lpc_model.specs.Connect.{Completable, ConnectAnswer, accept_steps, answer_test, complete_steps, complete_test, connect_steps, connection_request, create_steps, listen_steps, named_steps, refuse_steps, unnamed_steps}
 use Rattle.lpc_model.specs.Found.{free_handle, handle_at, is_queued, is_queued_connect, view_holding}
-use Rattle.lpc_model.specs.Lines.{ScriptCall, accept_connect_port, close, complete_connect_port, connect_port, create_port, create_process, create_thread, listen_port, query_object, reply_port, reply_wait_receive_port, request_port, request_wait_reply_port, terminate_process, terminate_thread, duplicate_object, register_thread_terminate_port, create_section, map_view_of_section, unmap_view_of_section, read_virtual_memory, write_virtual_memory}
+use Rattle.lpc_model.specs.Lines.{ScriptCall, accept_connect_port, close, complete_connect_port, connect_port, create_port, create_process, create_thread, listen_port, query_object, reply_port, reply_wait_receive_port, request_port, request_wait_reply_port, terminate_process, terminate_thread, duplicate_object, register_thread_terminate_port, create_section, map_view_of_section, unmap_view_of_section, read_virtual_memory, write_virtual_memory, read_request_data, write_request_data}
 use Rattle.lpc_model.specs.Message.{message_test}
 use Rattle.lpc_model.specs.Named.{free_name, named_port}
 use Rattle.lpc_model.specs.Request.{Sendable, datagram_send_test, datagram_steps, receive_steps, reply_steps, reply_test, request_steps, send_test, sent_by}
@@ -33,7 +34,7 @@ use Rattle.lpc_model.specs.declared.message.Message.{Message}
 use Rattle.std.proofs.Common.{Bool, List, None, Option, Some, [], false, refl, true, ℕ, ◌∷◌, ◌≡◌, not, subst}
 use Rattle.std.specs.Prelude.{Ok, length, ◌==◌, nat_lt}
 
--- Tame calls: they tell an answer, and change rows of their own process alone, or bytes that its views show
+-- Tame calls: they tell an answer, and change rows of their own process alone, or bytes that views show
 -- a step of such a call: a further handle to an object that a handle of the process names, a port registered that one names, a number drawn;
 -- a view of a section that such a handle names, a view of the process that goes, bytes of a section written
 pub data IsTame (w : World) (by : ThreadRow) : Basic → Type 0 where
@@ -69,6 +70,8 @@ is_tame (map_view_of_section handle offset size prot) = true
 is_tame (unmap_view_of_section address) = true
 is_tame (read_virtual_memory address n) = true
 is_tame (write_virtual_memory address new) = true
+is_tame (read_request_data handle bytes index n) = true
+is_tame (write_request_data handle bytes index new) = true
 is_tame call = false
 
 pub ends-some : (call : EndCall) → spares (end_call call) ≡ false
@@ -84,6 +87,8 @@ pub record Tames (w : World) (by : ThreadRow) (P : ScriptCall → List Basic →
   pub of_unmap : (address : ℕ) (v : ViewRow) → view_holding w by.process address 1 ≡ Some v → P (unmap_view_of_section address) (unmap_steps by v)
   pub of_read : (address n : ℕ) (v : ViewRow) → memory_test w by address n ≡ Ok v → P (read_virtual_memory address n) (read_steps w.contents by address n v)
   pub of_write : (address : ℕ) (new : List ℕ) (v : ViewRow) → memory_test w by address (length new) ≡ Ok v → v.writable ≡ true → P (write_virtual_memory address new) (write_steps by address new v)
+  pub of_read_range : (handle : ℕ) (bytes : List ℕ) (index n : ℕ) (d : Described) → described_test w by handle bytes index n ≡ Ok d → P (read_request_data handle bytes index n) (read_range_steps w.contents by n d)
+  pub of_write_range : (handle : ℕ) (bytes : List ℕ) (index : ℕ) (new : List ℕ) (d : Described) → described_test w by handle bytes index (length new) ≡ Ok d → d.view.writable ≡ true → P (write_request_data handle bytes index new) (write_range_steps by new d)
 
 -- the view in which the bytes of a call lie
 pub memory-held : (w : World) (by : ThreadRow) (address n : ℕ) → Holds (λ v. view_holding w by.process address n ≡ Some v) (memory_test w by address n)
@@ -101,6 +106,8 @@ any-tame {w} {by} {P} all = record {
   of_unmap = λ address v at. all (unmap_view_of_section address) NtUnmapViewOfSection [] _ refl (more (unmaps v.base) none);
   of_read = λ address n v at. all (read_virtual_memory address n) NtReadVirtualMemory _ [] refl none;
   of_write = λ address new v at may. all (write_virtual_memory address new) NtWriteVirtualMemory [] _ refl (more (writes _ _ _) none);
+  of_read_range = λ handle bytes index n d at. all (read_request_data handle bytes index n) NtReadRequestData _ [] refl none;
+  of_write_range = λ handle bytes index new d at may. all (write_request_data handle bytes index new) NtWriteRequestData [] _ refl (more (writes _ _ _) none);
 }
   where
     at_most : (handle : ℕ) (port : PortRow) → port_test w by handle ≡ Ok port → (new : Bool) → AreTame w by (when new (Registers by.number port.birth ∷ []))
@@ -173,6 +180,8 @@ module _ (w : World) (by : ThreadRow) (P : ScriptCall → List Basic → Type 0)
     unmaps_view = λ address v at _. d.tames.of_unmap address v at;
     reads_memory = λ address n v at _. d.tames.of_read address n v at;
     writes_memory = λ address new v at may _. d.tames.of_write address new v at may;
+    reads_range = λ handle bytes index n x at _. d.tames.of_read_range handle bytes index n x at;
+    writes_range = λ handle bytes index new x at may _. d.tames.of_write_range handle bytes index new x at may;
     ends = λ call name own pid code ts doomed _. d.ends call name own pid code ts doomed;
   }
 

@@ -19,7 +19,7 @@ use Rattle.lpc_model.proofs.Calls.Holding.{Holds}
 use Rattle.lpc_isolation.proofs.Gone.Served.{served}
 use Rattle.lpc_isolation.proofs.Views.Alone.{HasFineRows}
 use Rattle.lpc_isolation.proofs.Views.View.{view}
-use Rattle.lpc_isolation.proofs.Views.Bytes.{Right}
+use Rattle.lpc_isolation.proofs.Views.Reads.{Reads}
 use Rattle.lpc_isolation.proofs.Rows.Fair.{are_fair}
 use Rattle.lpc_isolation.proofs.Views.Apart.{Owned, are_apart}
 use Rattle.lpc_isolation.proofs.Views.Callers.{Answered, Led}
@@ -97,7 +97,7 @@ pub record Lawful (call : ScriptCall) : Type 0 where
   -- of an outsider: the view loses only waits whose wakes are told
   pub apart : (m : Group) (c : ℕ) (d : Whose) (w : World) (by : ThreadRow) (known : List ℕ → Birth) → At m c w by known → m by.process ≡ false → Holds (λ bs. HasFineRows m c (world_after w bs) → are_apart m c (world_after w bs) d w bs ≡ true) (served w by call)
   -- of c: the view answers as the world does, and changes as it does
-  pub own : (m : Group) (c : ℕ) (d : Whose) (w : World) (by : ThreadRow) (known : List ℕ → Birth) (k : Contents) → At m c w by known → by.process ≡ c → is_fine_call m w call ≡ true → Right c k w → Answered (λ bs led. HasFineRows m c (world_after w bs) → Led m c (world_after w bs) d w bs led) (served w by call) (served (seeing k (view m w) call) by call)
+  pub own : (m : Group) (c : ℕ) (d : Whose) (w : World) (by : ThreadRow) (known : List ℕ → Birth) (k : Contents) → At m c w by known → by.process ≡ c → is_fine_call m w call ≡ true → Reads m c k w by call → Answered (λ bs led. HasFineRows m c (world_after w bs) → Led m c (world_after w bs) d w bs led) (served w by call) (served (seeing k (view m w) call) by call)
   -- of another member: the view and what c is told follow from the view and the member's own answer
   pub leads : (m : Group) (c : ℕ) (d : Whose) (w : World) (by : ThreadRow) (known : List ℕ → Birth) → At m c w by known → m by.process ≡ true → (by.process == c) ≡ false → Holds (λ bs. HasFineRows m c (world_after w bs) → Leading m c (world_after w bs) d w by known call bs) (served w by call)
   -- what is remembered of outsiders' connects stays right, by the wakes of an outsider's call and by a member's answer

@@ -12,7 +12,7 @@ use Rattle.lpc_model.specs.declared.entry.Entry.TheVariants as entry
 use Rattle.lpc_model.specs.World.{Contents, ThreadRow, WaitRow, World}
 use Rattle.lpc_model.specs.Found.{live_thread, wait_of, waits_as}
 use Rattle.lpc_model.specs.Basics.{Accepts, AddsHandle, AddsProcess, AddsSection, AddsThread, Awaits, Basic, Binds, Completes, Cuts, DrawsIdentifier, DrawsOrdinal, DropsHandle, DropsViewsOf, Empties, Enters, Frees, Joins, Makes, Maps, Receives, Takes, TakesConnect, Tells, Unbinds, Unmaps, Wakes, Withdraws, Writes, entries_of, world_after, told, Dies, Registers, Unregisters}
-use Rattle.lpc_model.specs.Lines.{ScriptCall, run, read_virtual_memory}
+use Rattle.lpc_model.specs.Lines.{ScriptCall, run, read_virtual_memory, read_request_data}
 use Rattle.lpc_model.specs.Machine.{name_of_call, settled, bare_steps}
 use Rattle.lpc_isolation.proofs.Gone.Served.{served, served_step, served_steps}
 use Rattle.lpc_model.proofs.Calls.Holding.{Holds, holds_ok}
@@ -45,10 +45,12 @@ pub record Begins (w : World) (tid : ℕ) (bs : List Basic) : Type 0 where
 -- bytes are no matter for who lives and waits
 seeing-live : (k : Contents) (v : World) (tid : ℕ) (call : ScriptCall) → live_thread (seeing k v call) tid ≡ live_thread v tid
 seeing-live k v tid (read_virtual_memory address n) = refl
+seeing-live k v tid (read_request_data handle bytes index n) = refl
 seeing-live k v tid call = refl
 
 seeing-wait : (k : Contents) (v : World) (tid : ℕ) (call : ScriptCall) → wait_of (seeing k v call) tid ≡ wait_of v tid
 seeing-wait k v tid (read_virtual_memory address n) = refl
+seeing-wait k v tid (read_request_data handle bytes index n) = refl
 seeing-wait k v tid call = refl
 
 -- what a service owes to the call of a thread that waits for nothing

@@ -1,4 +1,5 @@
 -- What each call owes the law, and that each does so. A further call adds its tests here, its deeds to each law.
+use Rattle.lpc_isolation.proofs.Each.Ranges.{read_range-calm, write_range-calm}
 use Rattle.lpc_isolation.proofs.Each.Memories.{read-calm, write-calm}
 use Rattle.lpc_isolation.proofs.Each.Mappings.{map-calm, unmap-calm}
 use Rattle.lpc_isolation.proofs.Each.Sections.{section-calm}
@@ -20,7 +21,7 @@ use Rattle.std.proofs.Common.{refl, subst, sym, None, Some}
 use Rattle.lpc_base.specs.declared.status.Status.{Status}
 use Rattle.lpc_model.specs.World.{Birth, Contents, ThreadRow, World}
 use Rattle.lpc_model.specs.Basics.{Basic, world_after}
-use Rattle.lpc_model.specs.Lines.{ScriptCall, accept_connect_port, close, complete_connect_port, connect_port, create_port, duplicate_object, listen_port, query_object, reply_port, reply_wait_receive_port, request_port, request_wait_reply_port, register_thread_terminate_port, create_process, create_thread, terminate_thread, terminate_process, create_section, map_view_of_section, unmap_view_of_section, read_virtual_memory, write_virtual_memory}
+use Rattle.lpc_model.specs.Lines.{ScriptCall, accept_connect_port, close, complete_connect_port, connect_port, create_port, duplicate_object, listen_port, query_object, reply_port, reply_wait_receive_port, request_port, request_wait_reply_port, register_thread_terminate_port, create_process, create_thread, terminate_thread, terminate_process, create_section, map_view_of_section, unmap_view_of_section, read_virtual_memory, write_virtual_memory, read_request_data, write_request_data}
 use Rattle.lpc_model.specs.Death.{code_status}
 use Rattle.lpc_isolation.proofs.Gone.Served.{served}
 use Rattle.lpc_model.specs.Circle.{Group, is_fine_call}
@@ -28,7 +29,7 @@ use Rattle.lpc_model.proofs.Calls.Holding.{Holds, holds-more, holds_any}
 use Rattle.lpc_base.specs.Rows.{every}
 use Rattle.lpc_isolation.proofs.Views.Alone.{HasFineRows}
 use Rattle.lpc_isolation.proofs.Views.View.{view}
-use Rattle.lpc_isolation.proofs.Views.Bytes.{Right}
+use Rattle.lpc_isolation.proofs.Views.Reads.{Reads}
 use Rattle.lpc_isolation.proofs.Views.Apart.{are_apart}
 use Rattle.lpc_isolation.proofs.Calls.Serves.{is_call_of}
 use Rattle.lpc_isolation.proofs.Calls.Lines.{Begins, Serves, begins-of, settle, settle-own}
@@ -192,16 +193,18 @@ lawful (map_view_of_section handle offset size prot) = calm refl (map-calm handl
 lawful (unmap_view_of_section address) = calm refl (unmap-calm address)
 lawful (read_virtual_memory address n) = calm refl (read-calm address n)
 lawful (write_virtual_memory address new) = calm refl (write-calm address new)
+lawful (read_request_data handle bytes index n) = calm refl (read_range-calm handle bytes index n)
+lawful (write_request_data handle bytes index new) = calm refl (write_range-calm handle bytes index new)
 lawful (create_process pid tid) = process-lawful pid tid
 lawful (create_thread target tid) = thread-lawful target tid
 lawful (terminate_thread target code) = calm refl (ends-calm (terminate_thread target code) (code_status code) (thread-ends-it target code))
 lawful (terminate_process target code) = calm refl (ends-calm (terminate_process target code) (code_status code) (process-ends-it target code))
 
 -- all that a call owes
-pub serves : (m : Group) (c : ℕ) (w : World) (by : ThreadRow) (known : List ℕ → Birth) (call : ScriptCall) (k : Contents) → At m c w by known → (by.process ≡ c → is_fine_call m w call ≡ true) → Right c k w → Serves (leading m known k) m c w by call
-serves m c w by known call k a fine right = record {
+pub serves : (m : Group) (c : ℕ) (w : World) (by : ThreadRow) (known : List ℕ → Birth) (call : ScriptCall) (k : Contents) → At m c w by known → (by.process ≡ c → is_fine_call m w call ≡ true) → (by.process ≡ c → Reads m c k w by call) → Serves (leading m known k) m c w by call
+serves m c w by known call k a fine reads = record {
   apart = λ d out. (lawful call).apart m c d w by known a out;
-  own = λ d mine. (lawful call).own m c d w by known k a mine (fine mine) right;
+  own = λ d mine. (lawful call).own m c d w by known k a mine (fine mine) (reads mine);
   leads = λ d by_in other. (lawful call).leads m c d w by known a by_in other;
   begins = (lawful call).begins m c w by known a;
   refuses = λ s is. subst Refuses is ((lawful call).refuses w by);

@@ -10,7 +10,7 @@ use Rattle.lpc_model.specs.Found.{free_handle, live_thread, wait_of, view_holdin
 use Rattle.lpc_model.specs.Basics.{Basic, world_after}
 use Rattle.lpc_model.specs.Connect.{ConnectAnswer, answer_test}
 use Rattle.lpc_model.specs.Tests.{own_handle, port_test}
-use Rattle.lpc_model.specs.Lines.{ScriptCall, accept_connect_port, close, complete_connect_port, connect_port, create_port, duplicate_object, listen_port, query_object, reply_port, reply_wait_receive_port, request_port, request_wait_reply_port, register_thread_terminate_port, create_process, create_thread, terminate_thread, terminate_process, create_section, map_view_of_section, unmap_view_of_section, read_virtual_memory, write_virtual_memory}
+use Rattle.lpc_model.specs.Lines.{ScriptCall, accept_connect_port, close, complete_connect_port, connect_port, create_port, duplicate_object, listen_port, query_object, reply_port, reply_wait_receive_port, request_port, request_wait_reply_port, register_thread_terminate_port, create_process, create_thread, terminate_thread, terminate_process, create_section, map_view_of_section, unmap_view_of_section, read_virtual_memory, write_virtual_memory, read_request_data, write_request_data}
 use Rattle.lpc_model.specs.Close.{close_steps}
 use Rattle.lpc_model.specs.Counts.{asked, duplicate_steps}
 use Rattle.lpc_model.specs.Death.{terminate_thread_steps, code_status, terminate_process_steps}
@@ -94,6 +94,8 @@ leads_by m known v by (map_view_of_section handle offset size prot) e = led_map 
 leads_by m known v by (unmap_view_of_section address) e = led_unmap v by address
 leads_by m known v by (read_virtual_memory address n) e = []
 leads_by m known v by (write_virtual_memory address new) e = []
+leads_by m known v by (read_request_data handle bytes index n) e = []
+leads_by m known v by (write_request_data handle bytes index new) e = []
 leads_by m known v by (terminate_thread target code) e = led_end v by target code
 leads_by m known v by (terminate_process target code) e = led_ends v by target code
 

@@ -62,6 +62,9 @@ held-of (Known rows) b = at (first (is_content b) rows)
     at None = refl
     at (Some c) = refl
 
+pub same-content : (k w : Contents) (b : Birth) → held_bytes k b ≡ held_bytes w b → content_of k b ≡ content_of w b
+same-content k w b same = held-of k b ∙ ap bytes_held same ∙ sym (held-of w b)
+
 -- a read is answered by the bytes that are known
 same-read : (m : Group) (c : ℕ) (w : World) (by : ThreadRow) (k : Contents) (address n : ℕ) → Fair m c w → m c ≡ true → by.process ≡ c → Right c k w → nt_read_virtual_memory (record (view m w) { contents = k }) by address n ≡ nt_read_virtual_memory w by address n
 unfolding nt_read_virtual_memory
@@ -70,7 +73,7 @@ same-read m c w by k address n f c_in mine right =
     ∙ bind-same (memory_test w by address n) _ _ (λ v at.
     let held : view_holding w by.process address n ≡ Some v = holds_ok (λ v. view_holding w by.process address n ≡ Some v) (memory_test w by address n) v (memory-held w by address n) at in
     let bytes : content_of k v.section ≡ content_of w.contents v.section
-    = held-of k v.section ∙ ap bytes_held (right (holds_range address n) v (subst (λ pid. view_holding w pid address n ≡ Some v) mine held)) ∙ sym (held-of w.contents v.section) in
+    = same-content k w.contents v.section (right (holds_range address n) v (subst (λ pid. view_holding w pid address n ≡ Some v) mine held)) in
     rw bytes refl)
 
 -- Refusals
@@ -86,7 +89,7 @@ unfolding nt_write_virtual_memory
 refuses-write w by address new = bind (memory_test w by address (length new)) _ (memory-refuses w by address (length new)) (λ v. bind (refuse_if (not v.writable) ACCESS_VIOLATION) _ (if_refuses (not v.writable) ACCESS_VIOLATION refl) (λ _. tt))
 
 -- Where rows have gone
-content-thin : (k : Alive) (b : Birth) (c : Contents) → k.sections b ≡ true → content_of (in_known (which (content_alive k)) c) b ≡ content_of c b
+pub content-thin : (k : Alive) (b : Birth) (c : Contents) → k.sections b ≡ true → content_of (in_known (which (content_alive k)) c) b ≡ content_of c b
 content-thin k b Unknown live = refl
 content-thin k b (Known rows) live = ap bytes_in (first-inside (content_alive k) (is_content b) (λ c is. ap k.sections (birth-same c.section b is) ∙ live) rows)
 
@@ -104,13 +107,13 @@ alike-write k u by address new = refl
 pub read-calm : (address n : ℕ) → Calm (read_virtual_memory address n)
 read-calm address n = record {
   refuses = λ w by. refuses-read w by address n;
-  members = answers_alike refl (λ m c w by known k a mine fine right. same-read m c w by k address n a.fair a.c_in mine right);
+  members = answers_alike refl (λ m c w by known k a mine fine reads. same-read m c w by k address n a.fair a.c_in mine reads.views);
   alike = λ k u by live c. alike-read k u by address n c;
 }
 
 pub write-calm : (address : ℕ) (new : List ℕ) → Calm (write_virtual_memory address new)
 write-calm address new = record {
   refuses = λ w by. refuses-write w by address new;
-  members = answers_alike refl (λ m c w by known k a mine fine right. same-write m c w by address new a.fair a.c_in mine);
+  members = answers_alike refl (λ m c w by known k a mine fine reads. same-write m c w by address new a.fair a.c_in mine);
   alike = λ k u by live c. alike-write k u by address new;
 }

@@ -1,4 +1,5 @@
 -- No call is refused with success.
+use Rattle.lpc_model.specs.Ranges.{asked_test}
 use Rattle.std.proofs.Common.{◌≡◌, ℕ, List, Bool, true, false, not, Option, Some, None, refl}
 use Rattle.std.specs.Prelude.{◌==◌, ◌+◌, Result, Ok, Err, is_some, length, nat_lt, nat_le}
 use Rattle.lpc_base.specs.Rows.{first}
@@ -149,6 +150,10 @@ refuses-request w by handle bytes = bind (send_test w by handle bytes) _ (send w
 pub refuses-reply : (w : World) (by : ThreadRow) (handle : ℕ) (message : List ℕ) → Refuses (served w by (reply_port handle message))
 unfolding nt_reply_port
 refuses-reply w by handle bytes = bind (port_test w by handle) _ (port w by handle) (λ p. bind (message_test bytes) _ (message bytes) (λ m. bind (reply_test w p m) _ (answered w p m) (λ x. tt)))
+
+-- the request that a call on a described range names
+pub refuses-asked : (w : World) (by : ThreadRow) (handle : ℕ) (bytes : List ℕ) → Refuses (asked_test w by handle bytes)
+refuses-asked w by handle bytes = bind (port_test w by handle) _ (port w by handle) (λ p. bind (message_test bytes) _ (message bytes) (λ m. answered w p m))
 
 pub refuses-receive : (w : World) (by : ThreadRow) (handle : ℕ) (message : Option (List ℕ)) → Refuses (served w by (reply_wait_receive_port handle message))
 unfolding nt_reply_wait_receive_port

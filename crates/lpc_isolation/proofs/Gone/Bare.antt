@@ -4,8 +4,8 @@ use Rattle.lpc_model.specs.World.{Birth, World, no_rows}
 use Rattle.lpc_model.specs.Lines.{ScriptLine}
 use Rattle.lpc_isolation.proofs.Gone.Served.{served_step, served_steps}
 use Rattle.lpc_model.specs.Run.{said_in}
-use Rattle.lpc_model.specs.Circle.{Event, Group, HasInnerViews, Ran, inputs, is_fine_line, is_seen, items, line_whose, told_event, members}
-use Rattle.lpc_isolation.proofs.Views.Alone.{HasFineRows, WritesOuter, alone}
+use Rattle.lpc_model.specs.Circle.{Event, Group, HasInnerViews, Ran, inputs, is_fine_line, is_seen, items, line_whose, told_event, members, ReadsInner}
+use Rattle.lpc_isolation.proofs.Views.Alone.{HasFineRows, WritesOuter, alone, ShowsOuter}
 
 -- what happens at a line, before rows go
 abbrev pub bare_line_events : World → ScriptLine → List Event
@@ -19,16 +19,23 @@ bare_events w [] = []
 bare_events w (None ∷ later) = bare_events w later
 bare_events w (Some line ∷ later) = bare_line_events w line ++ bare_events (served_step w line).world later
 
--- what a line of an outsider writes is outer
-abbrev pub IsApartAt : Group → (Birth → Bool) → World → ScriptLine → Type 0
-IsApartAt group outer w line = is_seen group (line_whose w line) ≡ false → WritesOuter outer (served_steps line w)
+-- in a world, c has no view of an outer section, and what outsiders' views show is outer
+pub record HasViewsApart (group : Group) (c : ℕ) (outer : Birth → Bool) (w : World) : Type 0 where
+  pub inner : HasInnerViews c outer w
+  pub shows : ShowsOuter group outer w
+
+-- at a line, what it writes is outer, where it is an outsider's; and c reads of no outer section through a range that a request
+-- describes
+pub record IsApartAt (group : Group) (c : ℕ) (outer : Birth → Bool) (w : World) (line : ScriptLine) : Type 0 where
+  pub writes : is_seen group (line_whose w line) ≡ false → WritesOuter outer (served_steps line w)
+  pub reads : ReadsInner c outer w line
 
 -- the group is a circle of c in such a run, with these sections as the outer ones
 abbrev pub IsBareCircle : Group → ℕ → (Birth → Bool) → World → List (Option ScriptLine) → Type 0
-IsBareCircle group c outer w [] = HasFineRows group c w × HasInnerViews c outer w
+IsBareCircle group c outer w [] = HasFineRows group c w × HasViewsApart group c outer w
 IsBareCircle group c outer w (None ∷ later) = IsBareCircle group c outer w later
 IsBareCircle group c outer w (Some line ∷ later) =
-    HasFineRows group c w × HasInnerViews c outer w × (is_fine_line group c w line ≡ true) × IsApartAt group outer w line
+    HasFineRows group c w × HasViewsApart group c outer w × (is_fine_line group c w line ≡ true) × IsApartAt group c outer w line
     × IsBareCircle group c outer (served_step w line).world later
 
 -- The law

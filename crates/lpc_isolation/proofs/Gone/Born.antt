@@ -1,4 +1,5 @@
 -- Births of processes and threads in the run whose rows never go: what is made next has a birth that no row has.
+use Rattle.lpc_model.specs.Ranges.{write_range_steps}
 use Rattle.lpc_model.specs.Memory.{new_section, section_steps, map_steps, mapped_view, unmap_steps, write_steps}
 use Rattle.lpc_model.specs.declared.message.Message.{Message}
 use Rattle.lpc_message.specs.declared.kind.TheConstants.{DATAGRAM, REQUEST}
@@ -412,6 +413,8 @@ module _ (u : World) (by : ThreadRow) (live : live_thread u by.number ≡ Some b
     unmaps_view = λ address v at _. nones (unmap_steps by v) refl;
     reads_memory = λ address n v at _. o;
     writes_memory = λ address new v at may _. nones (write_steps by address new v) refl;
+    reads_range = λ handle bytes index n d at _. o;
+    writes_range = λ handle bytes index new d at may _. nones (write_range_steps by new d) refl;
     ends = λ call name own pid code ts doomed _. let bs = answered_end by name own pid code ts u in nones bs (every-more is_ending makes_none ending-none bs (steps-end u by name own pid code ts));
   }
     where

@@ -1,4 +1,5 @@
 -- The law over the machine that sweeps, from the law over the one whose rows never go.
+use Rattle.lpc_isolation.proofs.Each.Described.{described-thin}
 use Rattle.lpc_isolation.proofs.Calls.Services.{lawful}
 use Rattle.lpc_isolation.proofs.Gone.Fine.{AreFine, FineAfter, run-fine}
 use Rattle.std.proofs.Common.{◌≡◌, ℕ, List, [], ◌∷◌, ◌++◌, Bool, true, false, cond, not, map, Option, Some, None, refl, ap, sym, subst, ◌∙◌, arith}
@@ -13,7 +14,7 @@ use Rattle.lpc_model.specs.declared.entry.Word.TheVariants as word
 use Rattle.lpc_model.specs.World.{Birth, ThreadRow, WaitRow, World, no_rows}
 use Rattle.lpc_model.specs.Found.{live_thread, wait_of}
 use Rattle.lpc_model.specs.Named.{free_name, spelled_name}
-use Rattle.lpc_model.specs.Lines.{ScriptCall, ScriptLine, accept_connect_port, boot, complete_connect_port, connect_port, create_port, dir, link, listen_port, reply_port, reply_wait_receive_port, request_port, request_wait_reply_port, run, thread}
+use Rattle.lpc_model.specs.Lines.{ScriptCall, ScriptLine, accept_connect_port, boot, complete_connect_port, connect_port, create_port, dir, link, listen_port, reply_port, reply_wait_receive_port, request_port, request_wait_reply_port, run, thread, read_request_data}
 use Rattle.lpc_model.specs.Grammar.{has_ids}
 use Rattle.lpc_isolation.proofs.Gone.Born.{born_none}
 use Rattle.lpc_isolation.proofs.Rows.Ids.{script-says}
@@ -23,13 +24,13 @@ use Rattle.lpc_model.specs.Sweep.{sweep}
 use Rattle.lpc_model.specs.Machine.{bare_steps, boot_line, dir_line, link_line, name_of_call, step, steps, thread_line, thread_test, unused_test}
 use Rattle.lpc_isolation.proofs.Gone.Served.{served, served_ready, served_step, served_steps, served_thread}
 use Rattle.lpc_model.specs.Run.{Along, said_in, world_behind}
-use Rattle.lpc_model.specs.Circle.{Event, Everyone, Group, HasInnerViews, IsCircleIn, IsFineAt, IsFineWorld, Isolation, Nobody, Of, Ran, Told, Whose, entry_whose, events, inputs, is_fine_call, is_fine_line, is_item, is_outer, is_outer_at, is_seen, is_write_of, item_of, items, line_events, line_whose, members, outsider_sees, owner, told_event}
-use Rattle.lpc_isolation.proofs.Views.Alone.{HasFineRows, alone}
-use Rattle.lpc_isolation.proofs.Gone.Bare.{BareIsolation, IsApartAt, IsBareCircle, bare_events, bare_line_events}
+use Rattle.lpc_model.specs.Circle.{Event, Everyone, Group, HasInnerViews, IsCircleIn, IsFineAt, IsFineWorld, Isolation, Nobody, Of, Ran, Told, Whose, entry_whose, events, inputs, is_fine_call, is_fine_line, is_item, is_outer, is_outer_at, is_seen, is_write_of, item_of, items, line_events, line_whose, members, outsider_sees, owner, told_event, IsInnerAt, ReadsInner}
+use Rattle.lpc_isolation.proofs.Views.Alone.{HasFineRows, alone, WritesOuter}
+use Rattle.lpc_isolation.proofs.Gone.Bare.{BareIsolation, IsApartAt, IsBareCircle, bare_events, bare_line_events, HasViewsApart}
 use Rattle.lpc_model.proofs.Calls.Holding.{bind_holds, directed_holds, settled_holds}
 use Rattle.lpc_model.proofs.Calls.Usable.{live-number}
 use Rattle.lpc_isolation.proofs.Plays.BareLaw.{bare-isolation}
-use Rattle.lpc_isolation.proofs.Gone.Thin.{Alive, Behind, thin}
+use Rattle.lpc_isolation.proofs.Gone.Thin.{Alive, Behind, thin, Closed, live-thin}
 use Rattle.lpc_isolation.proofs.Gone.Sweeps.{InStep, Sides, entries-same, line-behind}
 use Rattle.lpc_isolation.proofs.Rows.Firm.{firm_none}
 
@@ -118,14 +119,23 @@ abbrev Covers : Group → (Birth → Bool) → World → List (Option ScriptLine
 Covers m outer w lines = (b : Birth) → is_outer m w lines b ≡ true → outer b ≡ true
 
 -- what c has views of, in the run whose rows never go
-first-inner : (c : ℕ) (outer : Birth → Bool) (w : World) (lines : List (Option ScriptLine)) → Along (λ w line. HasInnerViews c outer w) w lines → HasInnerViews c outer (world_behind w lines) → HasInnerViews c outer w
+first-inner : (c : ℕ) (outer : Birth → Bool) (w : World) (lines : List (Option ScriptLine)) → Along (IsInnerAt c outer) w lines → HasInnerViews c outer (world_behind w lines) → HasInnerViews c outer w
 unfolding world_behind
 first-inner c outer w [] along last = last
 first-inner c outer w (None ∷ later) along last = first-inner c outer w later along last
-first-inner c outer w (Some line ∷ later) along last = along.0
+first-inner c outer w (Some line ∷ later) along last = along.0.0
 
-inner-bare : (c : ℕ) (outer : Birth → Bool) (w u : World) (lines : List (Option ScriptLine)) → Behind w u → Along (λ w line. HasInnerViews c outer w) w lines → HasInnerViews c outer (world_behind w lines) → HasInnerViews c outer u
-inner-bare c outer w u lines r along last = subst (HasInnerViews c outer) r.same (first-inner c outer w lines along last)
+-- and what outsiders have views of
+shown-first : (m : Group) (w : World) (lines : List (Option ScriptLine)) (b : Birth) → has (outsider_sees m b) w.views ≡ true → is_outer m w lines b ≡ true
+shown-first m w [] b is = is
+shown-first m w (None ∷ later) b is = shown-first m w later b is
+shown-first m w (Some line ∷ later) b is = or_left (is_outer_at m w line b) _ (or_left (has (outsider_sees m b) w.views) _ is)
+
+views-bare : (m : Group) (c : ℕ) (outer : Birth → Bool) (w u : World) (lines : List (Option ScriptLine)) → Behind w u → Covers m outer w lines → Along (IsInnerAt c outer) w lines → HasInnerViews c outer (world_behind w lines) → HasViewsApart m c outer u
+views-bare m c outer w u lines r covers along last = record {
+  inner = subst (HasInnerViews c outer) r.same (first-inner c outer w lines along last);
+  shows = λ b is. covers b (shown-first m w lines b (ap (λ v. has (outsider_sees m b) v.views) r.same ∙ is));
+}
 
 -- what a line writes, it writes before rows go
 writes-first : (b : Birth) (xs ys : List Basic) → has (is_write_of b) xs ≡ true → has (is_write_of b) (xs ++ ys) ≡ true
@@ -136,8 +146,8 @@ writes-first b (x ∷ xs) ys is = at (is_write_of b x) refl (writes-first b xs y
     at true here rest = rw here refl
     at false off rest = rw off (rest (rw off at is))
 
-line-apart : (m : Group) (outer : Birth → Bool) (w u : World) (line : ScriptLine) (later : List (Option ScriptLine)) → Behind w u → InStep w u line → Covers m outer w (Some line ∷ later) → IsApartAt m outer u line
-line-apart m outer w u line later r a covers out b is =
+outsider-writes : (m : Group) (outer : Birth → Bool) (w u : World) (line : ScriptLine) (later : List (Option ScriptLine)) → Behind w u → InStep w u line → Covers m outer w (Some line ∷ later) → is_seen m (line_whose u line) ≡ false → WritesOuter outer (served_steps line u)
+outsider-writes m outer w u line later r a covers out b is =
     let whose : line_whose w line ≡ line_whose u line = ap (λ v. line_whose v line) r.same ∙ whose-thin r.alive u line in
     let unseen : is_seen m (line_whose w line) ≡ false = ap (is_seen m) whose ∙ out in
     let bare : has (is_write_of b) (bare_steps line w) ≡ true = subst (λ bs. has (is_write_of b) bs ≡ true) (sym a.same) is in
@@ -145,10 +155,25 @@ line-apart m outer w u line later r a covers out b is =
     let at : is_outer_at m w line b ≡ true = or_right (has (outsider_sees m b) w.views) _ (rw unseen writes) in
     covers b (or_left (is_outer_at m w line b) (is_outer m (step w line).world later b) at)
 
+-- what c reads through a described range
+call-reads : (c : ℕ) (outer : Birth → Bool) (k : Alive) (u : World) (tid : ℕ) (call : ScriptCall) → Closed k u → ReadsInner c outer (thin k u) (run tid call) → ReadsInner c outer u (run tid call)
+call-reads c outer k u tid (read_request_data handle bytes index n) closed reads = λ by d live idle mine at. reads by d (live-thin k u tid closed ∙ live) idle mine (described-thin k u by handle bytes index n closed ∙ at)
+call-reads c outer k u tid call closed reads = tt
+
+line-reads : (c : ℕ) (outer : Birth → Bool) (k : Alive) (u : World) (line : ScriptLine) → Closed k u → ReadsInner c outer (thin k u) line → ReadsInner c outer u line
+line-reads c outer k u (run tid call) closed reads = call-reads c outer k u tid call closed reads
+line-reads c outer k u line closed reads = tt
+
+line-apart : (m : Group) (c : ℕ) (outer : Birth → Bool) (w u : World) (line : ScriptLine) (later : List (Option ScriptLine)) → Behind w u → InStep w u line → Covers m outer w (Some line ∷ later) → ReadsInner c outer w line → IsApartAt m c outer u line
+line-apart m c outer w u line later r a covers reads = record {
+  writes = outsider-writes m outer w u line later r a covers;
+  reads = line-reads c outer r.alive u line r.closed (subst (λ v. ReadsInner c outer v line) r.same reads);
+}
+
 circle-same : (m : Group) (c : ℕ) (outer : Birth → Bool) (w u : World) (lines : List (Option ScriptLine)) → are_ok has_ids lines ≡ true → Sides w u → HasFineRows m c u → Along (IsFineAt m c) w lines → IsFineWorld m c (world_behind w lines)
-    → Covers m outer w lines → Along (λ w line. HasInnerViews c outer w) w lines → HasInnerViews c outer (world_behind w lines) → IsBareCircle m c outer u lines
+    → Covers m outer w lines → Along (IsInnerAt c outer) w lines → HasInnerViews c outer (world_behind w lines) → IsBareCircle m c outer u lines
 unfolding world_behind
-circle-same m c outer w u [] ids t fine along last covers inner final = (fine, inner-bare c outer w u [] t.behind inner final)
+circle-same m c outer w u [] ids t fine along last covers inner final = (fine, views-bare m c outer w u [] t.behind covers inner final)
 circle-same m c outer w u (None ∷ later) ids t fine along last covers inner final = circle-same m c outer w u later ids t fine along last covers inner final
 circle-same m c outer w u (Some line ∷ later) ids t fine along last covers inner final =
     let r = t.behind in
@@ -156,9 +181,9 @@ circle-same m c outer w u (Some line ∷ later) ids t fine along last covers inn
     let next : HasFineRows m c (step w line).world = first-fine m c (step w line).world later along.1 last in
     let after : HasFineRows m c (served_step u line).world = run-fine m c u (served_steps line u) (line-fine m c (step w line).world u line next a.sides.behind) fine in (
       fine,
-      inner-bare c outer w u (Some line ∷ later) r inner final,
+      views-bare m c outer w u (Some line ∷ later) r covers inner final,
       sym (line-inside m c r.alive u line) ∙ sym (ap (λ v. is_fine_line m c v line) r.same) ∙ along.0.1,
-      line-apart m outer w u line later r a covers,
+      line-apart m c outer w u line later r a covers inner.0.1,
       circle-same m c outer (step w line).world (served_step u line).world later (second-true _ _ ids) a.sides after along.1 last (λ b is. covers b (or_right (is_outer_at m w line b) _ is)) inner.1 final,
     )
 

@@ -1,4 +1,7 @@
 -- Each line keeps it that the bytes that are known are right.
+use Rattle.lpc_isolation.proofs.Rows.Paths.{paths-ways}
+use Rattle.lpc_isolation.proofs.Views.Mine.{Ways}
+use Rattle.lpc_isolation.proofs.Views.Reads.{FineLine}
 use Rattle.std.proofs.Common.{◌≡◌, ℕ, List, [], ◌++◌, Bool, true, false, cond, Option, Some, None, refl, ap, sym, subst, ◌∙◌}
 use Rattle.std.specs.Prelude.{Result, Ok, Err, is_none}
 use Rattle.lpc_base.specs.Rows.{given, which}
@@ -12,8 +15,8 @@ use Rattle.lpc_model.specs.Lines.{ScriptCall, ScriptLine, boot, dir, link, run, 
 use Rattle.lpc_model.specs.Machine.{bare_steps, boot_line, dir_line, link_line, name_of_call, settled, thread_line, thread_test, unused_test}
 use Rattle.lpc_model.specs.Named.{free_name, spelled_name}
 use Rattle.lpc_model.proofs.Calls.Holding.{Holds, bind_holds, directed_holds, holds_ok}
-use Rattle.lpc_model.specs.Circle.{Group, Item, Whose, is_fine_line, is_seen, line_whose, owner, thread_whose}
-use Rattle.lpc_isolation.proofs.Views.Alone.{HasFineRows, alone}
+use Rattle.lpc_model.specs.Circle.{Group, Item, Whose, is_seen, line_whose, owner, thread_whose}
+use Rattle.lpc_isolation.proofs.Views.Alone.{HasFineRows, alone, ShowsOuter}
 use Rattle.lpc_isolation.proofs.Gone.Bare.{IsApartAt}
 use Rattle.lpc_isolation.proofs.Gone.Served.{served, served_step, served_steps}
 use Rattle.lpc_isolation.proofs.Views.View.{view}
@@ -72,7 +75,7 @@ answered-unit P (Err s) (Ok y) is = is
 answered-unit P (Err s) (Err t) is = is
 
 -- A member's call
-module _ (m : Group) (c : ℕ) (outer : Birth → Bool) (w : World) (t : List Heard) (k : Contents) (tid : ℕ) (call : ScriptCall) (c_in : m c ≡ true) (st : Stood m c w (record { seen = view m w; memo = t; bytes = k })) (fine : HasFineRows m c w) (next : HasFineRows m c (served_step w (run tid call)).world) (ok : is_fine_line m c w (run tid call) ≡ true) (a : Agree m outer k w.contents) (seen : is_seen m (thread_whose w tid) ≡ true) (is : List Item) where
+module _ (m : Group) (c : ℕ) (outer : Birth → Bool) (w : World) (t : List Heard) (k : Contents) (tid : ℕ) (call : ScriptCall) (c_in : m c ≡ true) (st : Stood m c w (record { seen = view m w; memo = t; bytes = k })) (fine : HasFineRows m c w) (next : HasFineRows m c (served_step w (run tid call)).world) (ok : FineLine m c k w (run tid call)) (shows : ShowsOuter m outer w) (a : Agree m outer k w.contents) (seen : is_seen m (thread_whose w tid) ≡ true) (is : List Item) where
   abbrev s : State
   s = record { seen = view m w; memo = t; bytes = k }
 
@@ -85,19 +88,22 @@ module _ (m : Group) (c : ℕ) (outer : Birth → Bool) (w : World) (t : List He
   owes : Owes (leading m (known_queue t) k) m c w tid call
   owes = owes-line m c w s tid call c_in st fine next ok
 
+  ways : Ways m w
+  ways = paths-ways m c w st.kept.fair fine st.kept.paths
+
   -- the bytes that are known behind the line, where these steps are taken for it
   abbrev Good : List Basic → Type 0
   Good bs = Agree m outer (contents_after k bs) (served_step w (run tid call)).world.contents
 
   -- c's own, where it is served in the view as in the world
   own-good : (by : ThreadRow) → live_thread w tid ≡ Some by → m by.process ≡ true → (r : Result (List Basic) Status) → Answered (λ _ _. Unit {0}) (served w by call) r → wait_of w tid ≡ None → Good (on_ok r (λ _. written_by (view m w) by call))
-  own-good by live inside r answered idle = to-world m outer _ _ _ (line-bytes w tid call by live idle) (at (served w by call) r answered)
+  own-good by live inside r answered idle = to-world m outer _ _ _ (line-bytes w tid call by live idle) (at (served w by call) r refl answered)
     where
-      at : (q r : Result (List Basic) Status) → Answered (λ _ _. Unit {0}) q r → Agree m outer (contents_after k (on_ok r (λ _. written_by (view m w) by call))) (contents_after w.contents (done_by w by call q))
-      at (Ok bs) (Ok led) is = written-inside m outer w by k call inside a
-      at (Ok bs) (Err e) is = absurd is
-      at (Err e) (Ok led) is = absurd is
-      at (Err e) (Err f) is = a
+      at : (q r : Result (List Basic) Status) → served w by call ≡ q → Answered (λ _ _. Unit {0}) q r → Agree m outer (contents_after k (on_ok r (λ _. written_by (view m w) by call))) (contents_after w.contents (done_by w by call q))
+      at (Ok bs) (Ok led) ok is = written-inside m c outer w by k call bs inside st.kept.fair ways shows ok a
+      at (Ok bs) (Err e) ok is = absurd is
+      at (Err e) (Ok led) ok is = absurd is
+      at (Err e) (Err f) ok is = a
 
   mine : (by : ThreadRow) → live_thread w tid ≡ Some by → m by.process ≡ true → is_seen (alone c) (thread_whose w tid) ≡ true → (x : Option WaitRow) → wait_of w tid ≡ x → Good (cond (is_none (wait_of (view m w) tid)) (on_ok (served (seeing k (view m w) call) by call) (λ _. written_by (view m w) by call)) [])
   mine by live inside is_c (Some x) waits = rw (c-idle m c w tid c_in st.kept.fair owned (owner-c c w tid is_c), waits) (to-world m outer k w.contents _ (busy-bytes w tid call by x live waits) a)
@@ -109,15 +115,15 @@ module _ (m : Group) (c : ℕ) (outer : Birth → Bool) (w : World) (t : List He
       rw (c-idle m c w tid c_in st.kept.fair owned (owner-c c w tid is_c), idle)
       (own-good by live inside (served (seeing k (view m w) call) by call)
       (answered-unit (λ bs led. HasFineRows m c (world_after w bs) → Led m c (world_after w bs) (thread_whose w tid) w bs led) (served w by call) (served (seeing k (view m w) call) by call)
-      ((lawful call).own m c (thread_whose w tid) w by (known_queue t) k at process (line-call m c w tid call ok by own process) st.right)) idle)
+      ((lawful call).own m c (thread_whose w tid) w by (known_queue t) k at process (line-call m c w tid call ok.fine by own process) (record { views = st.right; range = ok.right by live idle process }))) idle)
 
   -- another's, where its entry accepts it
   other-good : (by : ThreadRow) → live_thread w tid ≡ Some by → m by.process ≡ true → wait_of w tid ≡ None → (e : Entry) → accepts e ≡ is_good (served w by call) → Good (cond (accepts e) (written_by (view m w) by call) [])
-  other-good by live inside idle e good = to-world m outer _ _ _ (line-bytes w tid call by live idle) (rw good (at (served w by call)))
+  other-good by live inside idle e good = to-world m outer _ _ _ (line-bytes w tid call by live idle) (rw good (at (served w by call) refl))
     where
-      at : (r : Result (List Basic) Status) → Agree m outer (contents_after k (cond (is_good r) (written_by (view m w) by call) [])) (contents_after w.contents (done_by w by call r))
-      at (Ok bs) = written-inside m outer w by k call inside a
-      at (Err e) = a
+      at : (r : Result (List Basic) Status) → served w by call ≡ r → Agree m outer (contents_after k (cond (is_good r) (written_by (view m w) by call) [])) (contents_after w.contents (done_by w by call r))
+      at (Ok bs) ok = written-inside m c outer w by k call bs inside st.kept.fair ways shows ok a
+      at (Err e) ok = a
 
   other : (by : ThreadRow) → live_thread w tid ≡ Some by → m by.process ≡ true → is_seen (alone c) (thread_whose w tid) ≡ false → (x : Option WaitRow) → wait_of w tid ≡ x → Good (cond (accepts (next_entry entries)) (written_by (view m w) by call) [])
   other by live inside off (Some x) waits =
@@ -178,12 +184,12 @@ pub record BytesKnown (m : Group) (c : ℕ) (outer : Birth → Bool) (w : World)
   pub hides : is_seen m (line_whose w line) ≡ false → Agree m outer k (served_step w line).world.contents
   pub shows : is_seen m (line_whose w line) ≡ true → (is : List Item) → Agree m outer (played_bytes m c (record { seen = view m w; memo = t; bytes = k }) line (told_items (told_at m c w line) ++ is)) (served_step w line).world.contents
 
-pub line-bytes_known : (m : Group) (c : ℕ) (outer : Birth → Bool) (w : World) (t : List Heard) (k : Contents) (line : ScriptLine) → m c ≡ true → Stood m c w (record { seen = view m w; memo = t; bytes = k }) → HasFineRows m c w → HasFineRows m c (served_step w line).world → is_fine_line m c w line ≡ true → IsApartAt m outer w line → Agree m outer k w.contents → BytesKnown m c outer w t k line
-line-bytes_known m c outer w t k (run tid call) c_in st fine next ok apart a = record {
-  hides = λ out. agree-outside m c (served_step w (run tid call)).world (thread_whose w tid) outer k w (served_steps (run tid call) w) ((owes-line m c w (record { seen = view m w; memo = t; bytes = k }) tid call c_in st fine next ok).apart out) (apart out) a;
-  shows = λ seen is. run-visible m c outer w t k tid call c_in st fine next ok a seen is;
+pub line-bytes_known : (m : Group) (c : ℕ) (outer : Birth → Bool) (w : World) (t : List Heard) (k : Contents) (line : ScriptLine) → m c ≡ true → Stood m c w (record { seen = view m w; memo = t; bytes = k }) → HasFineRows m c w → HasFineRows m c (served_step w line).world → FineLine m c k w line → ShowsOuter m outer w → IsApartAt m c outer w line → Agree m outer k w.contents → BytesKnown m c outer w t k line
+line-bytes_known m c outer w t k (run tid call) c_in st fine next ok shows apart a = record {
+  hides = λ out. agree-outside m c (served_step w (run tid call)).world (thread_whose w tid) outer k w (served_steps (run tid call) w) ((owes-line m c w (record { seen = view m w; memo = t; bytes = k }) tid call c_in st fine next ok).apart out) (apart.writes out) a;
+  shows = λ seen is. run-visible m c outer w t k tid call c_in st fine next ok shows a seen is;
 }
-line-bytes_known m c outer w t k (boot pid tid) c_in st fine next ok apart a = let same = to-world m outer k w.contents _ (boot-still w pid tid) a in record { hides = λ _. same; shows = λ _ _. same }
-line-bytes_known m c outer w t k (thread tid pid) c_in st fine next ok apart a = let same = to-world m outer k w.contents _ (thread-still w tid pid) a in record { hides = λ _. same; shows = λ _ _. same }
-line-bytes_known m c outer w t k (dir path) c_in st fine next ok apart a = let same = to-world m outer k w.contents _ (dir-still w path) a in record { hides = λ _. same; shows = λ _ _. same }
-line-bytes_known m c outer w t k (link path target) c_in st fine next ok apart a = let same = to-world m outer k w.contents _ (link-still w path target) a in record { hides = λ _. same; shows = λ _ _. same }
+line-bytes_known m c outer w t k (boot pid tid) c_in st fine next ok shows apart a = let same = to-world m outer k w.contents _ (boot-still w pid tid) a in record { hides = λ _. same; shows = λ _ _. same }
+line-bytes_known m c outer w t k (thread tid pid) c_in st fine next ok shows apart a = let same = to-world m outer k w.contents _ (thread-still w tid pid) a in record { hides = λ _. same; shows = λ _ _. same }
+line-bytes_known m c outer w t k (dir path) c_in st fine next ok shows apart a = let same = to-world m outer k w.contents _ (dir-still w path) a in record { hides = λ _. same; shows = λ _ _. same }
+line-bytes_known m c outer w t k (link path target) c_in st fine next ok shows apart a = let same = to-world m outer k w.contents _ (link-still w path target) a in record { hides = λ _. same; shows = λ _ _. same }

@@ -1,4 +1,5 @@
 -- Each line keeps it that what is remembered of outsiders' connects is right.
+use Rattle.lpc_isolation.proofs.Views.Reads.{FineLine}
 use Rattle.lpc_isolation.proofs.Calls.Services.{lawful}
 use Rattle.std.proofs.Common.{◌≡◌, ℕ, List, [], ◌∷◌, ◌++◌, Bool, true, false, cond, Option, Some, None, refl, ap, sym, subst, ◌∙◌}
 use Rattle.std.specs.Prelude.{◌==◌, Result, Ok, Err}
@@ -16,7 +17,7 @@ use Rattle.lpc_model.specs.Lines.{ScriptCall, ScriptLine, boot, dir, link, run, 
 use Rattle.lpc_model.specs.Machine.{bare_steps, boot_line, dir_line, link_line, name_of_call, settled, thread_line, thread_test, unused_test}
 use Rattle.lpc_isolation.proofs.Gone.Served.{served, served_step, served_steps}
 use Rattle.lpc_model.proofs.Calls.Holding.{bind_holds, directed_holds, holds_ok}
-use Rattle.lpc_model.specs.Circle.{Group, Item, Whose, is_fine_line, is_seen, line_whose, owner, thread_whose}
+use Rattle.lpc_model.specs.Circle.{Group, Item, Whose, is_seen, line_whose, owner, thread_whose}
 use Rattle.lpc_isolation.proofs.Views.Alone.{HasFineRows, alone}
 use Rattle.lpc_isolation.proofs.Views.View.{view}
 use Rattle.lpc_isolation.proofs.Views.Seen.{live-owner, live-view}
@@ -120,7 +121,7 @@ module _ (m : Group) (c : ℕ) (w : World) (t : List Heard) (k : Contents) (tid 
           let inside : m pid ≡ true = rw here at seen in
           ap (caller_memo m c (view m w) call (next_entry items) t) (live-view m c w tid pid st.kept.fair here inside) ∙ by_live (live_thread w tid) refl
 
-  run-line_known : is_fine_line m c w (run tid call) ≡ true → OnceUsed (served_step w (run tid call)).world → Known m c w t k (run tid call)
+  run-line_known : FineLine m c k w (run tid call) → OnceUsed (served_step w (run tid call)).world → Known m c w t k (run tid call)
   run-line_known ok once =
       let o : Owes (leading m (known_queue t) k) m c w tid call = owes-line m c w s tid call c_in st fine next ok in
       record {
@@ -177,7 +178,7 @@ link-plain : (m : Group) (t : List Heard) (w : World) (path target : List ℕ) �
 unfolding bare_steps link_line
 link-plain m t w path target = directed_holds (Plain m t w) word.Link (link_line w path target) (bind_holds (spelled_name target) _ (Plain m t w) (λ _ _. bind_holds (free_name w path) _ (Plain m t w) (λ _ _. (refl, λ v. refl)))) (λ _. (refl, λ v. refl))
 
-pub line-known : (m : Group) (c : ℕ) (w : World) (t : List Heard) (k : Contents) (line : ScriptLine) → m c ≡ true → Stood m c w (record { seen = view m w; memo = t; bytes = k }) → HasFineRows m c w → HasFineRows m c (served_step w line).world → OnceUsed (served_step w line).world → is_fine_line m c w line ≡ true → Known m c w t k line
+pub line-known : (m : Group) (c : ℕ) (w : World) (t : List Heard) (k : Contents) (line : ScriptLine) → m c ≡ true → Stood m c w (record { seen = view m w; memo = t; bytes = k }) → HasFineRows m c w → HasFineRows m c (served_step w line).world → OnceUsed (served_step w line).world → FineLine m c k w line → Known m c w t k line
 line-known m c w t k (run tid call) c_in st fine next once ok = run-line_known m c w t k tid call c_in st fine next ok once
 line-known m c w t k (boot pid tid) c_in st fine next once ok = directive-known m c w t k (boot pid tid) (λ is. refl) st.known (boot-plain m t w pid tid)
 line-known m c w t k (thread tid pid) c_in st fine next once ok = directive-known m c w t k (thread tid pid) (λ is. refl) st.known (thread-plain m t w tid pid)

@@ -7,7 +7,7 @@ use Rattle.lpc_isolation.proofs.Each.Accepts.{accept-led, found-answer, refuse-l
 use Rattle.lpc_isolation.proofs.Views.Alone.{HasFineRows}
 use Rattle.lpc_isolation.proofs.Views.Basics.{are_ours}
 use Rattle.lpc_isolation.proofs.Views.Callers.{led-same}
-use Rattle.lpc_isolation.proofs.Calls.Calm.{Leads, Members, answers_alike, ends_threads}
+use Rattle.lpc_isolation.proofs.Calls.Calm.{Leads, Members, answers_alike, ends_threads, tells_alike}
 use Rattle.lpc_isolation.proofs.Each.Closes.{caller-sure, handle-good, tells-led}
 use Rattle.lpc_isolation.proofs.Each.Completes.{complete-led, found-completion}
 use Rattle.lpc_isolation.proofs.Each.Connects.{connect-fine, connect-led, making-view}
@@ -82,13 +82,19 @@ module _ (m : Group) (c : ℕ) (u : World) (d : Whose) (w : World) (by : ThreadR
           (led-same m c u d w (unmap_steps by v) refl);
       of_read = λ address n v at _ _. record { world = refl; told = rw (k.here, other) refl };
       of_write = λ address new v at may _ _. record { world = refl; told = rw (k.here, other) refl };
+      of_read_range = λ handle bytes index n x at _ _. record { world = refl; told = rw (k.here, other) refl };
+      of_write_range = λ handle bytes index new x at may _ _. record { world = refl; told = rw (k.here, other) refl };
     };
     ends = λ call name own pid code ts doomed spared. let some = ends-some call in absurd (cc);
   }
 
-pub leads-call : (call : ScriptCall) → is_calm call ≡ true → Members call → Leads call
-leads-call call is (answers_alike spared same) m c u d w by known a used by_in other =
+leads-spared : (call : ScriptCall) → is_calm call ≡ true → spares call ≡ true → Leads call
+leads-spared call is spared m c u d w by known a used by_in other =
     let P : ScriptCall → List Basic → Type 0 = λ call bs. spares call ≡ true → HasFineRows m c (world_after w bs) → Leading m c u d w by known call bs in
     holds-more (P call) (λ bs. HasFineRows m c (world_after w bs) → Leading m c u d w by known call bs) (served w by call) (λ bs leads. leads spared)
     (deeds-do w by P (leads-deeds m c u d w by known a used by_in other) call is)
+
+pub leads-call : (call : ScriptCall) → is_calm call ≡ true → Members call → Leads call
+leads-call call is (answers_alike spared same) m c u d w by known a used by_in other = leads-spared call is spared m c u d w by known a used by_in other
+leads-call call is (tells_alike spared own) m c u d w by known a used by_in other = leads-spared call is spared m c u d w by known a used by_in other
 leads-call call is (ends_threads own leads) m c u d w by known a used by_in other = leads m c u d w by known a used by_in other

@@ -4,7 +4,7 @@ use Rattle.lpc_base.proofs.Bools.{same-number}
 use Rattle.lpc_isolation.proofs.Each.Accepts.{accept-ours, c-side, refuse-ours, found-answer}
 use Rattle.lpc_isolation.proofs.Views.Alone.{HasFineRows}
 use Rattle.lpc_isolation.proofs.Views.Basics.{are_ours}
-use Rattle.lpc_isolation.proofs.Calls.Calm.{Own, Members, answers_alike, ends_threads}
+use Rattle.lpc_isolation.proofs.Calls.Calm.{Own, Members, answers_alike, ends_threads, tells_alike}
 use Rattle.lpc_isolation.proofs.Each.Closes.{caller-sure, handle-good}
 use Rattle.lpc_isolation.proofs.Each.Connects.{connect-fine, connect-ours}
 use Rattle.lpc_isolation.proofs.Each.Create.{named-ours, unnamed-ours}
@@ -79,9 +79,10 @@ ours-deeds m c w by k mine = record {
     queue-in handle bytes s is = routed-in m c w s.port s.queue is.named.right k.c_in (ap (λ b. b == c) (is.named.process ∙ mine) ∙ same-number c) is.to
 
 pub own-call : (call : ScriptCall) → is_calm call ≡ true → Members call → Own call
-own-call call is (answers_alike spared same) m c u d w by known k a used mine fine right =
+own-call call is (answers_alike spared same) m c u d w by known k a used mine fine reads =
     let P : ScriptCall → List Basic → Type 0 = λ call bs. spares call ≡ true → HasFineRows m c (world_after w bs) → are_ours m w bs ≡ true in
-    own-same m c u d w by call k (same m c w by known k a mine fine right)
+    own-same m c u d w by call k (same m c w by known k a mine fine reads)
     (holds-more (P call) (λ bs. HasFineRows m c (world_after w bs) → are_ours m w bs ≡ true) (served w by call) (λ bs ours. ours spared)
     (deeds-do w by P (ours-deeds m c w by (caller m c w by known w a refl) mine) call is))
-own-call call is (ends_threads own leads) m c u d w by known k a used mine fine right = own m c u d w by known k a used mine fine right
+own-call call is (tells_alike spared own) m c u d w by known k a used mine fine reads = own m c u d w by known k a used mine fine reads
+own-call call is (ends_threads own leads) m c u d w by known k a used mine fine reads = own m c u d w by known k a used mine fine reads

@@ -1,4 +1,6 @@
 -- What a call writes to sections is told by its words: the steps of it that change bytes are these.
+use Rattle.lpc_isolation.proofs.Views.Callers.{on_ok}
+use Rattle.lpc_model.specs.Ranges.{Described, described_test}
 use Rattle.lpc_model.specs.Found.{view_holding}
 use Rattle.lpc_model.specs.Memory.{new_section, place_in, memory_test, write_steps}
 use Rattle.std.proofs.Common.{◌≡◌, List, [], ◌∷◌, Bool, true, not, Option, Some, None, refl, arith, ℕ, sym, ◌∙◌}
@@ -12,7 +14,7 @@ use Rattle.lpc_model.specs.Basics.{AddsSection, Basic, Frees, Writes, world_afte
 use Rattle.lpc_model.specs.Close.{close_handle, close_steps}
 use Rattle.lpc_model.specs.Connect.{client_port, connect_start, connect_steps, connection_request, listen_steps}
 use Rattle.lpc_model.specs.Entering.{enter, received_steps, row_of}
-use Rattle.lpc_model.specs.Lines.{ScriptCall, create_section, write_virtual_memory}
+use Rattle.lpc_model.specs.Lines.{ScriptCall, create_section, write_virtual_memory, write_request_data}
 use Rattle.lpc_model.specs.Request.{datagram_start, datagram_steps, given_reply, receive_steps, reply_test, request_start, request_steps, sent_by}
 use Rattle.lpc_model.proofs.Calls.Holding.{Holds, bind_holds, holds_ok}
 use Rattle.lpc_model.proofs.Calls.Outcomes.{Outcomes, EndCall, end_call, of_process, of_thread}
@@ -21,10 +23,15 @@ use Rattle.lpc_isolation.proofs.Calls.Deeds.{served-does, memory-held}
 use Rattle.lpc_isolation.proofs.Gone.Served.{served}
 use Rattle.lpc_isolation.proofs.Views.Bytes.{is_byte_step}
 
+-- what is written through a described range
+abbrev pub written_range : List ℕ → Described → List Basic
+written_range new d = Writes d.view.section (place_in d.view d.address) new ∷ []
+
 -- what a call writes where it is served
 abbrev pub written_by : World → ThreadRow → ScriptCall → List Basic
 written_by w by (create_section size prot) = AddsSection (new_section by size prot) ∷ []
 written_by w by (write_virtual_memory address new) = given (view_holding w by.process address (length new)) (λ v. Writes v.section (place_in v address) new ∷ [])
+written_by w by (write_request_data handle bytes index new) = on_ok (described_test w by handle bytes index (length new)) (written_range new)
 written_by w by call = []
 
 -- Steps that change no bytes
@@ -83,6 +90,8 @@ module _ (w : World) (by : ThreadRow) where
     unmaps_view = λ address v at. refl;
     reads_memory = λ address n v at. refl;
     writes_memory = λ address new v at may. wrote address new v at;
+    reads_range = λ handle bytes index n d at. refl;
+    writes_range = λ handle bytes index new d at may. rw at refl;
     ends = λ call name own pid code ts doomed. let bs = answered_end by name own pid code ts w in blank-none bs (every-more is_ending is_blank ending-blank bs (steps-end w by name own pid code ts)) ∙ sym (ends-write call);
   }
     where

@@ -1,12 +1,15 @@
 -- The law on two scripts of the run whose rows never go.
+use Rattle.lpc_isolation.proofs.Memory.ViewLines.{line-right, line-views}
+use Rattle.lpc_isolation.proofs.Owed.Mapped.{HasKnownViews}
+use Rattle.lpc_isolation.proofs.Views.Reads.{FineLine}
 use Rattle.std.proofs.Common.{◌≡◌, ℕ, ◌≤◌, List, [], ◌++◌, Bool, true, false, refl, sym, subst, ◌∙◌, arith}
 use Rattle.lpc_model.specs.World.{Birth, Contents, Unknown, World, no_rows}
 use Rattle.lpc_model.specs.Lines.{ScriptLine}
 use Rattle.lpc_isolation.proofs.Gone.Served.{served_step}
 use Rattle.lpc_isolation.proofs.Gone.ServedLines.{served-firm}
-use Rattle.lpc_model.specs.Circle.{Group, HasInnerViews, is_fine_line, is_seen, line_whose}
+use Rattle.lpc_model.specs.Circle.{Group, is_fine_line, is_seen, line_whose}
 use Rattle.lpc_isolation.proofs.Views.Alone.{HasFineRows}
-use Rattle.lpc_isolation.proofs.Gone.Bare.{BareIsolation, IsApartAt}
+use Rattle.lpc_isolation.proofs.Gone.Bare.{BareIsolation, IsApartAt, HasViewsApart}
 use Rattle.lpc_isolation.proofs.Views.View.{view}
 use Rattle.lpc_isolation.proofs.Views.Bytes.{Agree, agree-right}
 use Rattle.lpc_model.specs.Grammar.{has_ids}
@@ -20,14 +23,15 @@ use Rattle.lpc_isolation.proofs.Memory.Heard.{Heard}
 use Rattle.lpc_isolation.proofs.Memory.Knows.{AllKnown}
 use Rattle.lpc_isolation.proofs.Rows.Firm.{firm_none}
 
--- a state stands for a world, and so do the bytes that it knows
+-- a state stands for a world, and so do the bytes that it knows; members' views are of members' sections or outer ones
 record StoodAll (m : Group) (c : ℕ) (outer : Birth → Bool) (w : World) (s : State) : Type 0 where
   stood : Stood m c w s
   agree : Agree m outer s.bytes w.contents
+  sees : HasKnownViews m outer w
 
-keeps-view : (m : Group) (c : ℕ) (outer : Birth → Bool) → m c ≡ true → (w : World) (t : List Heard) (k : Contents) (line : ScriptLine) → StoodAll m c outer w (record { seen = view m w; memo = t; bytes = k }) → HasFineRows m c w → HasFineRows m c (served_step w line).world → HasInnerViews c outer (served_step w line).world
-    → is_fine_line m c w line ≡ true → IsApartAt m outer w line → has_ids line ≡ true → Played (player m c) (StoodAll m c outer) m c w (record { seen = view m w; memo = t; bytes = k }) line
-keeps-view m c outer c_in w t k line all fine next inner ok apart fits = at (is_seen m (line_whose w line)) refl
+keeps-view : (m : Group) (c : ℕ) (outer : Birth → Bool) → m c ≡ true → (w : World) (t : List Heard) (k : Contents) (line : ScriptLine) → StoodAll m c outer w (record { seen = view m w; memo = t; bytes = k }) → HasFineRows m c w → HasFineRows m c (served_step w line).world → HasViewsApart m c outer w → HasViewsApart m c outer (served_step w line).world
+    → is_fine_line m c w line ≡ true → IsApartAt m c outer w line → has_ids line ≡ true → Played (player m c) (StoodAll m c outer) m c w (record { seen = view m w; memo = t; bytes = k }) line
+keeps-view m c outer c_in w t k line all fine next views after ok apart fits = at (is_seen m (line_whose w line)) refl
   where
     st : Stood m c w (record { seen = view m w; memo = t; bytes = k })
     st = all.stood
@@ -38,19 +42,24 @@ keeps-view m c outer c_in w t k line all fine next inner ok apart fits = at (is_
     n : Kept m c (served_step w line).world
     n = line-next m c w s line fits c_in st fine next
 
+    -- what the line reads is known
+    reads : FineLine m c k w line
+    reads = record { fine = ok; right = line-right m c outer w k line st.kept.fair ok apart.reads all.sees all.agree }
+
     l : Line m c w s line
-    l = of-line m c w t k line c_in st fine next n.once ok
+    l = of-line m c w t k line c_in st fine next n.once reads
 
     g : Known m c w t k line
-    g = line-known m c w t k line c_in st fine next n.once ok
+    g = line-known m c w t k line c_in st fine next n.once reads
 
     b : BytesKnown m c outer w t k line
-    b = line-bytes_known m c outer w t k line c_in st fine next ok apart all.agree
+    b = line-bytes_known m c outer w t k line c_in st fine next reads views.shows apart all.agree
 
     stands : (v : State) → v.seen ≡ view m (served_step w line).world → AllKnown m v.memo (served_step w line).world → Agree m outer v.bytes (served_step w line).world.contents → StoodAll m c outer (served_step w line).world v
     stands v seen known agree = record {
-      stood = record { seen = seen; firm = served-firm w line st.firm; kept = n; known = known; right = agree-right m c outer (served_step w line).world v.bytes c_in n.fair inner agree };
+      stood = record { seen = seen; firm = served-firm w line st.firm; kept = n; known = known; right = agree-right m c outer (served_step w line).world v.bytes c_in n.fair after.inner agree };
       agree = agree;
+      sees = line-views m c outer w line st.kept.fair all.sees;
     }
 
     -- what is told changes no bytes
@@ -72,9 +81,9 @@ keeps-view m c outer c_in w t k line all fine next inner ok apart fits = at (is_
     })
 
 keeps-all : (m : Group) (c : ℕ) (outer : Birth → Bool) → m c ≡ true → Keeps (player m c) (StoodAll m c outer) has_ids m c outer
-keeps-all m c outer c_in w s line all fine next inner ok apart fits =
+keeps-all m c outer c_in w s line all fine next views after ok apart fits =
     from (view m w) (sym all.stood.seen)
-    (keeps-view m c outer c_in w s.memo s.bytes line (record { stood = record { seen = refl; firm = all.stood.firm; kept = all.stood.kept; known = all.stood.known; right = all.stood.right }; agree = all.agree }) fine next inner ok apart fits)
+    (keeps-view m c outer c_in w s.memo s.bytes line (record { stood = record { seen = refl; firm = all.stood.firm; kept = all.stood.kept; known = all.stood.known; right = all.stood.right }; agree = all.agree; sees = all.sees }) fine next views after ok apart fits)
   where
     from : (v : World) → v ≡ s.seen → Played (player m c) (StoodAll m c outer) m c w (record { seen = v; memo = s.memo; bytes = s.bytes }) line → Played (player m c) (StoodAll m c outer) m c w s line
     from v same p = subst (λ v. Played (player m c) (StoodAll m c outer) m c w (record { seen = v; memo = s.memo; bytes = s.bytes }) line) same p
@@ -104,4 +113,4 @@ stood_none m c = record {
 }
 
 pub bare-isolation : BareIsolation
-bare-isolation = isolation (λ m c. player m c) (λ m c outer. StoodAll m c outer) none_seen has_ids script-says (λ m c outer c_in. keeps-all m c outer c_in) (λ m c outer. record { stood = stood_none m c; agree = (refl, refl, λ b inside off. refl) })
+bare-isolation = isolation (λ m c. player m c) (λ m c outer. StoodAll m c outer) none_seen has_ids script-says (λ m c outer c_in. keeps-all m c outer c_in) (λ m c outer. record { stood = stood_none m c; agree = (refl, refl, λ b inside off. refl); sees = refl })

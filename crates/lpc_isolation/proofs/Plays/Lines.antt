@@ -12,7 +12,7 @@ use Rattle.lpc_model.specs.declared.entry.Entry.TheVariants as entry
 use Rattle.lpc_model.specs.World.{Contents, ThreadRow, UsedThread, WaitRow, World}
 use Rattle.lpc_model.specs.Found.{is_used_thread, live_thread, waits_as}
 use Rattle.lpc_model.specs.Basics.{Basic, entries_of, world_after}
-use Rattle.lpc_model.specs.Lines.{ScriptCall, run, read_virtual_memory}
+use Rattle.lpc_model.specs.Lines.{ScriptCall, run, read_virtual_memory, read_request_data}
 use Rattle.lpc_isolation.proofs.Gone.Served.{served_step, served_steps}
 use Rattle.lpc_model.specs.Circle.{Everyone, Event, Group, Item, Nobody, Of, Ran, Told, Whose, entry_whose, is_item, is_seen, is_told_to, item_of, items, owned, owner, thread_whose, told_event}
 use Rattle.lpc_isolation.proofs.Views.Alone.{alone}
@@ -160,6 +160,7 @@ pub record Leads : Type 0 where
 -- what a call of c's sees of bytes: a read sees those that are known; the view has none, and no other call sees any
 abbrev pub seeing : Contents → World → ScriptCall → World
 seeing k v (read_virtual_memory address n) = record v { contents = k }
+seeing k v (read_request_data handle bytes index n) = record v { contents = k }
 seeing k v call = v
 
 abbrev pub led_line : Leads → World → ℕ → ScriptCall → Entry → List Basic

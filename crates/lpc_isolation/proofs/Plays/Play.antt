@@ -11,9 +11,9 @@ use Rattle.lpc_model.specs.World.{Birth, World, no_rows}
 use Rattle.lpc_model.specs.Lines.{ScriptLine}
 use Rattle.lpc_isolation.proofs.Gone.Served.{served_step}
 use Rattle.lpc_model.specs.Run.{said_in}
-use Rattle.lpc_model.specs.Circle.{Event, Everyone, Group, HasInnerViews, Item, Nobody, Of, Ran, Told, Whose, entry_whose, inputs, is_fine_line, is_input, is_item, is_seen, is_told_to, item_of, items, line_whose, members, told_event}
+use Rattle.lpc_model.specs.Circle.{Event, Everyone, Group, Item, Nobody, Of, Ran, Told, Whose, entry_whose, inputs, is_fine_line, is_input, is_item, is_seen, is_told_to, item_of, items, line_whose, members, told_event}
 use Rattle.lpc_isolation.proofs.Views.Alone.{HasFineRows, alone}
-use Rattle.lpc_isolation.proofs.Gone.Bare.{IsApartAt, IsBareCircle, BareIsolation, bare_events, bare_line_events}
+use Rattle.lpc_isolation.proofs.Gone.Bare.{IsApartAt, IsBareCircle, BareIsolation, bare_events, bare_line_events, HasViewsApart}
 
 -- How a group's lines are played: a state, what an entry and a line do to it, and what c sees of a line
 pub record Player (S : Type 0) : Type 0 where
@@ -101,7 +101,7 @@ line-inputs m c w line = subst (λ b. map item_of (cond b (record { whose = line
 -- what each line of a circle's run owes
 abbrev pub Keeps : {S : Type 0} → Player S → (World → S → Type 0) → (ScriptLine → Bool) → Group → ℕ → (Birth → Bool) → Type 0
 Keeps {S} p Stands ok m c outer =
-    (w : World) (v : S) (line : ScriptLine) → Stands w v → HasFineRows m c w → HasFineRows m c (served_step w line).world → HasInnerViews c outer (served_step w line).world → is_fine_line m c w line ≡ true → IsApartAt m outer w line → ok line ≡ true
+    (w : World) (v : S) (line : ScriptLine) → Stands w v → HasFineRows m c w → HasFineRows m c (served_step w line).world → HasViewsApart m c outer w → HasViewsApart m c outer (served_step w line).world → is_fine_line m c w line ≡ true → IsApartAt m c outer w line → ok line ≡ true
     → Played p Stands m c w v line
 
 -- every line that says something is as it must be
@@ -110,7 +110,7 @@ are_ok ok [] = true
 are_ok ok (None ∷ later) = are_ok ok later
 are_ok ok (Some line ∷ later) = ok line && are_ok ok later
 
-head-fine : (m : Group) (c : ℕ) (outer : Birth → Bool) (w : World) (lines : List (Option ScriptLine)) → IsBareCircle m c outer w lines → HasFineRows m c w × HasInnerViews c outer w
+head-fine : (m : Group) (c : ℕ) (outer : Birth → Bool) (w : World) (lines : List (Option ScriptLine)) → IsBareCircle m c outer w lines → HasFineRows m c w × HasViewsApart m c outer w
 head-fine m c outer w [] is = is
 head-fine m c outer w (None ∷ later) is = head-fine m c outer w later is
 head-fine m c outer w (Some line ∷ later) is = (is.0, is.1)
@@ -136,7 +136,7 @@ plays p Stands ok m c outer k w v (None ∷ later) is circle fit = plays p Stand
 plays p Stands ok m c outer k w v (Some line ∷ later) is circle fit =
     let next = head-fine m c outer (served_step w line).world later circle.4 in
     items-append (alone c) (bare_line_events w line) (bare_events (served_step w line).world later)
-    ∙ played-line p Stands m c w v line (items (alone c) (bare_events (served_step w line).world later)) (inputs m c (bare_events (served_step w line).world later)) (k w v line is circle.0 next.0 next.1 circle.2 circle.3 (first-true _ _ fit))
+    ∙ played-line p Stands m c w v line (items (alone c) (bare_events (served_step w line).world later)) (inputs m c (bare_events (served_step w line).world later)) (k w v line is circle.0 next.0 circle.1 next.1 circle.2 circle.3 (first-true _ _ fit))
     (λ v is. plays p Stands ok m c outer k (served_step w line).world v later is circle.4 (second-true _ _ fit))
     ∙ ap (play p v) (sym (inputs-append m c (bare_line_events w line) (bare_events (served_step w line).world later)))
 

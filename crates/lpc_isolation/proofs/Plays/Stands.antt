@@ -1,4 +1,5 @@
 -- A state that is played from the inputs, and what it stands for: what c sees of each line.
+use Rattle.lpc_isolation.proofs.Views.Reads.{FineLine}
 use Rattle.lpc_isolation.proofs.Calls.Services.{serves}
 use Rattle.std.proofs.Common.{◌≡◌, ℕ, List, [], ◌∷◌, ◌++◌, true, false, Option, Some, None, refl, sym, subst, arith}
 use Rattle.std.specs.Prelude.{◌==◌, Ok}
@@ -136,7 +137,7 @@ pub line-call : (m : Group) (c : ℕ) (w : World) (tid : ℕ) (call : ScriptCall
 line-call m c w tid call fine by own mine =
     let it : passes (owner w tid) (λ p. p == c) ≡ true = rw own (rw mine (same-number c)) in grind arith
 
-pub owes-line : (m : Group) (c : ℕ) (w : World) (s : State) (tid : ℕ) (call : ScriptCall) → m c ≡ true → Stood m c w s → HasFineRows m c w → HasFineRows m c (served_step w (run tid call)).world → is_fine_line m c w (run tid call) ≡ true → Owes (leading m (known_queue s.memo) s.bytes) m c w tid call
+pub owes-line : (m : Group) (c : ℕ) (w : World) (s : State) (tid : ℕ) (call : ScriptCall) → m c ≡ true → Stood m c w s → HasFineRows m c w → HasFineRows m c (served_step w (run tid call)).world → FineLine m c s.bytes w (run tid call) → Owes (leading m (known_queue s.memo) s.bytes) m c w tid call
 owes-line m c w s tid call c_in st fine next line = at (live_thread w tid) refl
   where
     owned : Owned w w
@@ -148,7 +149,7 @@ owes-line m c w s tid call c_in st fine next line = at (live_thread w tid) refl
         let number : by.number ≡ tid = live-number w tid by live in
         let own : owner w tid ≡ Some by.process = live-owner m c w tid by st.kept.fair live in
         owes-call (leading m (known_queue s.memo) s.bytes) m c w tid call by (record { c_in = c_in; fair = st.kept.fair; owned = owned; live = live; idle = idle })
-        (serves m c w by (known_queue s.memo) call s.bytes (ready-at m c w s tid by c_in st fine live idle) (λ mine. line-call m c w tid call line by own mine) st.right) next
+        (serves m c w by (known_queue s.memo) call s.bytes (ready-at m c w s tid by c_in st fine live idle) (λ mine. line-call m c w tid call line.fine by own mine) (λ mine. record { views = st.right; range = line.right by live idle mine })) next
 
     at : (o : Option ThreadRow) → live_thread w tid ≡ o → Owes (leading m (known_queue s.memo) s.bytes) m c w tid call
     at None none = owes-none (leading m (known_queue s.memo) s.bytes) m c w tid call c_in st.kept.fair none
@@ -160,7 +161,7 @@ pub record Line (m : Group) (c : ℕ) (w : World) (s : State) (line : ScriptLine
   pub shows : is_seen m (line_whose w line) ≡ true → (is : List Item) → (view m (served_step w line).world ≡ absorb_all (played_view m c s line (told_items (told_at m c w line) ++ is)) (told_at m c w line))
       × (items (alone c) (bare_line_events w line) ≡ played_items m c s line (told_items (told_at m c w line) ++ is))
 
-pub of-line : (m : Group) (c : ℕ) (w : World) (t : List Heard) (k : Contents) (line : ScriptLine) → m c ≡ true → Stood m c w (record { seen = view m w; memo = t; bytes = k }) → HasFineRows m c w → HasFineRows m c (served_step w line).world → OnceUsed (served_step w line).world → is_fine_line m c w line ≡ true → Line m c w (record { seen = view m w; memo = t; bytes = k }) line
+pub of-line : (m : Group) (c : ℕ) (w : World) (t : List Heard) (k : Contents) (line : ScriptLine) → m c ≡ true → Stood m c w (record { seen = view m w; memo = t; bytes = k }) → HasFineRows m c w → HasFineRows m c (served_step w line).world → OnceUsed (served_step w line).world → FineLine m c k w line → Line m c w (record { seen = view m w; memo = t; bytes = k }) line
 of-line m c w t k (run tid call) c_in st fine next once line =
     let o = owes-line m c w (record { seen = view m w; memo = t; bytes = k }) tid call c_in st fine next line in
     record { hides = λ out. run-hidden (leading m (known_queue t) k) m c w tid call c_in o out; shows = λ seen is. run-visible (leading m (known_queue t) k) m c w tid call is c_in o st.kept.once once seen }

@@ -20,9 +20,9 @@ use Rattle.lpc_model.specs.Message.{bytes_of}
 use Rattle.lpc_model.specs.Then.{◌>>=◌}
 use Rattle.lpc_model.specs.World.{MessageRow, UsedThread, World}
 use Rattle.lpc_model.specs.Words.{begins, fault_if, id_word, info_word, is_id, message_word, number_word, words}
-use Rattle.lpc_model.specs.Grammar.{accept_word, access_word, call_line, call_named, call_words, four_words, handle_and_message, handle_and_reply, has_call_ids, one_handle, process_and_thread, qos_word, target_and_code, target_and_thread, target_word, view_word, directive_line, directive_named, directive_words, has_ids, one_word, is_printable, read_line, starts_call, thread_call, two_words, words_line, two_numbers, four_numbers, address_and_bytes}
+use Rattle.lpc_model.specs.Grammar.{accept_word, access_word, call_line, call_named, call_words, four_words, handle_and_message, handle_and_reply, has_call_ids, one_handle, process_and_thread, qos_word, target_and_code, target_and_thread, target_word, view_word, directive_line, directive_named, directive_words, has_ids, one_word, is_printable, read_line, starts_call, thread_call, two_words, words_line, two_numbers, four_numbers, address_and_bytes, range_words, range_and_bytes}
 use Rattle.lpc_model.specs.declared.entry.CallName.{CallName}
-use Rattle.lpc_model.specs.declared.entry.CallName.TheVariants.{NtAcceptConnectPort, NtClose, NtCompleteConnectPort, NtConnectPort, NtCreatePort, NtCreateProcess, NtCreateThread, NtDuplicateObject, NtListenPort, NtQueryObject, NtRegisterThreadTerminatePort, NtReplyPort, NtReplyWaitReceivePort, NtRequestPort, NtRequestWaitReplyPort, NtTerminateProcess, NtTerminateThread, NtCreateSection, NtMapViewOfSection, NtUnmapViewOfSection, NtReadVirtualMemory, NtWriteVirtualMemory}
+use Rattle.lpc_model.specs.declared.entry.CallName.TheVariants.{NtAcceptConnectPort, NtClose, NtCompleteConnectPort, NtConnectPort, NtCreatePort, NtCreateProcess, NtCreateThread, NtDuplicateObject, NtListenPort, NtQueryObject, NtRegisterThreadTerminatePort, NtReplyPort, NtReplyWaitReceivePort, NtRequestPort, NtRequestWaitReplyPort, NtTerminateProcess, NtTerminateThread, NtCreateSection, NtMapViewOfSection, NtUnmapViewOfSection, NtReadVirtualMemory, NtWriteVirtualMemory, NtReadRequestData, NtWriteRequestData}
 use Rattle.lpc_model.specs.declared.line.ProcArg.{ProcArg}
 use Rattle.lpc_model.specs.Lines.{ScriptCall, ScriptLine}
 use Rattle.lpc_model.specs.Run.{numbered_line, said_from, said_in, unless_faulty}
@@ -138,6 +138,8 @@ words-call NtMapViewOfSection others = then_gives (four_numbers others) _ HasCal
 words-call NtUnmapViewOfSection others = then_gives (one_handle others) _ HasCallIds (λ address _. refl)
 words-call NtReadVirtualMemory others = then_gives (two_numbers others) _ HasCallIds (λ two _. refl)
 words-call NtWriteVirtualMemory others = then_gives (address_and_bytes others) _ HasCallIds (λ two _. refl)
+words-call NtReadRequestData others = then_gives (range_words others) _ HasCallIds (λ range _. refl)
+words-call NtWriteRequestData others = then_gives (range_and_bytes others) _ HasCallIds (λ new _. refl)
 words-call NtTerminateThread others = then_gives (target_and_code others) _ HasCallIds (λ _ _. refl)
 words-call NtTerminateProcess others = then_gives (target_and_code others) _ HasCallIds (λ _ _. refl)
 

@@ -4,7 +4,7 @@ use Rattle.std.specs.Prelude.{◌≡◌, ℕ, ◌==◌, Bool, List, true}
 use Rattle.lpc_base.specs.Rows.{every, has}
 use Rattle.lpc_model.specs.World.{Birth, World}
 use Rattle.lpc_model.specs.Basics.{Basic}
-use Rattle.lpc_model.specs.Circle.{Group, is_fine_port, is_fine_process, is_write_of}
+use Rattle.lpc_model.specs.Circle.{Group, is_fine_port, is_fine_process, is_write_of, outsider_sees}
 
 -- the group of one process
 abbrev pub alone : ℕ → Group
@@ -14,6 +14,9 @@ alone c = λ p. p == c
 abbrev pub HasFineRows : Group → ℕ → World → Type 0
 HasFineRows group c w = (every (is_fine_process group) w.processes ≡ true) × (every (is_fine_port group c) w.ports ≡ true)
 
--- what an outsider's steps write is outer
+-- what outsiders' views show is outer, and what an outsider's steps write
+abbrev pub ShowsOuter : Group → (Birth → Bool) → World → Type 0
+ShowsOuter group outer w = (b : Birth) → has (outsider_sees group b) w.views ≡ true → outer b ≡ true
+
 abbrev pub WritesOuter : (Birth → Bool) → List Basic → Type 0
 WritesOuter outer bs = (b : Birth) → has (is_write_of b) bs ≡ true → outer b ≡ true

@@ -120,6 +120,16 @@ write-else : (k : Contents) (b d : Birth) (place : ℕ) (new : List ℕ) → sam
 write-else Unknown b d place new off = refl
 write-else (Known rows) b d place new off = ap (option_map (λ (c : ContentRow). c.bytes)) (change-else b d (written place new) (λ c. refl) off rows)
 
+-- bytes of an outer section
+pub agree-outer : (m : Group) (outer : Birth → Bool) (k w : Contents) (s : Birth) (place : ℕ) (new : List ℕ) → outer s ≡ true → Agree m outer k w → Agree m outer k (contents_step w (Writes s place new))
+agree-outer m outer k w s place new is_outer a = (
+  a.0,
+  known-in (change (is_content s) (written place new)) w ∙ a.1,
+  λ b inside off.
+      let other : same_birth s b ≡ false = false_from_ne_true (same_birth s b) (λ is. let same : outer s ≡ outer b = ap outer (birth-same s b is) in cc) in
+      a.2 b inside off ∙ sym (write-else w s b place new other),
+)
+
 -- An outsider's steps
 -- they make sections of outsiders, and write outer ones
 step-outside : (m : Group) (c : ℕ) (u : World) (d : Whose) (outer : Birth → Bool) (k : Contents) (w : World) (b : Basic) → is_apart m c u d w b ≡ true → ((s : Birth) → is_write_of s b ≡ true → outer s ≡ true) → Agree m outer k w.contents → Agree m outer k (contents_step w.contents b)
@@ -131,14 +141,7 @@ step-outside m c u d outer k w (AddsSection s) apart writes a =
           let other : same_birth s.birth b ≡ false = false_from_ne_true (same_birth s.birth b) (λ is. let same : m s.birth.process ≡ m b.process = of_birth m s.birth b is in cc) in
           a.2 b inside off ∙ sym (add-else w.contents s b other),
     )
-step-outside m c u d outer k w (Writes s place new) apart writes a =
-    let is_outer : outer s ≡ true = writes s (birth-self s) in (
-      a.0,
-      known-in (change (is_content s) (written place new)) w.contents ∙ a.1,
-      λ b inside off.
-          let other : same_birth s b ≡ false = false_from_ne_true (same_birth s b) (λ is. let same : outer s ≡ outer b = ap outer (birth-same s b is) in cc) in
-          a.2 b inside off ∙ sym (write-else w.contents s b place new other),
-    )
+step-outside m c u d outer k w (Writes s place new) apart writes a = agree-outer m outer k w.contents s place new (writes s (birth-self s)) a
 step-outside m c u d outer k w (Frees o) apart writes a = absurd (cc)
 step-outside m c u d outer k w b apart writes a = a
 

@@ -102,7 +102,7 @@ same-pairs m c w port a x fair port_in x_in =
 second-of : (a b c d e f : Bool) → (a && (b && (c && (d && (e && f))))) ≡ true → b ≡ true
 second-of a b c d e f is = grind arith
 
-fit-process : (w : World) (port : Birth) (a : Message) (x : WaitRow) → fits w port a x ≡ true → (x.process == a.header.client.process) ≡ true
+pub fit-process : (w : World) (port : Birth) (a : Message) (x : WaitRow) → fits w port a x ≡ true → (x.process == a.header.client.process) ≡ true
 fit-process w port a x is = second-of (x.thread == a.header.client.thread) (x.process == a.header.client.process) (x.identifier == a.header.message_id) (is_request x) x.received (same_birth x.queue port || is_the port (pair_of w x.port)) is
 
 two-the : (m : Group) (a b : Birth) (o : Option Birth) → is_the a o ≡ true → is_the b o ≡ true → m a.process ≡ m b.process

@@ -160,6 +160,8 @@ module _ (s : Receipt) (quiet : asks (message_of s.bytes) ≡ false) where
     unmaps_view = λ address v at. level w _ _ refl;
     reads_memory = λ address n v at. level w _ _ refl;
     writes_memory = λ address new v at may. level w _ _ refl;
+    reads_range = λ handle bytes index n d at. level w _ _ refl;
+    writes_range = λ handle bytes index new d at may. level w _ _ refl;
     ends = λ call name own pid code ts doomed. ended-balanced w _ by name own pid code ts is.sound;
   }
 

@@ -419,5 +419,7 @@ module _ (by : ThreadRow) (C K : World → Type 0) (P : World → List Basic →
     unmaps_view = λ address v at. told-first w _ _ (k.unmaps w by.process v.base);
     reads_memory = λ address n v at. k.says w _;
     writes_memory = λ address new v at writes. told-first w _ _ (k.writes w v.section (place_in v address) new);
+    reads_range = λ handle bytes index n d at. k.says w _;
+    writes_range = λ handle bytes index new d at writes. told-first w _ _ (k.writes w d.view.section (place_in d.view d.address) new);
     ends = λ call name own pid code ts doomed. ending w name own pid code ts (record { safe = record { sound = is.sound; shut = (deep w is.known).0 }; known = (deep w is.known).1 });
   }

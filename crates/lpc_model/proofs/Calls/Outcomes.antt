@@ -14,13 +14,14 @@ use Rattle.lpc_model.specs.Counts.{asked, counts_of, duplicate_steps, nt_duplica
 use Rattle.lpc_model.specs.Creation.{making_process, making_thread, nt_create_thread, thread_test}
 use Rattle.lpc_model.specs.Death.{code_status, nt_terminate_process, nt_terminate_thread}
 use Rattle.lpc_model.specs.Found.{free_handle, handle_at, is_connection_port, is_live, is_queued, is_queued_connect, live_threads, was_process, was_thread, view_holding}
-use Rattle.lpc_model.specs.Lines.{ProcArg, ScriptCall, accept_connect_port, close, complete_connect_port, connect_port, create_port, create_process, create_thread, duplicate_object, listen_port, query_object, register_thread_terminate_port, reply_port, reply_wait_receive_port, request_port, request_wait_reply_port, terminate_process, terminate_thread, create_section, map_view_of_section, unmap_view_of_section, read_virtual_memory, write_virtual_memory}
+use Rattle.lpc_model.specs.Lines.{ProcArg, ScriptCall, accept_connect_port, close, complete_connect_port, connect_port, create_port, create_process, create_thread, duplicate_object, listen_port, query_object, register_thread_terminate_port, reply_port, reply_wait_receive_port, request_port, request_wait_reply_port, terminate_process, terminate_thread, create_section, map_view_of_section, unmap_view_of_section, read_virtual_memory, write_virtual_memory, read_request_data, write_request_data}
 use Rattle.lpc_model.specs.Machine.{service_of}
 use Rattle.lpc_base.specs.Views.{whole_pages}
 use Rattle.lpc_base.specs.declared.limits.TheConstants.{PAGE_SIZE, SECTION_LIMIT}
 use Rattle.lpc_model.specs.Memory.{PAGE_READWRITE, base_test, map_steps, mapped_view, mapping_right, memory_test, nt_create_section, nt_map_view_of_section, nt_read_virtual_memory, nt_unmap_view_of_section, nt_write_virtual_memory, protection_test, read_steps, section_load_test, section_steps, section_test, size_test, unmap_steps, write_steps}
 use Rattle.lpc_model.specs.Message.{message_test}
 use Rattle.lpc_model.specs.Named.{free_name, named_port}
+use Rattle.lpc_model.specs.Ranges.{Described, described_test, nt_read_request_data, nt_write_request_data, read_range_steps, write_range_steps}
 use Rattle.lpc_model.specs.Refusal.{refuse_if, found_or}
 use Rattle.lpc_model.specs.Register.{is_registered, nt_register_thread_terminate_port, registration_test}
 use Rattle.lpc_model.specs.Request.{Sendable, datagram_send_test, datagram_steps, given_reply, nt_reply_port, nt_reply_wait_receive_port, nt_request_port, nt_request_wait_reply_port, optional_message, receive_steps, receive_test, reply_steps, reply_test, request_steps, send_test, sent_by}
@@ -111,6 +112,9 @@ pub record Outcomes (w : World) (by : ThreadRow) (P : ScriptCall → List Basic 
   pub unmaps_view : (address : ℕ) (v : ViewRow) → view_holding w by.process address 1 ≡ Some v → P (unmap_view_of_section address) (unmap_steps by v)
   pub reads_memory : (address n : ℕ) (v : ViewRow) → memory_test w by address n ≡ Ok v → P (read_virtual_memory address n) (read_steps w.contents by address n v)
   pub writes_memory : (address : ℕ) (new : List ℕ) (v : ViewRow) → memory_test w by address (length new) ≡ Ok v → v.writable ≡ true → P (write_virtual_memory address new) (write_steps by address new v)
+  -- and so are ranges that a request describes
+  pub reads_range : (handle : ℕ) (bytes : List ℕ) (index n : ℕ) (d : Described) → described_test w by handle bytes index n ≡ Ok d → P (read_request_data handle bytes index n) (read_range_steps w.contents by n d)
+  pub writes_range : (handle : ℕ) (bytes : List ℕ) (index : ℕ) (new : List ℕ) (d : Described) → described_test w by handle bytes index (length new) ≡ Ok d → d.view.writable ≡ true → P (write_request_data handle bytes index new) (write_range_steps by new d)
   -- threads end, the caller itself (own) or others
   pub ends : (call : EndCall) (name : CallName) (own : Bool) (pid : ℕ) (code : Status) (ts : List ThreadRow) → AreDoomed w by own pid ts → P (end_call call) (answered_end by name own pid code ts w)
 
@@ -288,6 +292,17 @@ module _ (w : World) (by : ThreadRow) (P : ScriptCall → List Basic → Type 0)
       bind_holds (memory_test w by address (length new)) _ Q (λ v at.
       bind_holds (refuse_if (not v.writable) ACCESS_VIOLATION) _ Q (λ u off. o.writes_memory address new v at (not-false v.writable (not_refused (not v.writable) ACCESS_VIOLATION u off))))
 
+  read-range-does : (handle : ℕ) (bytes : List ℕ) (index n : ℕ) → Holds (P (read_request_data handle bytes index n)) (nt_read_request_data w by handle bytes index n)
+  unfolding nt_read_request_data
+  read-range-does handle bytes index n = bind_holds (described_test w by handle bytes index n) _ (P (read_request_data handle bytes index n)) (λ d at. o.reads_range handle bytes index n d at)
+
+  write-range-does : (handle : ℕ) (bytes : List ℕ) (index : ℕ) (new : List ℕ) → Holds (P (write_request_data handle bytes index new)) (nt_write_request_data w by handle bytes index new)
+  unfolding nt_write_request_data
+  write-range-does handle bytes index new =
+      let Q = P (write_request_data handle bytes index new) in
+      bind_holds (described_test w by handle bytes index (length new)) _ Q (λ d at.
+      bind_holds (refuse_if (not d.view.writable) ACCESS_VIOLATION) _ Q (λ u off. o.writes_range handle bytes index new d at (not-false d.view.writable (not_refused (not d.view.writable) ACCESS_VIOLATION u off))))
+
   pub service-does : (call : ScriptCall) → Holds (P call) (service_of w by call)
   service-does (create_port name) = create-does name
   service-does (connect_port name bytes) = connect-does name bytes
@@ -311,3 +326,5 @@ module _ (w : World) (by : ThreadRow) (P : ScriptCall → List Basic → Type 0)
   service-does (unmap_view_of_section address) = unmap-does address
   service-does (read_virtual_memory address n) = read-does address n
   service-does (write_virtual_memory address new) = write-does address new
+  service-does (read_request_data handle bytes index n) = read-range-does handle bytes index n
+  service-does (write_request_data handle bytes index new) = write-range-does handle bytes index new

@@ -198,5 +198,7 @@ module _ (by : ThreadRow) (C : World → Type 0) (P : World → List Basic → T
     unmaps_view = λ address v at. k.mild w _ refl;
     reads_memory = λ address n v at. k.mild w _ refl;
     writes_memory = λ address new v at may. k.mild w _ refl;
+    reads_range = λ handle bytes index n d at. k.mild w _ refl;
+    writes_range = λ handle bytes index new d at may. k.mild w _ refl;
     ends = λ call name own pid code ts doomed. k.ends w name own pid code ts doomed is;
   }

@@ -33,6 +33,7 @@ use Rattle.lpc_model.specs.Found.{all_registrations, all_views, free_handle, han
 use Rattle.lpc_model.specs.Lines.{ScriptLine}
 use Rattle.lpc_model.specs.Linked.{AreLivesHeld, HasHeldPorts, HasHeldRows, HasHeldSections}
 use Rattle.lpc_model.specs.Memory.{SECTION_ACCESS, map_steps, mapped_view, new_section, section_steps, write_steps}
+use Rattle.lpc_model.specs.Ranges.{write_range_steps}
 use Rattle.lpc_model.specs.Machine.{bare_steps, directive_birth, new_process, new_thread}
 use Rattle.lpc_model.specs.Request.{datagram_steps, receive_steps, request_steps, sent_by}
 use Rattle.lpc_model.specs.SoundWaits.{IsSoundWorld}
@@ -305,6 +306,8 @@ module _ (Q : World → Type 0) (k : KeepsRows Q) where
     unmaps_view = λ address v at quiet. absurd (cc);
     reads_memory = λ address n v at quiet held. held;
     writes_memory = λ address new v at may. k.steady w (write_steps by address new v) refl;
+    reads_range = λ handle bytes index n d at quiet held. held;
+    writes_range = λ handle bytes index new d at may. k.steady w (write_range_steps by new d) refl;
     ends = λ call name own pid code ts doomed quiet. let loose = doomed-loosens w by name own pid code ts doomed in absurd (cc);
   }
 

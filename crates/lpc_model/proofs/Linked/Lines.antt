@@ -29,6 +29,7 @@ use Rattle.lpc_model.specs.Found.{free_handle}
 use Rattle.lpc_model.specs.Lines.{ScriptLine}
 use Rattle.lpc_model.specs.Linked.{is_root_port}
 use Rattle.lpc_model.specs.Memory.{map_steps, mapped_view, section_steps, unmap_steps, write_steps}
+use Rattle.lpc_model.specs.Ranges.{write_range_steps}
 use Rattle.lpc_model.specs.Machine.{bare_steps, directive_birth, new_process, new_thread, step}
 use Rattle.lpc_model.specs.Named.{named_port}
 use Rattle.lpc_model.specs.Request.{datagram_steps, receive_steps, reply_steps, request_steps, sent_by}
@@ -82,6 +83,8 @@ linked-calls by w is = record {
   unmaps_view = λ address v at. plain-all w (unmap_steps by v) refl;
   reads_memory = λ address n v at l. l;
   writes_memory = λ address new v at may. plain-all w (write_steps by address new v) refl;
+  reads_range = λ handle bytes index n d at l. l;
+  writes_range = λ handle bytes index new d at may. plain-all w (write_range_steps by new d) refl;
   ends = λ call name own pid code ts doomed. ended-linked w (answered_end by name own pid code ts w) (steps-end w by name own pid code ts);
 }
 

@@ -95,6 +95,8 @@ sound-calls by w is = record {
   unmaps_view = λ address v at s. sound-memory w _ _ _ s;
   reads_memory = λ address n v at s. s;
   writes_memory = λ address new v at may s. sound-memory w _ _ _ s;
+  reads_range = λ handle bytes index n d at s. s;
+  writes_range = λ handle bytes index new d at may s. sound-memory w _ _ _ s;
   ends = λ call name own pid code ts doomed s. world-ends IsSoundWorld w by name own pid code ts (end-sound pid code ts w s is.known);
 }
   where
