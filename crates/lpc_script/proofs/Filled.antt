@@ -1,17 +1,12 @@
 -- Bytes that digits stand for, behind a front.
-use Rattle.std.proofs.Common.{◌≡◌, ℕ, ◌+◌, ◌*◌, ◌/◌, ◌%◌, List, ◌++◌, length, take, cond, eqb, refl, sym, ◌∙◌, arith, append_assoc, length-append}
+use Rattle.std.proofs.Common.{◌≡◌, ℕ, ◌+◌, ◌*◌, ◌/◌, ◌%◌, List, ◌++◌, length, take, cond, eqb, refl, arith, append_assoc, length-append}
 use Rattle.std.specs.Prelude.{Bool, true, false, Result, Ok, Err}
 use Rattle.std.proofs.Math.Seq.{take-append_seam}
 use Rattle.hex.specs.Hex.{decode_pairs}
 use Rattle.hex.specs.declared.error.FromHexError.{FromHexError}
 use Rattle.hex.specs.declared.error.FromHexError.TheVariants.{OddLength}
 use Rattle.hex.proofs.HexLemmas.{decode_pairs-ok}
-use Rattle.lpc_base.specs.declared.limits.TheConstants.{HEADER_SIZE}
-use Rattle.lpc_message.specs.Layout.{header_bytes}
-use Rattle.lpc_message.specs.declared.message.ClientId.{ClientId}
-use Rattle.lpc_model.specs.declared.fault.LineFault.{LineFault}
-use Rattle.lpc_model.specs.Words.{hex_word, hex_or_fault, hex_message, made_message}
-use Rattle.lpc_model.specs.Then.{◌>>=◌}
+use Rattle.lpc_model.specs.Words.{hex_word, hex_or_fault}
 use Rattle.lpc_script.specs.Front.{behind}
 
 pairs_same : (read : Result (List ℕ) FromHexError) (bytes : List ℕ) → hex_or_fault read ≡ Ok bytes → read ≡ Ok bytes
@@ -32,17 +27,3 @@ filled front digits head bytes rest read is =
     let long = hex_length digits bytes read in
     let whole : length front + length digits / 2 ≡ length (front ++ bytes) = rw length-append (omega arith) in
     rw (read, is, whole, ← append_assoc, take-append_seam) refl
-
-made_at : (client : ClientId) (id : ℕ) (front digits : List ℕ) (n : ℕ) (read : Result (List ℕ) LineFault) → hex_word digits ≡ read → n ≡ length digits / 2
-    → front ≡ header_bytes (record { data_size = n; message_size = HEADER_SIZE + n; kind = 0; ranges_offset = 0; client = client; message_id = id; section_size = 0 })
-    → behind front read ≡ (read >>= λ bytes. Ok (made_message client id bytes))
-made_at client id front digits n (Ok bytes) found size is =
-    let long : n ≡ length bytes = size ∙ sym (hex_length digits bytes found) in
-    rw (is, long) refl
-made_at client id front digits n (Err e) found size is = refl
-
--- with the header of its size in front it is the message
-pub made_is : (client : ClientId) (id : ℕ) (front digits : List ℕ) (n : ℕ) → n ≡ length digits / 2
-    → front ≡ header_bytes (record { data_size = n; message_size = HEADER_SIZE + n; kind = 0; ranges_offset = 0; client = client; message_id = id; section_size = 0 })
-    → behind front (hex_word digits) ≡ hex_message client id digits
-made_is client id front digits n size is = made_at client id front digits n (hex_word digits) refl size is

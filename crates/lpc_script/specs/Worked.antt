@@ -2,7 +2,7 @@
 use Rattle.std.specs.Prelude.{◌≡◌, ◌<◌, ℕ, true, false, List, length, [], ◌∷◌, ◌++◌, codes, Some, None, Ok, Err}
 use Rattle.lpc_base.specs.declared.limits.TheConstants.{LINE_LIMIT}
 use Rattle.lpc_model.specs.declared.fault.LineFault.TheVariants as fault
-use Rattle.lpc_model.specs.Lines.{boot, thread, dir, link, run, create_port, connect_port, listen_port, accept_connect_port, complete_connect_port, request_port, request_wait_reply_port, reply_port, reply_wait_receive_port, create_section, map_view_of_section, unmap_view_of_section, read_virtual_memory, write_virtual_memory}
+use Rattle.lpc_model.specs.Lines.{boot, thread, dir, link, run, create_port, connect_port, listen_port, accept_connect_port, complete_connect_port, request_port, request_wait_reply_port, reply_port, reply_wait_receive_port, create_section, map_view_of_section, unmap_view_of_section, read_virtual_memory, write_virtual_memory, read_request_data, write_request_data}
 use Rattle.lpc_model.specs.Grammar.{read_line}
 
 pub record WorkedLines : Type 0 where
@@ -44,6 +44,10 @@ pub record WorkedLines : Type 0 where
   pub end_of_a_view : read_line (codes "24 NtUnmapViewOfSection 0x30000") ≡ Ok (Some (run 24 (unmap_view_of_section 196608)))
   pub bytes_to_read : read_line (codes "24 NtReadVirtualMemory 0x20000 3") ≡ Ok (Some (run 24 (read_virtual_memory 131072 3)))
   pub bytes_to_write : read_line (codes "24 NtWriteVirtualMemory 65536 4142fF") ≡ Ok (Some (run 24 (write_virtual_memory 65536 (65 ∷ 66 ∷ 255 ∷ []))))
+  pub range_to_read : read_line (codes "24 NtReadRequestData 8 m:4142 0x0 16") ≡ Ok (Some (run 24 (read_request_data 8 (65 ∷ 66 ∷ []) 0 16)))
+  pub range_to_write : read_line (codes "24 NtWriteRequestData 8 r:32.36.2: 1 4142fF")
+      ≡ Ok (Some (run 24 (write_request_data 8
+      (0 ∷ 0 ∷ 24 ∷ 0 ∷ 0 ∷ 0 ∷ 0 ∷ 0 ∷ 32 ∷ 0 ∷ 0 ∷ 0 ∷ 36 ∷ 0 ∷ 0 ∷ 0 ∷ 2 ∷ 0 ∷ 0 ∷ 0 ∷ 0 ∷ 0 ∷ 0 ∷ 0 ∷ []) 1 (65 ∷ 66 ∷ 255 ∷ []))))
   -- lines that say nothing
   pub comment : read_line (codes "# reboot 1 2") ≡ Ok None
   pub comment_with_a_bad_byte : read_line (35 ∷ 200 ∷ []) ≡ Ok None
@@ -70,6 +74,7 @@ pub record WorkedLines : Type 0 where
   pub end_of_no_view : read_line (codes "24 NtUnmapViewOfSection") ≡ Err fault.Count
   pub read_without_a_length : read_line (codes "24 NtReadVirtualMemory 0x20000") ≡ Err fault.Count
   pub write_without_bytes : read_line (codes "24 NtWriteVirtualMemory 65536 ") ≡ Err fault.Count
+  pub range_without_a_length : read_line (codes "24 NtReadRequestData 8 d: 0") ≡ Err fault.Count
   pub quality_of_service : read_line (codes "36 NtConnectPort \\P q:2:d - -") ≡ Err fault.Word
   pub view_of_a_connect : read_line (codes "36 NtConnectPort \\P - w:4:0:0 x") ≡ Err fault.Word
   pub neither_accept_nor_refuse : read_line (codes "24 NtAcceptConnectPort 7 d: Accept w") ≡ Err fault.Word
@@ -90,12 +95,14 @@ pub record WorkedLines : Type 0 where
   pub protection_by_a_letter : read_line (codes "24 NtCreateSection 65536 w") ≡ Err fault.Number
   pub offset_of_a_view : read_line (codes "24 NtMapViewOfSection 4 - 0 2") ≡ Err fault.Number
   pub address_before_the_bytes : read_line (codes "24 NtWriteVirtualMemory 08 4") ≡ Err fault.Number
+  pub range_before_the_bytes : read_line (codes "24 NtWriteRequestData 8 d: x 4") ≡ Err fault.Number
   pub odd_number_of_digits : read_line (codes "24 NtReplyPort 4 d:4") ≡ Err fault.Hex
   pub second_colon_of_a_reply : read_line (codes "24 NtReplyPort 4 r:1.2.3:41:42") ≡ Err fault.Hex
   pub odd_number_of_digits_of_info : read_line (codes "36 NtConnectPort \\P - - d:0") ≡ Err fault.Hex
   pub message_before_the_verdict : read_line (codes "24 NtAcceptConnectPort 7 m:0 - -") ≡ Err fault.Hex
   pub odd_number_of_digits_to_write : read_line (codes "24 NtWriteVirtualMemory 65536 414") ≡ Err fault.Hex
   pub data_of_a_message_to_write : read_line (codes "24 NtWriteVirtualMemory 65536 d:41") ≡ Err fault.Hex
+  pub odd_number_of_digits_of_a_range : read_line (codes "24 NtWriteRequestData 8 d: 0 414") ≡ Err fault.Hex
   pub reply_without_a_colon : read_line (codes "24 NtReplyPort 4 r:1.2.3") ≡ Err fault.Message
   pub reply_of_two_numbers : read_line (codes "24 NtReplyPort 4 r:1.2:41") ≡ Err fault.Message
   pub reply_of_four_numbers : read_line (codes "24 NtReplyPort 4 r:1.2.3.4:41") ≡ Err fault.Message
@@ -104,4 +111,5 @@ pub record WorkedLines : Type 0 where
   pub info_of_a_whole_message : read_line (codes "36 NtConnectPort \\P - - m:41") ≡ Err fault.Message
   pub info_of_a_reply : read_line (codes "36 NtConnectPort \\P - - r:1.2.3:41") ≡ Err fault.Message
   pub accept_of_no_message : read_line (codes "24 NtAcceptConnectPort 7 - accept -") ≡ Err fault.Message
+  pub message_before_the_range : read_line (codes "24 NtReadRequestData 8 - x 1") ≡ Err fault.Message
   pub byte_past_the_limit : (line : List ℕ) → LINE_LIMIT < length line → read_line line ≡ Err fault.Long

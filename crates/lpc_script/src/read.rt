@@ -3,7 +3,7 @@ ghost use Rattle.std.specs.Prelude.{◌≡◌, ◌≤◌, ◌&&◌, codes, lengt
 ghost use Rattle.std.specs.List.{list_all};
 ghost use Rattle.std.specs.Option.{option_copied, option_map};
 ghost use Rattle.lpc_base.specs.declared.limits.TheConstants.{LINE_LIMIT};
-ghost use Rattle.lpc_model.specs.declared.entry.CallName.TheVariants.{NtAcceptConnectPort, NtConnectPort, NtCreatePort, NtCreateProcess, NtCreateSection, NtCreateThread, NtDuplicateObject, NtMapViewOfSection, NtReadVirtualMemory, NtTerminateProcess, NtTerminateThread, NtUnmapViewOfSection, NtWriteVirtualMemory};
+ghost use Rattle.lpc_model.specs.declared.entry.CallName.TheVariants.{NtAcceptConnectPort, NtConnectPort, NtCreatePort, NtCreateProcess, NtCreateSection, NtCreateThread, NtDuplicateObject, NtMapViewOfSection, NtReadRequestData, NtReadVirtualMemory, NtTerminateProcess, NtTerminateThread, NtUnmapViewOfSection, NtWriteRequestData, NtWriteVirtualMemory};
 ghost use Rattle.lpc_model.specs.declared.entry.Word.TheVariants.{Boot, Thread};
 ghost use Rattle.lpc_model.specs.Lines.{call_of, line_of};
 ghost use Rattle.lpc_model.specs.Words.{is_id, words};
@@ -134,6 +134,38 @@ fn address_and_bytes<'a>(
     let address = number(address)?;
     let bytes = scratch.bytes(digits)?;
     Ok((address, bytes))
+}
+
+/// A handle, a message, the number of a range that the message's request describes, and how many of its bytes.
+fn range_words<'a>(
+    text: &[u8],
+    scratch: &'a mut Scratch,
+) -> Result<(u32, &'a [u8], u32, u32), LineFault>
+    requires { length text.now ≤ LINE_LIMIT }
+    ensures { Gives (λ p. (p.0, p.1.now, p.2, p.3)) result
+        (grammar.range_words (words text.now)) }
+{
+    let (handle, message, index, length) = four_words(text)?;
+    let handle = number(handle)?;
+    let message = scratch.message(message)?;
+    let index = number(index)?;
+    let length = number(length)?;
+    Ok((handle, message, index, length))
+}
+
+/// A handle, a message, the number of such a range, and the bytes that are to stand there.
+fn range_and_bytes<'a>(
+    text: &[u8],
+    scratch: &'a mut Scratch,
+) -> Result<(u32, &'a [u8], u32, &'a [u8]), LineFault>
+    requires { length text.now ≤ LINE_LIMIT }
+    ensures { Gives (λ p. (p.0, p.1.now, p.2, p.3.now)) result
+        (grammar.range_and_bytes (words text.now)) }
+{
+    let (handle, message, index, digits) = four_words(text)?;
+    let handle = number(handle)?;
+    let (message, index, bytes) = scratch.message_and_bytes(message, index, digits)?;
+    Ok((handle, message, index, bytes))
 }
 
 fn handle_and_message<'a>(
@@ -321,6 +353,36 @@ fn write_virtual_memory<'a>(text: &[u8], scratch: &'a mut Scratch) -> Result<Cal
     Ok(Call::WriteVirtualMemory { address, bytes })
 }
 
+#[tactic(auto, unfolding(lpc_model::specs::Grammar::call_words))]
+fn read_request_data<'a>(text: &[u8], scratch: &'a mut Scratch) -> Result<Call<'a>, LineFault>
+    requires { length text.now ≤ LINE_LIMIT }
+    ensures value { Gives call_of result (call_words NtReadRequestData (words text.now)) }
+    ensures ids { IfOk result (λ call. IsTrue (has_call_ids (call_of call))) }
+{
+    let (handle, message, index, length) = range_words(text, scratch)?;
+    Ok(Call::ReadRequestData {
+        handle,
+        message,
+        index,
+        length,
+    })
+}
+
+#[tactic(auto, unfolding(lpc_model::specs::Grammar::call_words))]
+fn write_request_data<'a>(text: &[u8], scratch: &'a mut Scratch) -> Result<Call<'a>, LineFault>
+    requires { length text.now ≤ LINE_LIMIT }
+    ensures value { Gives call_of result (call_words NtWriteRequestData (words text.now)) }
+    ensures ids { IfOk result (λ call. IsTrue (has_call_ids (call_of call))) }
+{
+    let (handle, message, index, bytes) = range_and_bytes(text, scratch)?;
+    Ok(Call::WriteRequestData {
+        handle,
+        message,
+        index,
+        bytes,
+    })
+}
+
 /// A call by the words behind its name.
 #[tactic(auto, unfolding(lpc_model::specs::Grammar::call_words))]
 fn call<'a>(name: CallName, text: &'a [u8], scratch: &'a mut Scratch) -> Result<Call<'a>, LineFault>
@@ -378,6 +440,8 @@ fn call<'a>(name: CallName, text: &'a [u8], scratch: &'a mut Scratch) -> Result<
         CallName::NtUnmapViewOfSection => unmap_view_of_section(text),
         CallName::NtReadVirtualMemory => read_virtual_memory(text),
         CallName::NtWriteVirtualMemory => write_virtual_memory(text, scratch),
+        CallName::NtReadRequestData => read_request_data(text, scratch),
+        CallName::NtWriteRequestData => write_request_data(text, scratch),
     }
 }
 

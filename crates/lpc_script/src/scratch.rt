@@ -2,7 +2,7 @@
 ghost use Rattle.std.specs.Prelude.{◌≡◌, ◌≤◌, ◌+◌, ◌/◌, length, take, IfOk};
 ghost use Rattle.lpc_base.specs.declared.limits.TheConstants.{HEADER_SIZE, LINE_LIMIT};
 ghost use Rattle.lpc_model.specs.Words.{hex_word, hex_message, info_word, reply_message, message_word};
-ghost use Rattle.lpc_script.specs.Front.{behind};
+ghost use Rattle.lpc_script.specs.Front.{behind, message_and_bytes};
 ghost use Rattle.lpc_words.specs.Gives.{Gives};
 
 use hex::decode_to_slice;
@@ -50,25 +50,33 @@ impl Scratch {
     ///
     /// `Message` where the word has none of the forms; then `Number` for the first number of an `r:` that is none; then
     /// `Hex` where the digits are no pairs of hexadecimal digits.
-    #[tactic(auto, unfolding(lpc_model::specs::Words::message_word))]
     pub(crate) fn message(&mut self, word: &[u8]) -> Result<&[u8], LineFault>
         requires { length word.now ≤ LINE_LIMIT }
         ensures { Gives (λ bytes. bytes.now) result (message_word word.now) }
     {
-        if word.starts_with(b"m:") {
-            return self.behind(&[], &word[2..]);
-        }
-        if word.starts_with(b"d:") {
-            let none = ClientId {
-                process: 0,
-                thread: 0,
-            };
-            return self.hex_message(none, 0, &word[2..]);
-        }
-        if word.starts_with(b"r:") {
-            return self.reply_message(&word[2..]);
-        }
-        Err(LineFault::Message)
+        let end = fill_message(&mut self.room, word)?;
+        Ok(&self.room[..end])
+    }
+
+    /// The message that a word spells, and behind it a number and bytes, each by the word that stands for it.
+    ///
+    /// The message's fault, then `Number` where the number is none, then `Hex` where the digits are no pairs of
+    /// hexadecimal digits.
+    pub(crate) fn message_and_bytes(
+        &mut self,
+        message: &[u8],
+        index: &[u8],
+        digits: &[u8],
+    ) -> Result<(&[u8], u32, &[u8]), LineFault>
+        requires { length message.now + length digits.now ≤ LINE_LIMIT }
+        ensures { Gives (λ p. (p.0.now, p.1, p.2.now)) result
+            (message_and_bytes message.now index.now digits.now) }
+    {
+        let end = fill_message(&mut self.room, message)?;
+        let index = number(index)?;
+        let size = fill(&mut self.room[end..], &[], digits)?;
+        let room = self.room.as_slice();
+        Ok((&room[..end], index, &room[end..end + size]))
     }
 
     /// The bytes that come with a connect, as a word spells them.
@@ -83,7 +91,7 @@ impl Scratch {
             return Ok(&[]);
         }
         if word.starts_with(b"d:") {
-            return self.behind(&[], &word[2..]);
+            return self.bytes(&word[2..]);
         }
         Err(LineFault::Message)
     }
@@ -93,63 +101,86 @@ impl Scratch {
         requires { length word.now ≤ LINE_LIMIT }
         ensures { Gives (λ bytes. bytes.now) result (hex_word word.now) }
     {
-        self.behind(&[], word)
-    }
-
-    /// A front, and behind it the bytes that digits stand for; `Hex` where they are no pairs of hexadecimal digits.
-    fn behind(&mut self, front: &[u8], digits: &[u8]) -> Result<&[u8], LineFault>
-        requires front { length front.now ≤ HEADER_SIZE }
-        requires digits { length digits.now ≤ LINE_LIMIT }
-        ensures { Gives (λ bytes. bytes.now) result (behind front.now (hex_word digits.now)) }
-    {
-        let end = fill(&mut self.room, front, digits)?;
+        let end = fill(&mut self.room, &[], word)?;
         Ok(&self.room[..end])
     }
+}
 
-    /// The message whose data digits stand for, with its header made; `Hex` where they are no pairs of hexadecimal
-    /// digits.
-    fn hex_message(
-        &mut self,
-        client: ClientId,
-        message_id: u32,
-        digits: &[u8],
-    ) -> Result<&[u8], LineFault>
-        requires { length digits.now ≤ LINE_LIMIT }
-        ensures { Gives (λ bytes. bytes.now) result (hex_message client message_id digits.now) }
-    {
-        let size = (digits.len() / 2) as u16;
-        let mut front = [0u8; HEADER_SIZE];
-        write_header(
-            &mut front,
-            &Header {
-                data_size: size,
-                message_size: HEADER_SIZE as u16 + size,
-                kind: 0,
-                ranges_offset: 0,
-                client,
-                message_id,
-                section_size: 0,
-            },
-        );
-        self.behind(&front, digits)
+/// Writes the message that a word spells over room; how many bytes it has.
+///
+/// `Message` where the word has none of the forms; then `Number` for the first number of an `r:` that is none; then
+/// `Hex` where the digits are no pairs of hexadecimal digits.
+#[tactic(auto, unfolding(lpc_model::specs::Words::message_word))]
+fn fill_message(room: &mut [u8], word: &[u8]) -> Result<usize, LineFault>
+    requires room { HEADER_SIZE + length word.now / 2 ≤ length room.old }
+    requires word { length word.now ≤ LINE_LIMIT }
+    ensures value { Gives (λ end. take end room.new) result (message_word word.now) }
+    ensures end { IfOk result (λ end. end ≤ HEADER_SIZE + length word.now / 2) }
+{
+    if word.starts_with(b"m:") {
+        return fill(room, &[], &word[2..]);
     }
+    if word.starts_with(b"d:") {
+        let none = ClientId {
+            process: 0,
+            thread: 0,
+        };
+        return fill_made(room, none, 0, &word[2..]);
+    }
+    if word.starts_with(b"r:") {
+        return fill_reply(room, &word[2..]);
+    }
+    Err(LineFault::Message)
+}
 
-    /// The message that replies to the client and the identifier in front of the first colon.
-    ///
-    /// `Message` where there is no colon, or not three parts in front of it; then `Number` for the first part that is
-    /// no number; then `Hex` where the digits are no pairs of hexadecimal digits.
-    #[tactic(auto, unfolding(lpc_model::specs::Words::reply_message))]
-    fn reply_message(&mut self, text: &[u8]) -> Result<&[u8], LineFault>
-        requires { length text.now ≤ LINE_LIMIT }
-        ensures { Gives (λ bytes. bytes.now) result (reply_message text.now) }
-    {
-        let (numbers, digits) = split_once(text, b':').ok_or(LineFault::Message)?;
-        let (process, thread, message_id) = three_parts(numbers).ok_or(LineFault::Message)?;
-        let process = number(process)?;
-        let thread = number(thread)?;
-        let message_id = number(message_id)?;
-        self.hex_message(ClientId { process, thread }, message_id, digits)
-    }
+/// Writes the message that replies to the client and the identifier in front of the first colon; how many bytes it has.
+///
+/// `Message` where there is no colon, or not three parts in front of it; then `Number` for the first part that is
+/// no number; then `Hex` where the digits are no pairs of hexadecimal digits.
+#[tactic(auto, unfolding(lpc_model::specs::Words::reply_message))]
+fn fill_reply(room: &mut [u8], text: &[u8]) -> Result<usize, LineFault>
+    requires room { HEADER_SIZE + length text.now / 2 ≤ length room.old }
+    requires text { length text.now ≤ LINE_LIMIT }
+    ensures value { Gives (λ end. take end room.new) result (reply_message text.now) }
+    ensures end { IfOk result (λ end. end ≤ HEADER_SIZE + length text.now / 2) }
+{
+    let (numbers, digits) = split_once(text, b':').ok_or(LineFault::Message)?;
+    let (process, thread, message_id) = three_parts(numbers).ok_or(LineFault::Message)?;
+    let process = number(process)?;
+    let thread = number(thread)?;
+    let message_id = number(message_id)?;
+    fill_made(room, ClientId { process, thread }, message_id, digits)
+}
+
+/// Writes the message whose data digits stand for, with its header made; how many bytes it has. `Hex` where they are no
+/// pairs of hexadecimal digits.
+fn fill_made(
+    room: &mut [u8],
+    client: ClientId,
+    message_id: u32,
+    digits: &[u8],
+) -> Result<usize, LineFault>
+    requires room { HEADER_SIZE + length digits.now / 2 ≤ length room.old }
+    requires digits { length digits.now ≤ LINE_LIMIT }
+    ensures value { Gives (λ end. take end room.new) result
+        (hex_message client message_id digits.now) }
+    ensures end { IfOk result (λ end. end ≤ HEADER_SIZE + length digits.now / 2) }
+{
+    let size = (digits.len() / 2) as u16;
+    let mut front = [0u8; HEADER_SIZE];
+    write_header(
+        &mut front,
+        &Header {
+            data_size: size,
+            message_size: HEADER_SIZE as u16 + size,
+            kind: 0,
+            ranges_offset: 0,
+            client,
+            message_id,
+            section_size: 0,
+        },
+    );
+    fill(room, &front, digits)
 }
 
 /// Writes a front over room, and behind it the bytes that digits stand for; how many bytes there are then. `Hex` where
@@ -158,7 +189,7 @@ fn fill(room: &mut [u8], front: &[u8], digits: &[u8]) -> Result<usize, LineFault
     requires { length front.now + length digits.now / 2 ≤ length room.old }
     ensures value { Gives (λ end. take end room.new) result
         (behind front.now (hex_word digits.now)) }
-    ensures end { IfOk result (λ end. end ≤ length room.old) }
+    ensures end { IfOk result (λ end. end ≡ length front.now + length digits.now / 2) }
 {
     let (head, tail) = room.split_at_mut(front.len());
     let size = digits.len() / 2;

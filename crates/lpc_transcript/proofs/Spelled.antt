@@ -8,7 +8,7 @@ use Rattle.lpc_model.specs.Grammar.{call_named, directive_named}
 use Rattle.lpc_model.specs.Text.{eight_digits, call_text, word_text, name_text, kind_text, value_text, fields_text, by_text, rest_text}
 use Rattle.lpc_model.specs.TextLaws.{Sort, in_decimal, in_hexadecimal, as_kind, as_bytes, is_of_sort}
 use Rattle.lpc_model.specs.declared.entry.CallName.{CallName}
-use Rattle.lpc_model.specs.declared.entry.CallName.TheVariants.{NtCreatePort, NtConnectPort, NtListenPort, NtAcceptConnectPort, NtCompleteConnectPort, NtRequestPort, NtRequestWaitReplyPort, NtReplyPort, NtReplyWaitReceivePort, NtRegisterThreadTerminatePort, NtClose, NtDuplicateObject, NtQueryObject, NtCreateProcess, NtCreateThread, NtTerminateProcess, NtTerminateThread, NtCreateSection, NtMapViewOfSection, NtUnmapViewOfSection, NtReadVirtualMemory, NtWriteVirtualMemory}
+use Rattle.lpc_model.specs.declared.entry.CallName.TheVariants.{NtCreatePort, NtConnectPort, NtListenPort, NtAcceptConnectPort, NtCompleteConnectPort, NtRequestPort, NtRequestWaitReplyPort, NtReplyPort, NtReplyWaitReceivePort, NtRegisterThreadTerminatePort, NtClose, NtDuplicateObject, NtQueryObject, NtCreateProcess, NtCreateThread, NtTerminateProcess, NtTerminateThread, NtCreateSection, NtMapViewOfSection, NtUnmapViewOfSection, NtReadVirtualMemory, NtWriteVirtualMemory, NtReadRequestData, NtWriteRequestData}
 use Rattle.lpc_model.specs.declared.entry.Entry.{Entry}
 use Rattle.lpc_model.specs.declared.entry.Entry.TheVariants.{Answer, Waits, Wakes, Busy, NoThread, Died, Directive}
 use Rattle.lpc_model.specs.declared.entry.Field.{Field}
@@ -100,6 +100,8 @@ call_named-text NtMapViewOfSection = refl
 call_named-text NtUnmapViewOfSection = refl
 call_named-text NtReadVirtualMemory = refl
 call_named-text NtWriteVirtualMemory = refl
+call_named-text NtReadRequestData = refl
+call_named-text NtWriteRequestData = refl
 
 pub call_unique : (a b : CallName) → call_text a ≡ call_text b → a ≡ b
 call_unique a b e =
@@ -129,6 +131,8 @@ call_plain NtMapViewOfSection = refl
 call_plain NtUnmapViewOfSection = refl
 call_plain NtReadVirtualMemory = refl
 call_plain NtWriteVirtualMemory = refl
+call_plain NtReadRequestData = refl
+call_plain NtWriteRequestData = refl
 
 -- a directive is found by its name
 directive_named-text : (w : Word) → directive_named (word_text w) ≡ Some w

@@ -1,5 +1,5 @@
 // The words of a line, one after the other, and the parts of a word.
-ghost use Rattle.std.specs.Prelude.{◌≡◌, ◌≢◌, ◌<◌, ◌≤◌, [], ◌∷◌, length, slice_index, MatchOption, IfSome, IfOk};
+ghost use Rattle.std.specs.Prelude.{◌≡◌, ◌≢◌, ◌<◌, ◌≤◌, ◌+◌, [], ◌∷◌, length, slice_index, MatchOption, IfSome, IfOk};
 ghost use Rattle.std.specs.Option.{option_map};
 ghost use Rattle.lpc_model.specs.Words.{parts, words};
 ghost use Rattle.lpc_model.specs.Words as spec;
@@ -16,6 +16,7 @@ pub fn split_once(text: &[u8], by: u8) -> Option<(&[u8], &[u8])>
     ensures first { option_map seen_two result ≡ spec.split_once by text.now }
     ensures front { IfSome result (λ p. length p.0.now ≤ length text.now) }
     ensures back { IfSome result (λ p. length p.1.now ≤ length text.now) }
+    ensures both { IfSome result (λ p. length p.0.now + length p.1.now ≤ length text.now) }
 {
     for i in 0..text.len() {
         if text[i] == by {
@@ -45,6 +46,7 @@ pub fn next_word(text: &[u8]) -> Option<(&[u8], &[u8])>
         (λ p. words text.now ≡ p.0.now ∷ words p.1.now) }
     ensures word { IfSome result (λ p. length p.0.now ≤ length text.now) }
     ensures rest { IfSome result (λ p. length p.1.now ≤ length text.now) }
+    ensures both { IfSome result (λ p. length p.0.now + length p.1.now ≤ length text.now) }
 {
     let text = trimmed(text);
     if text.is_empty() {
@@ -89,6 +91,7 @@ pub fn four_words(text: &[u8]) -> Result<(&[u8], &[u8], &[u8], &[u8]), LineFault
     ensures value { Gives seen_four result (grammar.four_words (words text.now)) }
     ensures second { IfOk result (λ four. length four.1.now ≤ length text.now) }
     ensures fourth { IfOk result (λ four. length four.3.now ≤ length text.now) }
+    ensures both { IfOk result (λ four. length four.1.now + length four.3.now ≤ length text.now) }
 {
     let (first, rest) = next_word(text).ok_or(LineFault::Count)?;
     let (second, rest) = next_word(rest).ok_or(LineFault::Count)?;
