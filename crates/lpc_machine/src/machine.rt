@@ -39,8 +39,8 @@ use lpc_death::{nt_create_process, nt_create_thread, nt_terminate_process, nt_te
 use lpc_directives::{boot, directory, link, thread};
 use lpc_model::{Call, Entries, Entry, Line, Outcome, Word};
 use lpc_ranges::{
-    nt_create_section, nt_map_view_of_section, nt_read_virtual_memory, nt_unmap_view_of_section,
-    nt_write_virtual_memory,
+    nt_create_section, nt_map_view_of_section, nt_read_request_data, nt_read_virtual_memory,
+    nt_unmap_view_of_section, nt_write_request_data, nt_write_virtual_memory,
 };
 use lpc_request::{
     nt_register_thread_terminate_port, nt_reply_port, nt_reply_wait_receive_port, nt_request_port,
@@ -166,6 +166,24 @@ fn serve(
         }
         Call::WriteVirtualMemory { address, bytes } => {
             Ok(nt_write_virtual_memory(world, by, *address, bytes, out))
+        }
+        Call::ReadRequestData {
+            handle,
+            message,
+            index,
+            length,
+        } => {
+            let outcome = nt_read_request_data(world, by, *handle, message, *index, *length, out);
+            Ok(outcome)
+        }
+        Call::WriteRequestData {
+            handle,
+            message,
+            index,
+            bytes,
+        } => {
+            let outcome = nt_write_request_data(world, by, *handle, message, *index, bytes, out);
+            Ok(outcome)
         }
     }
 }

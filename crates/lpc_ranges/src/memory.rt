@@ -18,7 +18,7 @@ use lpc_model::{CallName, Entries, Entry, Fields, Outcome, refuse};
 use lpc_world::World;
 
 /// A call moves some bytes, and 4096 at most: INVALID_PARAMETER for none or more.
-fn transfer_test(len: usize) -> Result<(), Status>
+pub(crate) fn transfer_test(len: usize) -> Result<(), Status>
     ensures { result ≡ refuse_if (not (memory.is_transfer len)) INVALID_PARAMETER }
 {
     if len == 0 || len > MEMORY_LIMIT {

@@ -53,16 +53,8 @@ fn load_test(world: &World, pid: u32, size: u32) -> Result<(), Status>
     requires { size ≤ SECTION_LIMIT }
     ensures { result ≡ memory.section_load_test world.now.rows pid size }
 {
-    let sections = world.sections();
-    let mut left = SECTION_LIMIT - size;
-    for place in 0..sections.count() {
-        let (_, section) = sections.row(place);
-        if section.birth().process == pid {
-            left = match left.checked_sub(section.size()) {
-                Some(left) => left,
-                None => return Err(QUOTA_EXCEEDED),
-            };
-        }
+    if world.section_load(pid) > u64::from(SECTION_LIMIT - size) {
+        return Err(QUOTA_EXCEEDED);
     }
     Ok(())
 }

@@ -5,7 +5,7 @@ use Rattle.lpc_base.specs.declared.status.Status.{Status}
 use Rattle.lpc_model.specs.Basics.{Tells}
 use Rattle.lpc_model.specs.Connect.{nt_connect_port}
 use Rattle.lpc_model.specs.Found.{live_thread, wait_of}
-use Rattle.lpc_model.specs.Lines.{ScriptCall, ScriptLine, accept_connect_port, boot, close, complete_connect_port, connect_port, create_port, create_process, create_thread, dir, duplicate_object, link, listen_port, query_object, register_thread_terminate_port, reply_port, reply_wait_receive_port, request_port, request_wait_reply_port, run, terminate_process, terminate_thread, thread, create_section, map_view_of_section, read_virtual_memory, unmap_view_of_section, write_virtual_memory}
+use Rattle.lpc_model.specs.Lines.{ScriptCall, ScriptLine, accept_connect_port, boot, close, complete_connect_port, connect_port, create_port, create_process, create_thread, dir, duplicate_object, link, listen_port, query_object, register_thread_terminate_port, reply_port, reply_wait_receive_port, request_port, request_wait_reply_port, run, terminate_process, terminate_thread, thread, create_section, map_view_of_section, read_virtual_memory, unmap_view_of_section, write_virtual_memory, read_request_data, write_request_data}
 use Rattle.lpc_model.specs.Machine.{bare_steps, boot_line, dir_line, link_line, name_of_call, ready_steps, service_of, steps, thread_line, thread_steps}
 use Rattle.lpc_model.specs.Request.{nt_request_wait_reply_port}
 use Rattle.lpc_model.specs.World.{ThreadRow, WaitRow, World}
@@ -27,6 +27,7 @@ use Rattle.lpc_replay.proofs.FairDatagram.{datagram_fair}
 use Rattle.lpc_replay.proofs.FairDirectives.{boot_fair, dir_fair, further_fair, link_fair}
 use Rattle.lpc_replay.proofs.FairListen.{listen_fair}
 use Rattle.lpc_replay.proofs.FairMemories.{create_section_fair, map_fair, read_fair, unmap_fair, write_fair}
+use Rattle.lpc_replay.proofs.FairRanges.{read_range_fair, write_range_fair}
 use Rattle.lpc_replay.proofs.FairReceive.{receiving_fair}
 use Rattle.lpc_replay.proofs.FairRegister.{register_fair}
 use Rattle.lpc_replay.proofs.FairReply.{reply_fair}
@@ -57,6 +58,8 @@ service_fair w tid by (map_view_of_section handle offset size prot) are live saf
 service_fair w tid by (unmap_view_of_section address) are live safe h = unmap_fair w _ by address
 service_fair w tid by (read_virtual_memory address n) are live safe h = read_fair w _ by address n
 service_fair w tid by (write_virtual_memory address new) are live safe h = write_fair w _ by address new
+service_fair w tid by (read_request_data handle bytes index n) are live safe h = read_range_fair w _ by handle bytes index n
+service_fair w tid by (write_request_data handle bytes index new) are live safe h = write_range_fair w _ by handle bytes index new
 
 -- a call that is refused
 refused_fair : (w : World) (line : ScriptLine) (by : ThreadRow) (name : ScriptCall) (s : Status) → service_of w by name ≡ Err s → IsFair w line (Tells (entry.Answer by.number (name_of_call name) s []))
@@ -82,6 +85,8 @@ refused_fair w line by (map_view_of_section handle offset size prot) s is = (tt,
 refused_fair w line by (unmap_view_of_section address) s is = (tt, tt)
 refused_fair w line by (read_virtual_memory address n) s is = (tt, tt)
 refused_fair w line by (write_virtual_memory address new) s is = (tt, tt)
+refused_fair w line by (read_request_data handle bytes index n) s is = (tt, tt)
+refused_fair w line by (write_request_data handle bytes index new) s is = (tt, tt)
 
 -- the lines
 ready_fair : (w : World) (tid : ℕ) (by : ThreadRow) (name : ScriptCall) (o : Option WaitRow) → HasBytes name → live_thread w tid ≡ Some by → IsSafe w → HaveTheirCalls w → AreFair w (run tid name) (ready_steps by name o w)

@@ -20,6 +20,7 @@ pub mod OnlyHandles
 pub mod FairTerminate
 pub mod FairRegister
 pub mod FairMemories
+pub mod FairRanges
 pub mod FairLines
 pub mod Waiting
 pub mod Returning

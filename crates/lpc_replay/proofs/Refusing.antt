@@ -7,7 +7,7 @@ use Rattle.lpc_base.specs.declared.status.Status.{Status}
 use Rattle.lpc_model.specs.Basics.{Basic, Tells, entries_of, going_on, posts_of, world_after}
 use Rattle.lpc_model.specs.Fields.{info}
 use Rattle.lpc_model.specs.Found.{is_live_thread, live_thread, wait_of}
-use Rattle.lpc_model.specs.Lines.{ScriptCall, ScriptLine, accept_connect_port, boot, close, complete_connect_port, connect_port, create_port, create_process, create_thread, dir, duplicate_object, link, listen_port, query_object, register_thread_terminate_port, reply_port, reply_wait_receive_port, request_port, request_wait_reply_port, run, terminate_process, terminate_thread, thread, create_section, map_view_of_section, read_virtual_memory, unmap_view_of_section, write_virtual_memory}
+use Rattle.lpc_model.specs.Lines.{ScriptCall, ScriptLine, accept_connect_port, boot, close, complete_connect_port, connect_port, create_port, create_process, create_thread, dir, duplicate_object, link, listen_port, query_object, register_thread_terminate_port, reply_port, reply_wait_receive_port, request_port, request_wait_reply_port, run, terminate_process, terminate_thread, thread, create_section, map_view_of_section, read_virtual_memory, unmap_view_of_section, write_virtual_memory, read_request_data, write_request_data}
 use Rattle.lpc_model.specs.Linked.{HasHeldRows}
 use Rattle.lpc_model.specs.Machine.{bare_steps, name_of_call, ready_steps, service_of, settled, step, thread_steps}
 use Rattle.lpc_model.specs.Replies.{ChangesNothing, IsRefused, MisfitsAreRefused, RefusedRepliesChangeNothing, Reply, fitted_wait, reply_of}
@@ -85,6 +85,8 @@ each_reply P h (run tid (map_view_of_section handle offset size prot)) r is = ab
 each_reply P h (run tid (unmap_view_of_section address)) r is = absurd (cc)
 each_reply P h (run tid (read_virtual_memory address n)) r is = absurd (cc)
 each_reply P h (run tid (write_virtual_memory address new)) r is = absurd (cc)
+each_reply P h (run tid (read_request_data handle bytes index n)) r is = absurd (cc)
+each_reply P h (run tid (write_request_data handle bytes index new)) r is = absurd (cc)
 each_reply P h (boot pid tid) r is = absurd (cc)
 each_reply P h (thread tid pid) r is = absurd (cc)
 each_reply P h (dir path) r is = absurd (cc)

@@ -6,6 +6,8 @@ ghost use Rattle.lpc_model.specs.WorkedClosings.{WorkedClosings};
 ghost use Rattle.lpc_model.specs.WorkedCreations.{WorkedCreations};
 ghost use Rattle.lpc_model.specs.WorkedEndings.{WorkedEndings};
 ghost use Rattle.lpc_model.specs.WorkedNeighbours.{WorkedNeighbours};
+ghost use Rattle.lpc_model.specs.WorkedRanges.{WorkedRanges};
+ghost use Rattle.lpc_model.specs.WorkedViews.{WorkedViews};
 ghost use Rattle.lpc_replay.specs.Laws.{ConnectsReturn, MisfitsRefused, RefusalsIdle, RefusalsStay, RequestsReturn, WaitsEnd};
 
 /// Completion by a fitting reply, a connect's return by its answer, and the end of each wait, in every script.
@@ -42,5 +44,7 @@ pub fn law_worked_transcripts()
     ensures closings { WorkedClosings }
     ensures endings { WorkedEndings }
     ensures creations { WorkedCreations }
+    ensures views { WorkedViews }
+    ensures ranges { WorkedRanges }
     ensures neighbours { WorkedNeighbours }
 {}

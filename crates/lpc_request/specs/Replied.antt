@@ -1,8 +1,7 @@
 -- Replies, and the reply that a receive makes first.
-use Rattle.std.specs.Prelude.{◌≡◌, ℕ, true, false, List, [], ◌∷◌, Option, Some, None, Result}
+use Rattle.std.specs.Prelude.{◌≡◌, ℕ, true, false, List, [], ◌∷◌, Option, Some, None}
 use Rattle.lpc_base.specs.Rows.{first, has}
-use Rattle.lpc_base.specs.declared.status.Status.{Status}
-use Rattle.lpc_model.specs.World.{WaitRow, World}
+use Rattle.lpc_model.specs.World.{World}
 use Rattle.lpc_model.specs.Basics.{Basic}
 use Rattle.lpc_model.specs.Found.{is_queued, waits_as}
 use Rattle.lpc_model.specs.Listed.{Listed}
@@ -17,10 +16,6 @@ use Rattle.lpc_rows.specs.Does.{Took}
 use Rattle.lpc_rows.specs.Kept.{Kept, has_queued}
 use Rattle.lpc_rows.specs.Ready.{caller, waiter}
 use Rattle.lpc_rows.specs.Callers.{shown_caller}
-
--- the wait that a message fits through a port, or why there is none
-abbrev pub answered_by : Kept → Key → Message → Result WaitRow Status
-answered_by w port m = request.reply_test w.rows (port_at w port) m
 
 -- a thread's reply wakes the thread that asked
 abbrev pub Returns : ℕ → ℕ → Message → Kept → Kept → Listed → Listed → Type 0

@@ -14,7 +14,7 @@ ghost use Rattle.lpc_rows.specs.Kept.{HasWholeBudget, Roomy, StaysReady};
 ghost use Rattle.lpc_rows.specs.Names.{stands};
 ghost use Rattle.lpc_rows.specs.Ready.{HasRoom, is_ready};
 
-use crate::reply::{as_reply, reply_test};
+use crate::reply::as_reply;
 use lpc_base::Status;
 use lpc_base::status::SUCCESS;
 use lpc_model::{
@@ -22,7 +22,7 @@ use lpc_model::{
 };
 use lpc_procs::Caller;
 use lpc_slots::Key;
-use lpc_steps::{port_at, read_message, receive_test, wake, wants_answer};
+use lpc_steps::{port_at, read_message, receive_test, reply_test, wake, wants_answer};
 use lpc_waits::{Wait, WaitKind};
 use lpc_world::World;
 
@@ -185,7 +185,7 @@ fn reply_and_receive(
     let port = port_at(world, tid, handle)?;
     let message = kept(&read_message(reply)?);
     let queue = receive_test(world, port)?;
-    let thread = reply_test(world, port, &message)?;
+    let thread = reply_test(world, port, message.header)?;
     let by = world.caller(tid);
     let replied = Some(Replied { thread, message });
     Ok(take_or_wait(world, &by, port, queue, &replied, out))

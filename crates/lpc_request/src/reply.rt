@@ -1,25 +1,21 @@
 // The reply to a request.
-ghost use Rattle.std.specs.Prelude.{◌≡◌, ◌≤◌, ◌<◌, true, false, IfOk, ◌+◌};
+ghost use Rattle.std.specs.Prelude.{◌≡◌, ◌≤◌, ◌<◌, true, false, ◌+◌};
 ghost use Rattle.lpc_base.specs.Rows.{has};
 ghost use Rattle.lpc_base.specs.declared.limits.TheConstants.{LINES_LIMIT};
 ghost use Rattle.lpc_model.specs.Found.{waits_as};
 ghost use Rattle.lpc_model.specs.Lines.{reply_port};
 ghost use Rattle.lpc_model.specs.Message as kept;
-ghost use Rattle.lpc_steps.specs.Clauses.{IsUnderName};
 ghost use Rattle.lpc_request.specs.Called.{Answered};
-ghost use Rattle.lpc_request.specs.Replied.{Returns, answered_by};
-ghost use Rattle.lpc_rows.specs.Clauses.{Answers};
+ghost use Rattle.lpc_request.specs.Replied.{Returns};
 ghost use Rattle.lpc_rows.specs.Called.{Served};
 ghost use Rattle.lpc_rows.specs.Kept.{has_queued};
-ghost use Rattle.lpc_rows.specs.Names.{stands};
-ghost use Rattle.lpc_rows.specs.Ready.{HasRoom, is_ready, waiter};
+ghost use Rattle.lpc_rows.specs.Ready.{HasRoom, is_ready};
 
 use lpc_base::Status;
-use lpc_base::status::{REPLY_MESSAGE_MISMATCH, SUCCESS};
+use lpc_base::status::SUCCESS;
 use lpc_message::kind;
 use lpc_model::{CallName, Entries, Entry, Fields, Message, Outcome, kept, message_field, refuse};
-use lpc_slots::Key;
-use lpc_steps::{client_test, fitted, port_at, read_message, wake};
+use lpc_steps::{port_at, read_message, reply_test, wake};
 use lpc_world::World;
 
 /// A message as a reply returns it: type 2 and no section, all else as it is.
@@ -30,28 +26,6 @@ pub fn as_reply(message: &Message) -> Message
     reply.header.kind = kind::REPLY;
     reply.header.section_size = 0;
     reply
-}
-
-/// The thread whose wait a reply fits through a port: INVALID_CID where no live thread has the message's process and
-/// thread, REPLY_MESSAGE_MISMATCH where the message fits no wait through the port.
-pub fn reply_test(world: &World, port: Key, message: &Message) -> Result<u32, Status>
-    requires port { stands world.now.births.ports port ≡ true }
-    requires name { IsUnderName world.now port }
-    ensures found { Answers result (waiter world.now.rows)
-        (answered_by world.now port message.now) }
-    ensures waits { IfOk result (λ tid. has (waits_as tid) world.now.rows.waits ≡ true) }
-    ensures left { IfOk result (λ tid. has_queued world.now.rows tid ≡ false) }
-{
-    client_test(world, message.header.client)?;
-    match fitted(
-        world,
-        port,
-        message.header.client,
-        message.header.message_id,
-    ) {
-        Some(tid) => Ok(tid),
-        None => Err(REPLY_MESSAGE_MISMATCH),
-    }
 }
 
 #[tactic(auto, unfolding(lpc_model::specs::Request::nt_reply_port))]
@@ -71,7 +45,7 @@ fn reply(
 {
     let port = port_at(world, tid, handle)?;
     let message = kept(&read_message(message)?);
-    let answered = reply_test(world, port, &message)?;
+    let answered = reply_test(world, port, message.header)?;
     send_reply(world, tid, answered, &message, out);
     Ok(Outcome::Answered(SUCCESS))
 }

@@ -1,3 +1,4 @@
 pub mod Clauses
 pub mod Closing
 pub mod Connecting
+pub mod Replies

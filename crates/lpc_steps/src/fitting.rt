@@ -1,25 +1,27 @@
 // The wait that a reply names, by its client and its identifier.
-ghost use Rattle.std.specs.Prelude.{◌&&◌, ◌<◌, ◌≡◌, Err, IfSome, None, Ok, Some, false, true};
+ghost use Rattle.std.specs.Prelude.{◌&&◌, ◌<◌, ◌≡◌, Err, IfOk, IfSome, None, Ok, OnOk, Some, false, true};
 ghost use Rattle.lpc_base.specs.Rows.{has};
-ghost use Rattle.lpc_model.specs.Found.{is_the, waits_as};
+ghost use Rattle.lpc_model.specs.Found.{is_table, is_the, waits_as};
 ghost use Rattle.lpc_model.specs.Tests as tests;
-ghost use Rattle.lpc_steps.specs.Clauses.{fits_at};
+ghost use Rattle.lpc_steps.specs.Clauses.{IsUnderName, fits_at};
+ghost use Rattle.lpc_steps.specs.Replies.{answered_by};
 ghost use Rattle.lpc_waits.specs.Table.{is_request};
-ghost use Rattle.lpc_rows.specs.Clauses.{FindsWait, IsOwnWait, birth_at, pair_at};
+ghost use Rattle.lpc_rows.specs.Clauses.{Answers, FindsWait, IsOwnWait, birth_at, pair_at};
 ghost use Rattle.lpc_rows.specs.Kept.{has_queued, is_pending_in};
 ghost use Rattle.lpc_rows.specs.Names.{stands};
 ghost use Rattle.lpc_rows.specs.Ready.{waiter};
 
 use lpc_base::Status;
-use lpc_base::status::INVALID_CID;
-use lpc_message::ClientId;
+use lpc_base::status::{INVALID_CID, REPLY_MESSAGE_MISMATCH};
+use lpc_message::{ClientId, Header};
 use lpc_slots::Key;
 use lpc_waits::{Wait, WaitKind};
 use lpc_world::World;
 
 /// A live thread has the client's process and thread; INVALID_CID where none has.
 pub fn client_test(world: &World, client: ClientId) -> Result<(), Status>
-    ensures { result ≡ tests.client_test world.now.rows client }
+    ensures test { result ≡ tests.client_test world.now.rows client }
+    ensures table { OnOk result (has (is_table client.process) world.now.rows.handles ≡ true) }
 {
     match world.live_thread(client.thread) {
         Some(row) => {
@@ -40,6 +42,8 @@ pub fn fitted(world: &World, port: Key, client: ClientId, identifier: u32) -> Op
     ensures found { FindsWait world.now (fits_at world.now port client identifier) result }
     ensures waits { IfSome result (λ tid. has (waits_as tid) world.now.rows.waits ≡ true) }
     ensures thread { IfSome result (λ tid. IsOwnWait world.now.rows tid) }
+    ensures process { IfSome result (λ tid. let x = waiter world.now.rows tid in
+        x.process ≡ client.process) }
     ensures idle { IfSome result (λ tid. is_pending_in world.now.rows tid ≡ false) }
     ensures left { IfSome result (λ tid. has_queued world.now.rows tid ≡ false) }
 {
@@ -50,6 +54,24 @@ pub fn fitted(world: &World, port: Key, client: ClientId, identifier: u32) -> Op
         Some(client.thread)
     } else {
         None
+    }
+}
+
+/// The thread whose wait a message with a header fits through a port: INVALID_CID where no live thread has the message's
+/// process and thread, REPLY_MESSAGE_MISMATCH where the message fits no wait through the port.
+pub fn reply_test(world: &World, port: Key, header: Header) -> Result<u32, Status>
+    requires port { stands world.now.births.ports port ≡ true }
+    requires name { IsUnderName world.now port }
+    ensures found { Answers result (waiter world.now.rows) (answered_by world.now port header) }
+    ensures waits { IfOk result (λ tid. has (waits_as tid) world.now.rows.waits ≡ true) }
+    ensures table { IfOk result (λ tid. let x = waiter world.now.rows tid in
+        has (is_table x.process) world.now.rows.handles ≡ true) }
+    ensures left { IfOk result (λ tid. has_queued world.now.rows tid ≡ false) }
+{
+    client_test(world, header.client)?;
+    match fitted(world, port, header.client, header.message_id) {
+        Some(tid) => Ok(tid),
+        None => Err(REPLY_MESSAGE_MISMATCH),
     }
 }
 

@@ -16,7 +16,7 @@ pub use closing::{Closed, closing_post};
 pub use connections::{Completable, answered_connect, completion_test, is_connection};
 pub use ending::{Ending, end_all};
 pub use entering::deliver;
-pub use fitting::{client_test, fitted};
+pub use fitting::{client_test, fitted, reply_test};
 pub use handles::{give_handle, handles_test, kind_of, object_at, own_handle, port_at, section_at};
 pub use message::{read_message, wants_answer};
 pub use queues::{context, datagram_test, receive_test, route};

@@ -2,7 +2,9 @@
 ghost use Rattle.std.specs.Prelude.{◌≡◌, ◌<◌, None, Some, true, false, is_none, IfSome, length, option_map};
 ghost use Rattle.lpc_base.specs.Rows.{count, has};
 ghost use Rattle.lpc_model.specs.Found as found;
-ghost use Rattle.lpc_model.specs.Found.{datagrams, handle_at, is_live_thread, is_table, is_thread, live_count, same_birth, waits_as, waits_at, was_process, was_thread};
+ghost use Rattle.lpc_model.specs.Found.{datagrams, handle_at, is_live_thread, is_request, is_table, is_thread, live_count, same_birth, waits_as, waits_at, was_process, was_thread};
+ghost use Rattle.lpc_model.specs.Message.{message_of};
+ghost use Rattle.lpc_model.specs.World.{Request};
 ghost use Rattle.lpc_rows.specs.Lawful.{are_single};
 ghost use Rattle.lpc_rows.specs.Names.{are_apart, some_stands, stands};
 ghost use Rattle.lpc_rows.specs.Callers.{as_caller};
@@ -24,7 +26,9 @@ impl World {
 
     /// A live thread, as a caller: None exactly where no live thread has the number.
     pub fn live_thread(&self, tid: u32) -> Option<Caller>
-        ensures { result ≡ option_map as_caller (found.live_thread self.now.rows tid) }
+        ensures row { result ≡ option_map as_caller (found.live_thread self.now.rows tid) }
+        ensures table { IfSome result (λ it. has (is_table it.process) self.now.rows.handles
+            ≡ true) }
     {
         self.procs.live_row(tid)
     }
@@ -179,6 +183,15 @@ impl World {
             Some(wait) => *wait,
             None => unreachable!(),
         }
+    }
+
+    /// The bytes of the message with which a thread waits, where they are kept.
+    pub fn waiting_message(&self, tid: u32) -> &[u8]
+        requires { has (waits_as tid) self.now.rows.waits ≡ true }
+        ensures request { let x = waiter self.now.rows tid in
+            is_request x ≡ true → x.kind ≡ Request (message_of result.now) }
+    {
+        self.waits.message(tid)
     }
 
     /// The two ports are one.

@@ -1,8 +1,6 @@
-use Rattle.std.proofs.Common.{◌≡◌, ◌∙◌, ap, sym}
-use Rattle.lpc_base.specs.declared.birth.Birth.{Birth}
-use Rattle.lpc_model.specs.Found.{section_row}
+use Rattle.std.proofs.Common.{◌∙◌}
 use Rattle.lpc_ranges.specs.Calls.{section_shown}
-use Rattle.lpc_ranges.proofs.Made.{drawn-birth, made}
+use Rattle.lpc_ranges.proofs.Made.{made}
 use Rattle.lpc_rows.specs.Callers.{shown_caller}
 use Rattle.lpc_rows.specs.Names.{name_of}
 use Rattle.lpc_ranges.proofs.sections.create.Goals as goal

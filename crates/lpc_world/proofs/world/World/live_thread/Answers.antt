@@ -1,6 +1,29 @@
-use Rattle.std.proofs.Common.{sym}
+use Rattle.std.proofs.Common.{◌≡◌, ℕ, true, Option, Some, None, option_map, refl, sym, subst, ◌∙◌}
+use Rattle.std.specs.Prelude.{IfSome}
+use Rattle.lpc_base.specs.Rows.{every, has}
+use Rattle.lpc_model.specs.Found.{is_table, live_thread}
+use Rattle.lpc_model.specs.World.{ThreadRow, World}
+use Rattle.lpc_procs.specs.declared.rows.Caller.{Caller}
+use Rattle.lpc_rows.specs.Callers.{as_caller}
+use Rattle.lpc_rows.specs.Kept.{rows_by}
+use Rattle.lpc_rows.specs.Lawful.{is_housed}
+use Rattle.lpc_rows.specs.Shown.{tables_of}
 use Rattle.lpc_rows.proofs.Callers.{live-called}
+use Rattle.lpc_rows.proofs.Finds as finds
 use Rattle.lpc_world.proofs.world.World.live_thread.Goals as goal
 
-pub returns : goal.returns
-returns c = rw (← c.self.view_is, c.live_row.ensures.row) (sym (live-called c.args.tid c.self.inside.procs.threads))
+-- a live thread's process has a table of handles
+has_table : (w : World) (tid : ℕ) (o : Option Caller) → every (is_housed w) w.threads ≡ true → option_map as_caller (live_thread w tid) ≡ o → IfSome o (λ k. has (is_table k.process) w.handles ≡ true)
+has_table w tid o all found = subst (λ p. IfSome p (λ k. has (is_table k.process) w.handles ≡ true)) found (by (live_thread w tid) refl)
+  where
+    by : (t : Option ThreadRow) → live_thread w tid ≡ t → IfSome (option_map as_caller t) (λ k. has (is_table k.process) w.handles ≡ true)
+    by None at = tt
+    by (Some t) at = (finds.is_caller w tid t all at).table
+
+pub returns-clause-row : goal.returns-clause-row
+returns-clause-row c = rw (← c.self.view_is, c.live_row.ensures.row) (sym (live-called c.args.tid c.self.inside.procs.threads))
+
+pub returns-clause-table : goal.returns-clause-table
+returns-clause-table c =
+    let w : World = rows_by (tables_of c.self.inside.procs c.self.inside.parts.items c.self.inside.ports c.self.inside.waits c.self.inside.names c.self.inside.sections) in
+    rw (← c.self.view_is) (has_table w c.args.tid c.live_row.result c.self.invariant.lawful.housed (live-called c.args.tid c.self.inside.procs.threads ∙ sym c.live_row.ensures.row))
