@@ -137,6 +137,22 @@ def large_views(lines):
     yield from views(lines, 4_194_304)
 
 
+def described(lines):
+    """A client maps a view and writes there; its request describes the bytes, which the server reads and writes."""
+    yield from ("boot 20 24", "boot 32 36", "24 NtCreatePort \\S", "36 NtConnectPort \\S - - -", "24 NtListenPort 4")
+    yield from ("24 NtAcceptConnectPort 7 r:32.36.1: accept -", "24 NtCompleteConnectPort 8", "36 NtCreateSection 4096 4")
+    header = "0c002400000018000000000000000000000000000000000001000000"
+    for identifier in range(2, 2 + (lines - 8) // 8):
+        yield "36 NtMapViewOfSection 8 0 0 4"
+        yield "36 NtWriteVirtualMemory 0x10ffe 4142"
+        yield f"36 NtRequestWaitReplyPort 4 m:{header}fe0f010002000000"
+        yield "24 NtReplyWaitReceivePort 4"
+        yield f"24 NtReadRequestData 4 r:32.36.{identifier}: 0 2"
+        yield f"24 NtWriteRequestData 4 r:32.36.{identifier}: 0 4344"
+        yield f"24 NtReplyPort 8 r:32.36.{identifier}:"
+        yield "36 NtUnmapViewOfSection 0x10000"
+
+
 def boots(lines):
     """Processes are made, and stay: each with a thread and an empty table of handles."""
     for process in range(1, lines + 1):
@@ -209,6 +225,7 @@ def main():
             (creations, LONG),
             (small_views, LONG),
             (large_views, LONG),
+            (described, LONG),
             (boots, LONG),
             (connects, SHORT),
         )

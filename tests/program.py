@@ -486,7 +486,15 @@ def memory_runs_out(program):
 def growth():
     """Ten times the lines take about ten times as long, where a script leaves as many rows as it finds, and where it makes
     processes alone. Lines on a view take as long whatever the size of its section."""
-    scripts = bench.requests, bench.datagrams, bench.closings, bench.small_views, bench.large_views, bench.boots
+    scripts = (
+        bench.requests,
+        bench.datagrams,
+        bench.closings,
+        bench.small_views,
+        bench.large_views,
+        bench.described,
+        bench.boots,
+    )
     for script in scripts:
         yield f"time grows with the lines: {script.__name__}", grows_with_lines(script)
     yield "time doesn't grow with a section's size", grows_not_with_sections

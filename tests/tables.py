@@ -32,7 +32,7 @@ SERVICES = (pages.DOCS / "SERVICES.md").read_text(encoding="utf-8")
 STATUS = re.compile(r"\b[0-9A-F]{8}\b")
 CODE = re.compile(r"`([^`]*)`")
 # How many there are: who adds one changes the number.
-STATUS_COUNT, SHARED_COUNT, CALL_COUNT, DIRECTIVE_COUNT, LIMIT_COUNT = 26, 5, 22, 4, 9
+STATUS_COUNT, SHARED_COUNT, CALL_COUNT, DIRECTIVE_COUNT, LIMIT_COUNT = 26, 5, 24, 4, 9
 WORKED_ROWS = {"README.md": 8, "docs/CONNECTIONS.md": 30}
 CLAIM_COUNT = 57
 NAMED_IN = {"ARCHITECTURE.md": 700, "DECISIONS.md": 150, "DEFINITIONS.md": 1_300, "ISOLATION.md": 200, "PROOFS.md": 400}
@@ -157,6 +157,8 @@ def sentences():
         f"| C0000044 | the process has {views} views, or no place is left for the view |",
         f"| C000000D | LEN is 0, or above {memory} |",
         f"| C000000D | HEX has more than {memory} bytes |",
+        f"| C000000D | LEN is 0, above {memory}, or above the size of the entry |",
+        f"| C000000D | HEX has more than {memory} bytes, or more than the size of the entry |",
         f"There are at least {header} bytes.",
         f"MessageSize is at least DataSize + {header}.",
         f"The table begins at {header} or later,",
@@ -178,12 +180,13 @@ def sentences():
         f"A script has at most {lines:,} lines. The fault is found with the first byte of line {lines + 1:,},",
         f'print("#\\n" * {lines + 1}, end="")',
         f"a message of {message} bytes takes {2 * message} digits.",
+        f"a length of 0, above {memory}, or above the entry's size.",
     ]
     profile = [
         f"all limits: {handles} handles of a process, {datagrams} datagrams of a port, {message} bytes of a message, "
         f"{data} of a connect's INFO, {threads} live threads and {children} live children of a process, {ports} ",
         f"{sections} of a section and of all sections that a process made, {views} views of a process, {memory} bytes "
-        f"of one read or write of memory,",
+        f"of one read or write of memory or of request data,",
         f"a view's offset is a multiple of {page},",
         f"a read or a write is of 1 to {memory} bytes,",
         f"a closed port counts among the {ports} |",

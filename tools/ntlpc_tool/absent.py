@@ -11,13 +11,11 @@ CALLS = {
     "NtOpenThreadToken",
     "NtQueryInformationPort",
     "NtQueryInformationToken",
-    "NtReadRequestData",
     "NtReplyWaitReceivePortEx",
     "NtReplyWaitReplyPort",
     "NtSecureConnectPort",
     "NtSetInformationProcess",
     "NtSetInformationThread",
-    "NtWriteRequestData",
     "raise",
 }
 DIRECTIVES = {"resident", "rule", "tick", "token", "turn", "version"}

@@ -14,7 +14,9 @@ HANDLES = ("h", "thread")
 CLIENT = struct.Struct("<II")
 CLIENT_AT = 12
 # The calls whose message names a wait by its client.
-ANSWERS = ("NtAcceptConnectPort", "NtReplyPort", "NtReplyWaitReceivePort")
+ANSWERS = (
+    "NtAcceptConnectPort", "NtReplyPort", "NtReplyWaitReceivePort", "NtReadRequestData", "NtWriteRequestData",
+)  # fmt: skip
 MOST = 0xFFFFFFFC
 
 

@@ -25,6 +25,13 @@ QUOTA = (("c0000044", "the process has 256 handles, its threads that wait in a c
 CLOSED = "c0000037"
 NO_HANDLE, NO_RIGHT = HANDLE[0], ("c0000022", "ACCESS has a bit that the handle's own access lacks")
 PROTECTION = ("c0000045", "the protection is neither 2, to be read alone, nor 4, to be written too")
+REQUEST_DATA = (
+    *HANDLE,
+    *MESSAGE,
+    *CLIENT,
+    ("c000021f", "the message fits no request through this port"),
+    ("c000000d", "the request's own range table has no such entry"),
+)
 NO_WAY = (CLOSED, "the pair of the port is cut or was never made, or the port to which the message would go isn't open")
 
 REFUSALS = {
@@ -133,6 +140,16 @@ REFUSALS = {
     "NtWriteVirtualMemory": (
         ("c000000d", "there are more than 4096 bytes"),
         ("c0000005", "no one view of the caller's process holds all bytes of the range, or it is one to be read alone"),
+    ),
+    "NtReadRequestData": (
+        *REQUEST_DATA,
+        ("c000000d", "the length is 0, above 4096, or above the size of the entry"),
+        ("c0000005", "no one view of the client's process holds all bytes of the range"),
+    ),
+    "NtWriteRequestData": (
+        *REQUEST_DATA,
+        ("c000000d", "there are more than 4096 bytes, or more than the entry has"),
+        ("c0000005", "no one view of the client's process holds all bytes of the range, or it is one to be read alone"),
     ),
     "NtClose": (NO_HANDLE,),
     "NtDuplicateObject": (NO_HANDLE, NO_RIGHT, *QUOTA),
@@ -297,6 +314,11 @@ RULES = {
         "A section holds zeros at first, and then what was written last, through whichever view; a view shows it from "
         "its offset on.",
         VIEWS,
+    ),
+    ("NtReadRequestData", "data"): (
+        "The bytes are those that the client's process has now from the base of the entry on. The entry is that of the "
+        "request as it was sent.",
+        of_call("NtReadRequestData"),
     ),
     ("NtQueryObject", "type"): (
         "`type` is the kind of object that the handle names: `port`, `section`, `process` or `thread`.",
