@@ -17,6 +17,8 @@ mod machine;
 #[cfg(test)]
 mod memory;
 #[cfg(test)]
+mod ranges;
+#[cfg(test)]
 mod request;
 #[cfg(test)]
 mod views;
