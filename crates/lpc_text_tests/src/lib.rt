@@ -9,6 +9,8 @@ mod memory;
 #[cfg(test)]
 mod model;
 #[cfg(test)]
+mod ranges;
+#[cfg(test)]
 mod script;
 #[cfg(test)]
 mod transcript;
