@@ -176,10 +176,12 @@ def _number_in(asked, word, whole):
 
 
 def _digit_in(asked, word, whole):
-    """The first digit that is none, or the one that has no other beside it."""
+    """The first digit that is none, or the one that has no other beside it. In front of the digits stands what makes
+    them a message, or nothing where they are a word of their own."""
     front = next((it for it in range(1, len(word)) if asked(word[:it]) is None), None)
-    if front is None:
+    if front is None and asked(LAWFUL_PART) is not None:
         return whole
+    front = front or 0
     pairs = last_lawful((len(word) - front) // 2, lambda count: asked(word[: front + 2 * count]) is None)
     at = front + 2 * pairs
     if at + 1 < len(word) and asked(word[: at + 1] + b"0") is None:
