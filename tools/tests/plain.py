@@ -1,4 +1,4 @@
-"""A plain implementation of the profile, written from the pages, with rules that can be broken.
+"""A plain implementation of the profile, but for sections and views, from the pages, with rules that can be broken.
 
     python3 tools/tests/plain.py [--wrong NAME] replay < SCRIPT
 
@@ -17,7 +17,7 @@ from plain_rules import (
 
 
 class Plain(Machine):
-    """The machine with all calls."""
+    """The machine with all calls but those on sections, views and memory."""
 
     def add_port(self, kind, thread, **parts):
         found = It(kind, queue=[], other=None, home=None, open=kind != "client", context=0, place=None, complete=False)
