@@ -1,2 +1,3 @@
 pub mod OnePart
 pub mod Named
+pub mod Walked

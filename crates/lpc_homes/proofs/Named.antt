@@ -11,7 +11,7 @@ use Rattle.lpc_homes.specs.declared.object.Object.{Object}
 use Rattle.lpc_homes.specs.declared.object.Object.TheVariants as kinds
 use Rattle.lpc_homes.specs.declared.parts.Part.{Part}
 use Rattle.lpc_slots.specs.declared.Key.{Key}
-use Rattle.lpc_views.specs.Views.{shows}
+use Rattle.lpc_views.specs.declared.view.View.{View}
 use Rattle.lpc_homes.specs.contracts.object.ObjectPartialEq.TheImpl as the_impl
 
 -- an object is compared with another
@@ -20,18 +20,27 @@ is_same (kinds.Port a) (kinds.Port b) = search rules
 is_same (kinds.Port a) (kinds.Process b) = search rules
 is_same (kinds.Port a) (kinds.Thread b) = search rules
 is_same (kinds.Port a) (kinds.Section b) = search rules
+is_same (kinds.Port a) (kinds.Token b) = search rules
 is_same (kinds.Process a) (kinds.Port b) = search rules
 is_same (kinds.Process a) (kinds.Process b) = search rules
 is_same (kinds.Process a) (kinds.Thread b) = search rules
 is_same (kinds.Process a) (kinds.Section b) = search rules
+is_same (kinds.Process a) (kinds.Token b) = search rules
 is_same (kinds.Thread a) (kinds.Port b) = search rules
 is_same (kinds.Thread a) (kinds.Process b) = search rules
 is_same (kinds.Thread a) (kinds.Thread b) = search rules
 is_same (kinds.Thread a) (kinds.Section b) = search rules
+is_same (kinds.Thread a) (kinds.Token b) = search rules
 is_same (kinds.Section a) (kinds.Port b) = search rules
 is_same (kinds.Section a) (kinds.Process b) = search rules
 is_same (kinds.Section a) (kinds.Thread b) = search rules
 is_same (kinds.Section a) (kinds.Section b) = search rules
+is_same (kinds.Section a) (kinds.Token b) = search rules
+is_same (kinds.Token a) (kinds.Port b) = search rules
+is_same (kinds.Token a) (kinds.Process b) = search rules
+is_same (kinds.Token a) (kinds.Thread b) = search rules
+is_same (kinds.Token a) (kinds.Section b) = search rules
+is_same (kinds.Token a) (kinds.Token b) = search rules
 
 -- a table's handles that name the object
 pub named_has : (object : Object) (rows : List (ℕ × Row Object)) → has (handles.is_named the_impl.eq-value.it object) rows ≡ has (names_it object) rows
@@ -60,9 +69,9 @@ counted_part p parts i so_far part lt is sum =
     omega (arith, sum, here, count-append p part.handles.rows (all_rows (drop (i + 1) parts)))
 
 -- and the views
-pub shown_part : (section : Key) (parts : List Part) (i so_far : ℕ) (part : Part) → i < length parts → part ≡ get_or parts i part
-    → so_far + count (shows section) (all_views (drop i parts)) ≡ count (shows section) (all_views parts) → (so_far + count (shows section) part.views.views) + count (shows section) (all_views (drop (i + 1) parts)) ≡ count (shows section) (all_views parts)
-shown_part section parts i so_far part lt is sum =
-    let here : count (shows section) (all_views (drop i parts)) ≡ count (shows section) (all_views (part ∷ drop (i + 1) parts)) =
-    at_drop_more (λ (ps : List Part). count (shows section) (all_views ps)) parts i part lt ∙ ap (λ q. count (shows section) (all_views (q ∷ drop (i + 1) parts))) (sym is) in
-    omega (arith, sum, here, count-append (shows section) part.views.views (all_views (drop (i + 1) parts)))
+pub seen_part : (p : View Key → Bool) (parts : List Part) (i so_far : ℕ) (part : Part) → i < length parts → part ≡ get_or parts i part
+    → so_far + count p (all_views (drop i parts)) ≡ count p (all_views parts) → (so_far + count p part.views.views) + count p (all_views (drop (i + 1) parts)) ≡ count p (all_views parts)
+seen_part p parts i so_far part lt is sum =
+    let here : count p (all_views (drop i parts)) ≡ count p (all_views (part ∷ drop (i + 1) parts)) =
+    at_drop_more (λ (ps : List Part). count p (all_views ps)) parts i part lt ∙ ap (λ q. count p (all_views (q ∷ drop (i + 1) parts))) (sym is) in
+    omega (arith, sum, here, count-append p part.views.views (all_views (drop (i + 1) parts)))

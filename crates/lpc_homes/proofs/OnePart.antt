@@ -3,7 +3,7 @@ use Rattle.std.proofs.Common.{◌≡◌, ◌+◌, ◌-◌, ◌<◌, ℕ, true, f
 use Rattle.std.specs.Prelude.{is_some, ◌==◌, Bool, Result, Ok, Err, IfNone, IfOk, IfSome, OnOk, OnSome}
 use Rattle.std.specs.List.{position}
 use Rattle.std.proofs.lemmas.Bool.Decides.{nat_tests}
-use Rattle.lpc_base.specs.Rows.{change, first, has, without, without_first}
+use Rattle.lpc_base.specs.Rows.{change, count, first, has, without, without_first}
 use Rattle.lpc_base.proofs.Differ.{IsRowAt, row-at, set-change}
 use Rattle.lpc_base.proofs.Positions.{none_first}
 use Rattle.lpc_base.proofs.RowMaps.{some-map}
@@ -12,7 +12,7 @@ use Rattle.lpc_handles.specs.Handles as handles
 use Rattle.lpc_handles.specs.Handles.{Handles, with_row}
 use Rattle.lpc_handles.specs.declared.table.Row.{Row}
 use Rattle.lpc_handles.specs.declared.table.TableFault.{TableFault}
-use Rattle.lpc_homes.specs.Parts.{are_single_parts, closed, emptied, handed, is_part, mapped, roomed, spare_at, spare_in, unmapped, view_room_at, view_room_in, view_roomed}
+use Rattle.lpc_homes.specs.Parts.{are_single_parts, closed, dropped, emptied, goes_with, handed, is_part, mapped, roomed, spare_at, spare_in, unmapped, view_room_at, view_room_in, view_roomed}
 use Rattle.lpc_homes.specs.declared.object.Object.{Object}
 use Rattle.lpc_homes.specs.declared.parts.Part.{Part}
 use Rattle.lpc_slots.specs.declared.Key.{Key}
@@ -179,3 +179,11 @@ pub emptied_part : (parts : List Part) (pid index : ℕ) (part : Part) (new : Vi
 emptied_part parts pid index part new one at rows spare =
     let same : new ≡ (emptied part).views = λ i. record { views = rows i; spare = spare i } in
     viewed_part parts pid index part emptied new one at (λ p. refl) same refl
+
+-- none that goes with a port
+pub dropped_part : (parts : List Part) (pid index : ℕ) (port : Key) (part : Part) (new : Views Key) → are_single_parts parts ≡ true → IsAt parts pid index part
+    → new.views ≡ without (goes_with port) part.views.views → new.spare ≡ part.views.spare + count (goes_with port) part.views.views
+    → set parts index (record part { views = new }) ≡ change (is_part pid) (dropped port) parts
+dropped_part parts pid index port part new one at rows spare =
+    let same : new ≡ (dropped port part).views = λ i. record { views = rows i; spare = spare i } in
+    viewed_part parts pid index part (dropped port) new one at (λ p. refl) same refl

@@ -1,7 +1,7 @@
 -- The handles and views of each process: which part of the world they stand in.
 use Rattle.std.specs.Prelude.{ℕ, ◌+◌, ◌++◌, ◌-◌, ◌<◌, ◌==◌, Bool, false, List, [], ◌∷◌, length, Option, Some, None, if◌then◌else◌}
 use Rattle.lpc_base.specs.Births.{same_birth}
-use Rattle.lpc_base.specs.Rows.{change, differ_by, each, first, has, without, without_first}
+use Rattle.lpc_base.specs.Rows.{change, count, differ_by, each, first, has, without, without_first}
 use Rattle.lpc_base.specs.declared.limits.TheConstants.{HANDLE_LIMIT, VIEW_LIMIT}
 use Rattle.lpc_handles.specs.Handles as handles
 use Rattle.lpc_handles.specs.declared.table.Row.{Row}
@@ -10,7 +10,7 @@ use Rattle.lpc_slots.specs.declared.Key.{Key}
 use Rattle.lpc_homes.specs.declared.object.Object.{Object}
 use Rattle.lpc_homes.specs.declared.object.Object.TheVariants as object
 use Rattle.lpc_homes.specs.declared.parts.Part.{Part}
-use Rattle.lpc_views.specs.Views.{Views, lies_at, shows}
+use Rattle.lpc_views.specs.Views.{Views, is_owned_by, lies_at, shows}
 use Rattle.lpc_views.specs.declared.view.View.{View}
 
 -- the part of a process
@@ -75,13 +75,15 @@ port_of (object.Port key) = Some key
 port_of (object.Process birth) = None
 port_of (object.Thread birth) = None
 port_of (object.Section key) = None
+port_of (object.Token key) = None
 
--- an object is this one: a port or a section of the same key, or a process or thread of the same birth
+-- an object is this one: a port, section or token of the same key, or a process or thread of the same birth
 abbrev pub is_object : Object → Object → Bool
 is_object (object.Port key) (object.Port other) = is_key other key
 is_object (object.Process birth) (object.Process other) = same_birth other birth
 is_object (object.Thread birth) (object.Thread other) = same_birth other birth
 is_object (object.Section key) (object.Section other) = is_key other key
+is_object (object.Token key) (object.Token other) = is_key other key
 is_object one other = false
 
 -- a handle names the object, and a handle of the part does
@@ -123,15 +125,25 @@ mapped view part = viewing (record { views = part.views.views ++ view ∷ []; sp
 abbrev pub view_roomed : ℕ → Part → Part
 view_roomed spare part = viewing (record part.views { spare = spare }) part
 
--- without the view at a base, and without any: their places are room then
+-- a view goes with a port
+abbrev pub goes_with : Key → View Key → Bool
+goes_with port view = is_owned_by is_key port view
+
+-- without the view at a base, without those that go with a port, and without any: their places are room then
 abbrev pub unmapped : ℕ → Part → Part
 unmapped base part = viewing (record { views = without (lies_at base) part.views.views; spare = part.views.spare + 1 }) part
+
+abbrev pub dropped : Key → Part → Part
+dropped port part = viewing (record {
+  views = without (goes_with port) part.views.views;
+  spare = part.views.spare + count (goes_with port) part.views.views;
+}) part
 
 abbrev pub emptied : Part → Part
 emptied part = viewing (record { views = []; spare = part.views.spare + length part.views.views }) part
 
--- the parts of all processes, with one more view, with so much room for views, without the view at a base, or without any
--- view, in that of a process
+-- the parts of all processes, with one more view, with so much room for views, without the view at a base, without those
+-- that go with a port, or without any view, in that of a process
 abbrev pub mapping : ℕ → View Key → List Part → List Part
 mapping pid view parts = change (is_part pid) (mapped view) parts
 
@@ -141,15 +153,21 @@ view_rooming pid spare parts = change (is_part pid) (view_roomed spare) parts
 abbrev pub unmapping : ℕ → ℕ → List Part → List Part
 unmapping pid base parts = change (is_part pid) (unmapped base) parts
 
+abbrev pub dropping : ℕ → Key → List Part → List Part
+dropping pid port parts = change (is_part pid) (dropped port) parts
+
 abbrev pub emptying : ℕ → List Part → List Part
 emptying pid parts = change (is_part pid) emptied parts
 
--- the views of all processes, and a view of the part shows the section
+-- the views of all processes; a view of the part shows the section, and one goes with the port
 abbrev pub all_views : List Part → List (View Key)
 all_views parts = each (λ part. part.views.views) parts
 
 abbrev pub has_view_of : Key → Part → Bool
 has_view_of section part = has (shows section) part.views.views
+
+abbrev pub has_view_with : Key → Part → Bool
+has_view_with port part = has (goes_with port) part.views.views
 
 -- a process has fewer views than it may have
 abbrev pub HasFewViews : List Part → ℕ → Type 0

@@ -16,6 +16,8 @@ pub enum Object {
     Thread(Birth),
     /// A section, by its key.
     Section(Key),
+    /// A token, by its key.
+    Token(Key),
 }
 
 impl Object {
@@ -25,7 +27,7 @@ impl Object {
     {
         match self {
             Object::Port(port) => Some(port),
-            Object::Process(_) | Object::Thread(_) | Object::Section(_) => None,
+            Object::Process(_) | Object::Thread(_) | Object::Section(_) | Object::Token(_) => None,
         }
     }
 }

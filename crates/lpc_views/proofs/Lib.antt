@@ -1,5 +1,5 @@
 mod Search
 mod Removal
-mod Mapped
+pub mod Mapped
 mod Lent
 mod Ends

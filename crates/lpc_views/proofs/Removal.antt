@@ -1,19 +1,25 @@
 -- What stays of the views of a process where one is made or goes.
-use Rattle.std.proofs.Common.{◌≡◌, ℕ, ◌+◌, ◌<◌, ◌≤◌, List, [], ◌∷◌, ◌++◌, Bool, true, false, length, length-append, refl, sym, ap, arith}
-use Rattle.std.specs.Prelude.{Option, Some, None, leb, not}
+use Rattle.std.proofs.Common.{◌≡◌, ℕ, ◌+◌, ◌<◌, ◌≤◌, List, [], ◌∷◌, ◌++◌, Bool, true, false, cond, length, length-append, refl, sym, ap, arith}
+use Rattle.std.specs.Prelude.{Option, Some, None, ◌==◌, leb, not}
 use Rattle.std.proofs.lemmas.Bool.Decides.{nat_tests}
-use Rattle.lpc_base.specs.Rows.{differ_by, every, first, has, which, without, without_first}
-use Rattle.lpc_base.specs.Views.{is_free_base, meets}
+use Rattle.lpc_base.specs.Rows.{count, differ_by, every, first, has, which, without, without_first}
+use Rattle.lpc_base.specs.Views.{bases, is_free_base, least_base, meets}
 use Rattle.lpc_base.specs.declared.limits.TheConstants.{VIEW_LIMIT}
 use Rattle.lpc_base.proofs.Differ.{differ-push, differ-without, length-ended, rest-differ, rest-none}
-use Rattle.lpc_base.proofs.RowWords.{every-push, every-without, without-none}
+use Rattle.lpc_base.proofs.RowWords.{first-passes, every-push, every-without, without-none}
 use Rattle.lpc_base.proofs.Bools.{first-true, second-true}
+use Rattle.lpc_views.specs.Mapping.{new_base}
 use Rattle.lpc_views.specs.Views.{is_placed, lies_at, lower_of, lowest, ranges, IsSpace}
 use Rattle.lpc_views.specs.declared.view.View.{View}
 
 shorter : {X : Type 0} (test : X → Bool) (xs : List X) → length (without test xs) ≤ length xs
 shorter test [] = omega arith
 shorter test (x ∷ xs) = grind (arith, shorter test xs)
+
+-- those that go and those that stay are all
+pub gone-and-left : {X : Type 0} (test : X → Bool) (xs : List X) → length (without test xs) + count test xs ≡ length xs
+gone-and-left test [] = refl
+gone-and-left test (x ∷ xs) = grind (arith, gone-and-left test xs)
 
 not-met : (b : Bool) → not b ≡ true → b ≡ false
 not-met true is = sym is
@@ -23,11 +29,11 @@ module _ {P : Type 0} where
   abbrev base_of : View P → ℕ
   base_of view = view.base
 
-  pub space-without : (base : ℕ) (views : List (View P)) → IsSpace views → IsSpace (without (lies_at base) views)
-  space-without base views s = record {
-    few = omega (arith, s.few, shorter (lies_at base) views);
-    placed = every-without is_placed (lies_at base) views s.placed;
-    bases = differ-without base_of (lies_at base) views s.bases;
+  pub space-without : (test : View P → Bool) (views : List (View P)) → IsSpace views → IsSpace (without test views)
+  space-without test views s = record {
+    few = omega (arith, s.few, shorter test views);
+    placed = every-without is_placed test views s.placed;
+    bases = differ-without base_of test views s.bases;
   }
 
   -- a view that stands is the only one at its base
@@ -99,3 +105,16 @@ module _ {P : Type 0} where
         placed = every-push is_placed views view s.placed placed;
         bases = differ-push base_of views view s.bases (free-apart view.size view.base views some s.placed unmet);
       }
+
+  -- a view at the base that it gets leaves a space
+  pub space-added : (views : List (View P)) (view : View P) → IsSpace views → is_placed view ≡ true → new_base views view.size ≡ Some view.base → IsSpace (views ++ view ∷ [])
+  space-added views view s placed based = at (length views == 128) refl based
+    where
+      at : (c : Bool) → (length views == 128) ≡ c → cond c None (least_base (ranges views) view.size) ≡ Some view.base → IsSpace (views ++ view ∷ [])
+      at true full none = absurd (cc)
+      at false more found =
+          let few = s.few in
+          let room : length views < 128 = grind (arith, nat_tests, few, more) in
+          let some : 0 < view.size = grind (arith, nat_tests, placed) in
+          let part : view.offset + view.size ≤ 4194304 = grind (arith, nat_tests, placed) in
+          space-push views view s room some part (first-passes (is_free_base (ranges views) view.size) bases view.base found)

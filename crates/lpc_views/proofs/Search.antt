@@ -1,6 +1,6 @@
 -- The search for a free base, which leaves behind what meets a view.
-use Rattle.std.proofs.Common.{◌≡◌, ℕ, ◌+◌, ◌-◌, ◌/◌, ◌%◌, ◌<◌, ◌≤◌, List, [], ◌∷◌, Bool, true, false, map, refl, sym, ap, subst, ◌∙◌, arith}
-use Rattle.std.specs.Prelude.{Some, None, is_some, nat_lt}
+use Rattle.std.proofs.Common.{◌≡◌, ℕ, ◌+◌, ◌-◌, ◌/◌, ◌%◌, ◌<◌, ◌≤◌, List, [], ◌∷◌, ◌++◌, Bool, true, false, map, refl, sym, ap, subst, ◌∙◌, arith}
+use Rattle.std.specs.Prelude.{Option, Some, None, is_some, nat_lt}
 use Rattle.std.proofs.lemmas.Bool.Decides.{nat_tests}
 use Rattle.lpc_base.specs.Rows.{every, first, has}
 use Rattle.lpc_base.proofs.RowMaps.{every-first}
@@ -18,6 +18,21 @@ found-has p q (y ∷ ys) x is passes = grind (arith, found-has p q ys x)
 has-map : {X Y : Type 0} (p : Y → Bool) (f : X → Y) (xs : List X) → has p (map f xs) ≡ has (λ x. p (f x)) xs
 has-map p f [] = refl
 has-map p f (x ∷ xs) = grind (arith, has-map p f xs)
+
+-- the first of two lists, one behind the other
+pub first_beside : {X : Type 0} (p : X → Bool) (xs ys : List X) → first p (xs ++ ys) ≡ (elim (first p xs) [ Some x ↦ Some x | None ↦ first p ys ])
+first_beside p [] ys = refl
+first_beside p (x ∷ xs) ys = at (p x) refl (first_beside p xs ys)
+  where
+    at : (c : Bool) → p x ≡ c → first p (xs ++ ys) ≡ (elim (first p xs) [ Some x ↦ Some x | None ↦ first p ys ]) → first p (x ∷ (xs ++ ys)) ≡ (elim (first p (x ∷ xs)) [ Some x ↦ Some x | None ↦ first p ys ])
+    at true here later = rw here refl
+    at false off later = rw off later
+
+pub front-beside : {X : Type 0} (p : X → Bool) (xs ys : List X) (x : X) → first p xs ≡ Some x → Some x ≡ first p (xs ++ ys)
+front-beside p xs ys x is = sym (first_beside p xs ys ∙ rw is refl)
+
+pub back-beside : {X : Type 0} (p : X → Bool) (xs ys : List X) (r : Option X) → first p xs ≡ None → r ≡ first p ys → r ≡ first p (xs ++ ys)
+back-beside p xs ys r none is = is ∙ sym (first_beside p xs ys ∙ rw none refl)
 
 -- the bases before this one aren't free
 pub record Searched (taken : List (ℕ × ℕ)) (size base : ℕ) : Type 0 where

@@ -6,6 +6,6 @@ mod parts;
 mod space;
 mod view;
 
-pub use parts::part_mut;
-pub use space::Space;
+pub use parts::{part_mut, part_of_mut};
+pub use space::{Space, mapped_size};
 pub use view::{Fault, MapFault, Place, View};

@@ -21,8 +21,10 @@ pub(crate) fn part_of(sections: &Slots<Section>, key: Key, at: u32, len: u32) ->
     }
 }
 
-/// A range of a section's bytes, to be written.
-pub(crate) fn part_of_mut(sections: &mut Slots<Section>, key: Key, at: u32, len: u32) -> &mut [u8]
+/// A range of the bytes of the section under a key, to be written. Nothing else changes.
+///
+/// The section is present, and the range lies inside it.
+pub fn part_of_mut(sections: &mut Slots<Section>, key: Key, at: u32, len: u32) -> &mut [u8]
     requires { HoldsPart sections.old key (at + len) }
     ensures* writes_back { sem 𝓛 (LendsTable sections.entry key at result) }
     ensures value { result.now ≡ part_at sections.old key at len }

@@ -2,16 +2,16 @@
 ghost use Rattle.std.specs.Prelude.{◌≡◌, ◌+◌, ◌++◌, ◌∷◌, ◌%◌, ◌^◌, ◌<◌, ◌≤◌, ◌↔◌, [], true, None, Some, length, option_map, IfNone, IfOk, IfSome, IsErr, IsSome, OnErr, OnOk, OnSome, vec_capacity, vec_len};
 ghost use Rattle.std.specs.Borrow.{sem};
 ghost use Rattle.lpc_base.specs.Room.{grown_room};
-ghost use Rattle.lpc_base.specs.Rows.{count, has, passes, without, without_first};
+ghost use Rattle.lpc_base.specs.Rows.{count, every, has, passes, without, without_first};
 ghost use Rattle.lpc_base.specs.Views.{is_free_base};
 ghost use Rattle.lpc_base.specs.declared.limits.TheConstants.{PAGE_SIZE, SECTION_LIMIT, VIEW_LIMIT};
 ghost use Rattle.lpc_slots.specs.Table.{at as row_at};
 ghost use Rattle.lpc_views.specs.Lends.{LendsViewIf};
-ghost use Rattle.lpc_views.specs.Mapping.{mapped, mapped_size};
+ghost use Rattle.lpc_views.specs.Mapping.{mapped, mapped_size, new_base};
 ghost use Rattle.lpc_views.specs.Parts.{AreMapped, KeepsSizes, is_mapped, lent_bytes, seen, writable_bytes, written};
-ghost use Rattle.lpc_views.specs.Views.{holds, is_placed, is_writable_at, lies_at, offset_of, lower_of, lowest_owned, place_of, ranges, shows, view_at, view_of};
+ghost use Rattle.lpc_views.specs.Views.{holds, is_owned_by, is_placed, is_writable_at, lies_at, offset_of, lower_of, lowest_owned, place_of, ranges, shows, view_at, view_of};
 
-use crate::bases::free_base;
+use crate::bases::{free_base, free_base_beside};
 use crate::parts::{part_mut, part_of, write_in};
 use crate::{Fault, MapFault, Place, View};
 use lpc_base::limits::{PAGE_SIZE, VIEW_LIMIT};
@@ -148,6 +148,31 @@ impl<P: Copy + Eq> Space<P> {
         Ok(view)
     }
 
+    /// The base that a view of a size would get beside the views that stand and further ones, which aren't mapped: none
+    /// where all of them are 128, or no place is left.
+    pub fn base_beside(&self, others: &[View<P>], size: u32) -> Option<u32>
+        requires sized { 0 < size }
+        requires placed { every is_placed others.now ≡ true }
+        requires within { length self.now.views + length others.now ≤ VIEW_LIMIT }
+        ensures { result ≡ new_base (self.now.views ++ others.now) size }
+    {
+        if self.views.len() == VIEW_LIMIT - others.len() {
+            return None;
+        }
+        free_base_beside(&self.views, others, size)
+    }
+
+    /// Adds a view at the base that it gets. It takes no memory: there is room that `reserve` made.
+    pub fn add(&mut self, view: View<P>)
+        requires room { 0 < self.old.spare }
+        requires placed { is_placed view ≡ true }
+        requires base { new_base self.old.views view.size ≡ Some view.base }
+        ensures views { self.new.views ≡ self.old.views ++ view ∷ [] }
+        ensures spare { self.new.spare + 1 ≡ self.old.spare }
+    {
+        self.views.push_reserved(view);
+    }
+
     /// Takes the view that holds an address away, and answers it; None exactly where none does, and then nothing
     /// changes.
     pub fn unmap(&mut self, address: u32) -> Option<View<P>>
@@ -184,6 +209,15 @@ impl<P: Copy + Eq> Space<P> {
         Some(view)
     }
 
+    /// Takes all views that go with a port away; the others keep their order. Their places are room for others then.
+    pub fn drop_owned(&mut self, owner: P)
+        ensures views { self.new.views ≡ without (is_owned_by P.eq owner) self.old.views }
+        ensures spare { let owned = count (is_owned_by P.eq owner) self.old.views in
+            self.new.spare ≡ self.old.spare + owned }
+    {
+        self.views.retain(|view| !view.is_owned_by(owner));
+    }
+
     /// Takes all views away. Their places are room for others then.
     pub fn clear(&mut self)
         ensures views { self.new.views ≡ [] }
@@ -209,6 +243,29 @@ impl<P: Copy + Eq> Space<P> {
     {
         for view in &self.views {
             if view.section == section {
+                return true;
+            }
+        }
+        false
+    }
+
+    /// How many views go with the port.
+    pub fn owned(&self, owner: P) -> usize
+        ensures count { result ≡ count (is_owned_by P.eq owner) self.now.views }
+        ensures few { result ≤ VIEW_LIMIT }
+    {
+        self.views
+            .iter()
+            .filter(|view| view.is_owned_by(owner))
+            .count()
+    }
+
+    /// A view goes with the port.
+    pub fn owns(&self, owner: P) -> bool
+        ensures { result ≡ has (is_owned_by P.eq owner) self.now.views }
+    {
+        for view in &self.views {
+            if view.is_owned_by(owner) {
                 return true;
             }
         }
@@ -349,8 +406,15 @@ fn lower_of<P: Copy>(lowest: Option<View<P>>, view: View<P>) -> Option<View<P>>
     }
 }
 
-// The size of a view of a section, or why there is none.
-fn mapped_size(section: &Section, offset: u32, size: u32, writable: bool) -> Result<u32, MapFault>
+/// The size of a view of a section from an offset on, which is a multiple of 4096, or why there is none:
+/// SectionProtection where the view may be written and the section may not, else InvalidViewSize where it would pass the
+/// section or begin at its end.
+pub fn mapped_size(
+    section: &Section,
+    offset: u32,
+    size: u32,
+    writable: bool,
+) -> Result<u32, MapFault>
     requires { offset % PAGE_SIZE ≡ 0 }
     ensures size { result ≡ mapped_size section.now offset size writable }
     ensures some { IfOk result (λ size. 0 < size) }

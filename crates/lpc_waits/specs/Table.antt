@@ -4,6 +4,7 @@ use Rattle.lpc_base.specs.Rows.{change, differ_by, first, passes}
 use Rattle.lpc_slots.specs.Table.{is_key}
 use Rattle.lpc_slots.specs.declared.Key.{Key}
 use Rattle.lpc_waits.specs.declared.Accepted.{Accepted}
+use Rattle.lpc_waits.specs.declared.Offer.{Offer}
 use Rattle.lpc_waits.specs.declared.Wait.{Wait}
 use Rattle.lpc_waits.specs.declared.WaitKind.{WaitKind}
 use Rattle.lpc_waits.specs.declared.WaitKind.TheVariants.{Connect, Listen, Receive, Request}
@@ -23,9 +24,12 @@ is_of tid row = row.thread == tid
 abbrev pub row_of : WaitTable → ℕ → Option WaitRow
 row_of s tid = first (is_of tid) s.rows
 
--- the message of a thread's wait, and what its connect was accepted with
+-- the message of a thread's wait, what its connect offers, and what it was accepted with
 abbrev pub message_of : WaitTable → ℕ → Option (List ℕ)
 message_of s tid = option_map (λ row. row.message.items) (row_of s tid)
+
+abbrev pub offer_of : WaitTable → ℕ → Option (Option Offer)
+offer_of s tid = option_map (λ row. row.offer) (row_of s tid)
 
 abbrev pub accepted_of : WaitTable → ℕ → Option (Option Accepted)
 accepted_of s tid = option_map (λ row. row.accepted) (row_of s tid)
@@ -136,10 +140,18 @@ is_offered row = is_connect row.wait.kind && not (is_some row.accepted)
 abbrev pub is_offered_to : Key → WaitRow → Bool
 is_offered_to queue row = is_offered row && is_key row.wait.queue queue
 
--- a thread's wait begins, without a message and not accepted: it takes one place of the spare room, and counts as made
+-- an offer is of this section, and a connect that isn't accepted offers it
+abbrev pub offers : Key → Offer → Bool
+offers section offer = is_key offer.section section
+
+abbrev pub is_offering : Key → WaitRow → Bool
+is_offering section row = is_offered row && passes row.offer (offers section)
+
+-- a thread's wait begins, without a message, without an offer and not accepted: it takes one place of the spare room, and
+-- counts as made
 abbrev pub begun : WaitTable → ℕ → Wait → WaitTable
 begun s tid wait = record {
-  rows = s.rows ++ (record { thread = tid; wait = wait; message = record { items = [] }; accepted = None }) ∷ [];
+  rows = s.rows ++ (record { thread = tid; wait = wait; message = record { items = [] }; offer = None; accepted = None }) ∷ [];
   spare = s.spare - 1;
   made = s.made + 1;
 }
@@ -148,13 +160,13 @@ begun s tid wait = record {
 abbrev pub received : WaitRow → WaitRow
 received row = record row { wait = record row.wait { received = true } }
 
--- a row with another queue
-abbrev pub with_queue : Key → WaitRow → WaitRow
-with_queue queue row = record row { wait = record row.wait { queue = queue } }
-
 -- a row with these bytes as its message
 abbrev pub with_message : List ℕ → WaitRow → WaitRow
 with_message bytes row = record row { message = record { items = bytes } }
+
+-- a row with what its connect offers, or with nothing of it
+abbrev pub with_offer : Option Offer → WaitRow → WaitRow
+with_offer offer row = record row { offer = offer }
 
 -- a row with what its connect was accepted with, or with nothing of it
 abbrev pub with_accepted : Option Accepted → WaitRow → WaitRow

@@ -6,7 +6,7 @@ ghost use Rattle.std.specs.List.{position};
 ghost use Rattle.lpc_base.specs.Room.{grown_room};
 ghost use Rattle.lpc_base.specs.Rows.{count, without, has};
 ghost use Rattle.lpc_base.specs.declared.limits.TheConstants.{MESSAGE_LIMIT};
-ghost use Rattle.lpc_waits.specs.Table.{accepted_of, accepted_port, accepted_port_in, begun, first_thread, is_accepted, is_accepted_at, is_accepted_on, is_connect, is_connect_of, is_made_at, is_made_on, is_of, is_offered, is_offered_to, is_receive_on, is_receiver_at, is_request_on, is_taker_on, is_unreceived_request_in, is_wait_at, message_of, received, row_of, takes, with_accepted, with_message, with_queue, with_row};
+ghost use Rattle.lpc_waits.specs.Table.{accepted_of, accepted_port, accepted_port_in, begun, first_thread, is_accepted, is_accepted_at, is_accepted_on, is_connect, is_connect_of, is_made_at, is_made_on, is_of, is_offered, is_offered_to, is_offering, is_receive_on, is_receiver_at, is_request_on, is_taker_on, is_unreceived_request_in, is_wait_at, message_of, offer_of, received, row_of, takes, with_accepted, with_message, with_offer, with_row};
 
 use arrayvec::ArrayVec;
 use lpc_base::{OutOfMemory, held, reserve_rows};
@@ -68,11 +68,28 @@ pub struct Wait {
     pub received: bool,
 }
 
+/// The part of a section that a connect offers to show to the server.
+#[derive(Clone, Copy)]
+pub struct Offer {
+    /// The section.
+    pub section: Key,
+    /// Where in the section the part begins, in bytes.
+    pub offset: u32,
+    /// How many bytes it has.
+    pub size: u32,
+}
+
 /// What a connect was accepted with.
 #[derive(Drop)]
 pub struct Accepted {
     /// The data of the accept's message.
     pub reply: ArrayVec<u8, 256>,
+    /// Where the server sees what the client offered; none where it offered nothing.
+    pub target: Option<u32>,
+    /// Where the client sees what the server offered; none where it offered nothing.
+    pub vbase: Option<u32>,
+    /// How many bytes of what the server offered the client sees; none where it offered nothing.
+    pub vsize: Option<u32>,
 }
 
 /// A row of the table: a thread that waits.
@@ -84,6 +101,8 @@ pub struct WaitRow {
     pub wait: Wait,
     /// The bytes of the message that was sent, with its header; none until they are set.
     pub message: ArrayVec<u8, 256>,
+    /// What a connect offers to show to the server; none until it is set.
+    pub offer: Option<Offer>,
     /// What a connect was accepted with; none until it is.
     pub accepted: Option<Accepted>,
 }
@@ -134,7 +153,7 @@ impl Waits {
         reserve_rows(&mut self.rows, more)
     }
 
-    /// Adds the wait of a thread behind the others. It has no message yet, and isn't accepted.
+    /// Adds the wait of a thread behind the others. It has no message yet, offers nothing, and isn't accepted.
     ///
     /// The thread has no wait, there is spare room, and fewer than 2^64 - 1 waits were made.
     pub fn add(&mut self, tid: u32, wait: Wait)
@@ -148,6 +167,7 @@ impl Waits {
             thread: tid,
             wait,
             message: ArrayVec::new(),
+            offer: None,
             accepted: None,
         });
     }
@@ -361,6 +381,46 @@ impl Waits {
         self.rows.iter().filter(|row| row.wait.port == port).count()
     }
 
+    /// What a waiting thread's connect offers to show to the server: None where it offers nothing, and until it is set.
+    pub fn offer(&self, tid: u32) -> Option<&Offer>
+        requires waits { IsSome (row_of self.now tid) }
+        ensures value { offer_of self.now tid ≡ Some (option_copied result) }
+    {
+        self.rows[self.place(tid)].offer.as_ref()
+    }
+
+    /// Gives a waiting thread's wait what its connect offers, or takes that away.
+    pub fn set_offer(&mut self, tid: u32, offer: Option<Offer>)
+        requires waits { IsSome (row_of self.old tid) }
+        ensures table { self.new ≡ with_row self.old tid (with_offer offer) }
+    {
+        let index = self.place(tid);
+        self.rows[index].offer = offer;
+    }
+
+    /// How many waiting connects offer a part of the section and aren't accepted. What an accepted connect offered is
+    /// no offer any longer.
+    pub fn offers(&self, section: Key) -> usize
+        ensures { result ≡ count (is_offering section) self.now.rows }
+    {
+        self.rows
+            .iter()
+            .filter(|row| is_offering(row, section))
+            .count()
+    }
+
+    /// A waiting connect that isn't accepted offers a part of the section.
+    pub fn is_section_offered(&self, section: Key) -> bool
+        ensures { result ≡ has (is_offering section) self.now.rows }
+    {
+        for row in &self.rows {
+            if is_offering(row, section) {
+                return true;
+            }
+        }
+        false
+    }
+
     /// What a waiting thread's connect was accepted with: None until it is set.
     pub fn accepted(&self, tid: u32) -> Option<&Accepted>
         requires waits { IsSome (row_of self.now tid) }
@@ -376,15 +436,6 @@ impl Waits {
     {
         let index = self.place(tid);
         self.rows[index].accepted = accepted;
-    }
-
-    /// Gives a waiting thread's wait another queue.
-    pub fn set_queue(&mut self, tid: u32, queue: Key)
-        requires waits { IsSome (row_of self.old tid) }
-        ensures table { self.new ≡ with_row self.old tid (with_queue queue) }
-    {
-        let index = self.place(tid);
-        self.rows[index].wait.queue = queue;
     }
 
     // Where the wait of a thread stands.
@@ -418,6 +469,16 @@ fn is_offered(row: &WaitRow) -> bool
     ensures { result ≡ is_offered row.now }
 {
     row.wait.kind.is_connect() && row.accepted.is_none()
+}
+
+// The row is of a connect that isn't accepted and offers a part of the section.
+fn is_offering(row: &WaitRow, section: Key) -> bool
+    ensures { result ≡ is_offering section row.now }
+{
+    match row.offer {
+        Some(offer) => is_offered(row) && offer.section == section,
+        None => false,
+    }
 }
 
 // The row's wait was made on this port, or on the other, where there is one.

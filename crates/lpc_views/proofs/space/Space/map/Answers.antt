@@ -1,4 +1,3 @@
-use Rattle.std.proofs.Common.{arith}
 use Rattle.lpc_views.proofs.Removal.{space-push}
 use Rattle.lpc_views.proofs.space.Space.map.Goals as goal
 

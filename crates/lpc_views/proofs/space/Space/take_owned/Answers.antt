@@ -1,10 +1,10 @@
 use Rattle.std.proofs.Common.{◌≡◌, ◌-◌, length, vec_len, vec_capacity, sym, ap, arith}
 use Rattle.lpc_views.proofs.Removal.{lowest-less, space-without}
-use Rattle.lpc_views.specs.Views.{is_owned_by}
+use Rattle.lpc_views.specs.Views.{is_owned_by, lies_at}
 use Rattle.lpc_views.proofs.space.Space.take_owned.Goals as goal
 
 pub invariant_of-self : goal.invariant_of-self
-invariant_of-self g c = rw c.take_out.ensures.views (space-without c.in_ok-view.view.base c.self.inside.views.items c.self.invariant)
+invariant_of-self g c = rw c.take_out.ensures.views (space-without (lies_at c.in_ok-view.view.base) c.self.inside.views.items c.self.invariant)
 
 pub returns-clause-spare : goal.returns-clause-spare
 returns-clause-spare g c =

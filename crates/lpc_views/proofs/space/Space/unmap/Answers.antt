@@ -1,11 +1,11 @@
 use Rattle.std.proofs.Common.{◌≡◌, ◌-◌, length, vec_len, vec_capacity, sym, ap, ◌∙◌, arith}
 use Rattle.lpc_views.proofs.Removal.{first-less, one-goes, space-without}
 use Rattle.lpc_base.proofs.RowWords.{without_first-none}
-use Rattle.lpc_views.specs.Views.{holds}
+use Rattle.lpc_views.specs.Views.{holds, lies_at}
 use Rattle.lpc_views.proofs.space.Space.unmap.Goals as goal
 
 pub invariant_of-self : goal.invariant_of-self
-invariant_of-self g c = rw c.take_out.ensures.views (space-without c.in_ok-view.view.base c.self.inside.views.items c.self.invariant)
+invariant_of-self g c = rw c.take_out.ensures.views (space-without (lies_at c.in_ok-view.view.base) c.self.inside.views.items c.self.invariant)
 
 pub returns-in_err-view-clause-one : goal.returns-in_err-view-clause-one
 returns-in_err-view-clause-one g c = sym (without_first-none (holds c.args.address 1) c.args.self.now.views (sym c.in_err-view.ensures))
