@@ -8,7 +8,7 @@ ghost use Rattle.lpc_base.specs.declared.limits.TheConstants.{MESSAGE_LIMIT};
 ghost use Rattle.lpc_slots.specs.Chain.{IsDistinct};
 ghost use Rattle.lpc_slots.specs.Table.{at_key, keys_of};
 ghost use Rattle.lpc_ports.specs.Lent.{IsQueue, IsSent, messages_of, queued_of};
-ghost use Rattle.lpc_ports.specs.Table.{LeavesOthers, LosesFirst, PullsFirst, first_connect_in, first_in, first_of, first_own_of, has_none_in, is_asking, is_client, is_closing, is_connect_in, is_connected_to, is_datagram_of, is_in, is_joined_to, is_message_at, is_named, is_own_of, is_paired_to, is_sent_on, is_the, message_at, new_port, nothing, pair_of, paired, parted, queue_at, queued, row_at, unpaired, with_changed, with_completed, with_creator, with_joined, with_port, with_room, with_sent, without_message, without_messages, without_port};
+ghost use Rattle.lpc_ports.specs.Table.{LeavesOthers, LosesFirst, PullsFirst, first_connect_in, first_in, first_of, first_own_of, has_none_in, is_asking, is_client, is_closing, is_connect_in, is_connected_to, is_datagram_of, is_in, is_joined_to, is_message_at, is_named, is_own_of, is_paired_to, is_sent_on, is_the, message_at, new_port, nothing, pair_of, paired, parted, queue_at, queued, row_at, unpaired, with_changed, with_completed, with_creator, with_joined, with_port, with_room, with_security, with_sent, without_message, without_messages, without_port};
 
 mod messages;
 mod rows;
@@ -18,6 +18,7 @@ pub use lpc_base::PortKind;
 use lpc_base::{Birth, OutOfMemory, held};
 use lpc_message::ClientId;
 use lpc_slots::{Chain, Key, Links, Slots};
+use lpc_tokens::Security;
 pub use messages::{Block, Message};
 use rows::{PortRow, push_queued, push_sent, unlink_queued, unlink_sent};
 use std::alloc::Global;
@@ -34,7 +35,7 @@ pub struct Creator {
 }
 
 /// A row of the table: a port.
-#[derive(Clone, Copy)]
+#[derive(Drop)]
 pub struct Port {
     /// The name that it was made under.
     pub birth: Birth,
@@ -50,6 +51,8 @@ pub struct Port {
     pub creator: Option<Creator>,
     /// The connection is completed; false until it is set.
     pub completed: bool,
+    /// Who may use the port, and what it allows; unsecured until it is set.
+    pub security: Security,
 }
 
 impl Port {
@@ -136,7 +139,7 @@ impl Ports {
     }
 
     /// Adds a port behind the others, and answers its key. It has no pair and no creator yet, its context is 0, and it
-    /// isn't completed.
+    /// isn't completed. It is unsecured.
     ///
     /// There is spare room, and fewer than 2^64 - 1 ports were made.
     pub fn add(&mut self, kind: PortKind, birth: Birth, connection: Option<Key>) -> Key
@@ -158,6 +161,7 @@ impl Ports {
                 context: 0,
                 creator: None,
                 completed: false,
+                security: Security::Unsecured,
             },
             queued: Chain::empty(),
             sent: Chain::empty(),
@@ -246,6 +250,14 @@ impl Ports {
         self.row(port).completed
     }
 
+    /// Who may use a port that has a row, and what it allows: unsecured until it is set.
+    pub fn security(&self, port: Key) -> &Security
+        requires { IsSome (row_at self.now.ports port) }
+        ensures { option_map (λ row. row.security) (row_at self.now.ports port) ≡ Some result.now }
+    {
+        &self.row(port).security
+    }
+
     /// Gives a port the connect that made it, or takes that away. What has no row gets none.
     pub fn set_creator(&mut self, port: Key, creator: Option<Creator>)
         ensures { self.new ≡ with_changed self.old port (with_creator creator) }
@@ -261,6 +273,15 @@ impl Ports {
     {
         if let Some(row) = self.ports.get_mut(port) {
             row.port.completed = completed;
+        }
+    }
+
+    /// Says of a port who may use it, and what it allows. What has no row gets none.
+    pub fn set_security(&mut self, port: Key, security: Security)
+        ensures { self.new ≡ with_changed self.old port (with_security security) }
+    {
+        if let Some(row) = self.ports.get_mut(port) {
+            row.port.security = security;
         }
     }
 

@@ -6,6 +6,7 @@ use Rattle.lpc_base.specs.declared.birth.Birth.{Birth}
 use Rattle.lpc_base.specs.declared.limits.TheConstants.{REGISTRATION_LIMIT}
 use Rattle.lpc_message.specs.declared.message.ClientId.{ClientId}
 use Rattle.lpc_slots.specs.declared.Key.{Key}
+use Rattle.lpc_tokens.specs.declared.effective.Impersonation.{Impersonation}
 use Rattle.lpc_procs.specs.declared.rows.BornThread.{BornThread}
 use Rattle.lpc_procs.specs.declared.rows.Life.{Life}
 use Rattle.lpc_procs.specs.declared.rows.Number.{Number}
@@ -165,6 +166,11 @@ registering r t = record t { registered = record { items = t.registered.items ++
 
 abbrev pub unregistering : Birth → ThreadRow → ThreadRow
 unregistering b t = record t { registered = record { items = without (is_of_birth b) t.registered.items } }
+
+-- Tokens
+-- a thread with the token as which it acts for a client, none where it acts with that of its process
+abbrev pub acting : Option Impersonation → ThreadRow → ThreadRow
+acting own t = record t { own = own }
 
 -- Numbers
 -- a number that a process or thread can have

@@ -17,8 +17,8 @@ fn is_name(name: Birth, birth: Birth) -> bool
 }
 
 // The process was made by this one.
-fn is_made_by(row: ProcessRow, pid: u32) -> bool
-    ensures { result ≡ is_made_by pid row }
+fn is_made_by(row: &ProcessRow, pid: u32) -> bool
+    ensures { result ≡ is_made_by pid row.now }
 {
     match row.maker {
         Some(maker) => maker == pid,
@@ -38,7 +38,7 @@ pub fn children(rows: &[Counted], pid: u32) -> usize
     ensures { result ≡ count (is_peopled_child pid) rows.now }
 {
     rows.iter()
-        .filter(|p| is_made_by(p.row, pid) && is_peopled(p))
+        .filter(|p| is_made_by(&p.row, pid) && is_peopled(p))
         .count()
 }
 

@@ -1,12 +1,12 @@
 // The table of processes and threads.
-ghost use Rattle.std.specs.Prelude.{◌≡◌, ◌-◌, ◌*◌, ◌<◌, ◌≤◌, ◌++◌, ◌∷◌, ◌+◌, [], true, false, length, is_some, option_map, slice_get, Some, IsSomeAnd, OnOk, OnErr, IfSome};
+ghost use Rattle.std.specs.Prelude.{◌≡◌, ◌-◌, ◌*◌, ◌<◌, ◌≤◌, ◌++◌, ◌∷◌, ◌+◌, [], true, false, length, is_some, option_copied, option_map, slice_get, None, Some, IsSomeAnd, OnOk, OnErr, IfSome};
 ghost use Rattle.std.specs.List.{position};
 ghost use Rattle.lpc_base.specs.Room.{grown_room};
 ghost use Rattle.lpc_base.specs.Rows.{count, first, has};
 ghost use Rattle.lpc_base.specs.declared.limits.TheConstants.{REGISTRATION_LIMIT};
 ghost use Rattle.lpc_procs.specs.Callers.{caller_of};
 ghost use Rattle.lpc_procs.specs.Procs as procs;
-ghost use Rattle.lpc_procs.specs.Procs.{HasIdentifierLeft, HasOrdinalLeft, HasRegistrationLeft, IsNumber, all_registrations, birth_of, ended, first_process, first_thread, first_untold, has_registered, is_life, is_live_child, is_live_client, is_live_thread, is_of_birth, is_process_born, is_thread, live_registrations, lives_by, lives_in, most_rows, nothing, past_birth, past_identifier, process_at, process_life, registering, registration, thread_at, thread_born, thread_life, unregistering, used_process, with_room, with_thread, without_process_born, without_thread_born};
+ghost use Rattle.lpc_procs.specs.Procs.{HasIdentifierLeft, HasOrdinalLeft, HasRegistrationLeft, IsNumber, acting, all_registrations, birth_of, ended, first_process, first_thread, first_untold, has_registered, is_life, is_live_child, is_live_client, is_live_thread, is_of_birth, is_process_born, is_thread, live_registrations, lives_by, lives_in, most_rows, nothing, past_birth, past_identifier, process_at, process_life, registering, registration, thread_at, thread_born, thread_life, unregistering, used_process, with_room, with_thread, without_process_born, without_thread_born};
 
 use crate::numbered::Numbered;
 use crate::rows::Counted;
@@ -17,7 +17,9 @@ use crate::{
 use arrayvec::ArrayVec;
 use lpc_base::{Birth, OutOfMemory, reserve_rows};
 use lpc_message::ClientId;
+use lpc_sid::Token;
 use lpc_slots::Key;
+use lpc_tokens::Impersonation;
 use std::alloc::Global;
 use std::marker::Model;
 
@@ -120,15 +122,15 @@ impl Procs {
         self.used_threads.reserve(threads)
     }
 
-    /// Adds a process under a number that no process ever had, made by the process `maker` or by a directive. There is
-    /// spare room for it, and the number is from 1 to 2,147,483,647.
-    pub fn add_process(&mut self, pid: u32, maker: Option<u32>, birth: Birth)
+    /// Adds a process under a number that no process ever had, made by the process `maker` or by a directive, with a
+    /// copy of the token. There is spare room for it, and the number is from 1 to 2,147,483,647.
+    pub fn add_process(&mut self, pid: u32, maker: Option<u32>, birth: Birth, token: &Token)
         requires room { 0 < self.old.process_room }
         requires number { IsNumber pid }
         requires new { procs.was_used self.old (Number.Process pid) ≡ false }
         ensures table { self.new ≡ record self.old {
           processes = self.old.processes
-              ++ (record { number = pid; maker = maker; birth = birth }) ∷ [];
+              ++ (record { number = pid; maker = maker; birth = birth; token = token.now }) ∷ [];
           used_processes = self.old.used_processes ++ pid ∷ [];
           process_room = self.old.process_room - 1;
         } }
@@ -137,6 +139,7 @@ impl Procs {
             number: pid,
             maker,
             birth,
+            token: token.copy(),
         };
         self.processes.push_reserved(Counted { row, live: 0 });
         self.process_names.add(pid, birth);
@@ -144,8 +147,8 @@ impl Procs {
     }
 
     /// Adds a live thread to a process that has a row, under a number that no thread ever had. Its identifiers and
-    /// ordinals start from 1, and it registered no port. There is spare room for it, and the number is from 1 to
-    /// 2,147,483,647.
+    /// ordinals start from 1, it registered no port, and it acts with the token of its process. There is spare room for
+    /// it, and the number is from 1 to 2,147,483,647.
     pub fn add_thread(&mut self, tid: u32, pid: u32, birth: Birth)
         requires room { 0 < self.old.thread_room }
         requires number { IsNumber tid }
@@ -160,6 +163,7 @@ impl Procs {
             next_identifier = 1;
             next_ordinal = 1;
             registered = record { items = [] };
+            own = None;
           }) ∷ [];
           used_threads = self.old.used_threads ++ (record { number = tid; process = pid }) ∷ [];
           thread_room = self.old.thread_room - 1;
@@ -175,6 +179,7 @@ impl Procs {
             next_identifier: 1,
             next_ordinal: 1,
             registered: ArrayVec::new(),
+            own: None,
         });
         self.thread_names.add(tid, birth);
         self.used_threads.add(tid, pid);
@@ -467,6 +472,32 @@ impl Procs {
         self.process(pid).maker
     }
 
+    /// The token of a process that has a row.
+    pub fn token(&self, pid: u32) -> &Token
+        requires present { is_some (process_at self.now pid) ≡ true }
+        ensures token { option_map (λ p. p.token) (process_at self.now pid) ≡ Some result.now }
+    {
+        &self.process(pid).token
+    }
+
+    /// The token as which a thread, which has a row, acts for a client: None where it acts with that of its process.
+    pub fn own(&self, tid: u32) -> Option<&Impersonation>
+        requires present { is_some (thread_at self.now tid) ≡ true }
+        ensures own { option_map (λ t. t.own) (thread_at self.now tid)
+            ≡ Some (option_copied result) }
+    {
+        self.thread(tid).own.as_ref()
+    }
+
+    /// Gives a thread, which has a row, the token as which it acts for a client, or takes that away.
+    pub fn set_own(&mut self, tid: u32, own: Option<Impersonation>)
+        requires present { is_some (thread_at self.old tid) ≡ true }
+        ensures table { self.new ≡ with_thread self.old tid (acting own) }
+    {
+        let place = self.place(tid);
+        self.threads[place].own = own;
+    }
+
     /// The birth of a process or thread that has a row.
     pub fn birth(&self, number: Number) -> Birth
         requires present { is_some (birth_of self.now number) ≡ true }
@@ -513,12 +544,12 @@ impl Procs {
     }
 
     // The row of a process that is present.
-    fn process(&self, pid: u32) -> ProcessRow
+    fn process(&self, pid: u32) -> &ProcessRow
         requires { is_some (process_at self.now pid) ≡ true }
-        ensures { process_at self.now pid ≡ Some result }
+        ensures { process_at self.now pid ≡ Some result.now }
     {
         match self.process_names.place(pid) {
-            Some(place) => self.processes[place].row,
+            Some(place) => &self.processes[place].row,
             None => unreachable!(),
         }
     }

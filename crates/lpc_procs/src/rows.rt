@@ -2,7 +2,9 @@
 use arrayvec::ArrayVec;
 use lpc_base::Birth;
 use lpc_base::limits::REGISTRATION_LIMIT;
+use lpc_sid::Token;
 use lpc_slots::Key;
+use lpc_tokens::Impersonation;
 
 /// The number of a process or of a thread. The two are spaces of their own: one number may name a process and a thread.
 #[derive(Clone, Copy)]
@@ -14,7 +16,7 @@ pub enum Number {
 }
 
 /// A process.
-#[derive(Clone, Copy)]
+#[derive(Drop)]
 pub struct ProcessRow {
     /// From 1 to 2147483647.
     pub number: u32,
@@ -22,10 +24,12 @@ pub struct ProcessRow {
     pub maker: Option<u32>,
     /// The name that it was made under.
     pub birth: Birth,
+    /// Who it is.
+    pub token: Token,
 }
 
 /// A process, and beside it the count of its live threads.
-#[derive(Clone, Copy)]
+#[derive(Drop)]
 pub struct Counted {
     /// The process.
     pub row: ProcessRow,
@@ -79,9 +83,12 @@ pub struct ThreadRow {
     pub next_ordinal: u32,
     /// The ports that are to be told of its end, in the order in which it registered them.
     pub registered: ArrayVec<Registration, REGISTRATION_LIMIT>,
+    /// The token as which it acts for a client; None where it acts with that of its process.
+    pub own: Option<Impersonation>,
 }
 
-/// What a call knows of the thread that makes it: the thread's row, but for its registrations.
+/// What a call knows of the thread that makes it: the thread's row, but for its registrations and the token as which it
+/// acts for a client.
 #[derive(Clone, Copy)]
 pub struct Caller {
     /// From 1 to 2147483647.

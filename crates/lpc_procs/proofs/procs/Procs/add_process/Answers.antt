@@ -19,6 +19,6 @@ add-requires-2-clause-new c =
 
 pub invariant_of-self : goal.invariant_of-self
 invariant_of-self c =
-    let row : ProcessRow = record { number = c.args.pid; maker = c.args.maker; birth = c.args.birth } in
+    let row : ProcessRow = record { number = c.args.pid; maker = c.args.maker; birth = c.args.birth; token = c.copy.result } in
     let new = rw (← c.self.view_is) at c.requires.new in
     rw (c.push_reserved.ensures.items, c.add.ensures.entries, c.add-2.ensures.entries, push-map) (kept-process c.self.inside.processes.items c.self.inside.threads.items (numbers c.self.inside.used_processes.entries) (used_rows c.self.inside.used_threads.entries) c.self.inside.process_names.entries c.self.inside.thread_names.entries c.self.inside.alive c.self.inside.registered c.self.invariant row new)

@@ -1,4 +1,4 @@
-use Rattle.std.proofs.Common.{◌+◌, rules, true, refl, ap, sym, ◌∙◌, arith}
+use Rattle.std.proofs.Common.{◌+◌, rules, true, None, refl, ap, sym, ◌∙◌, arith}
 use Rattle.lpc_base.proofs.RowMaps.{push-map}
 use Rattle.lpc_base.proofs.RowWords.{count-bound}
 use Rattle.lpc_procs.specs.declared.rows.ThreadRow.{ThreadRow}
@@ -30,7 +30,7 @@ overflow_add-self c = omega (arith, alive-few c.self.inside.processes.items c.se
 
 pub invariant_of-self : goal.invariant_of-self
 invariant_of-self c =
-    let t : ThreadRow = record { number = c.args.tid; process = c.args.pid; birth = c.args.birth; live = true; next_identifier = 1; next_ordinal = 1; registered = c.new.result } in
+    let t : ThreadRow = record { number = c.args.tid; process = c.args.pid; birth = c.args.birth; live = true; next_identifier = 1; next_ordinal = 1; registered = c.new.result; own = None } in
     let new = rw (← c.self.view_is) at c.requires.new in
     let home = rw (← c.self.view_is) at c.requires.process in
     let counted = rw (← c.self.view_is) at c.live_count-live.ensures.count in

@@ -1,0 +1,23 @@
+use Rattle.std.proofs.Common.{refl, sym}
+use Rattle.lpc_ports.specs.Table.{with_security}
+use Rattle.lpc_ports.proofs.Fields.{changed_kept, seen_changed, seen_kept}
+use Rattle.lpc_ports.proofs.Ports.set_security.Goals as goal
+use Rattle.lpc_ports.proofs.Ports.set_security.Goals.{in-Some, in_default}
+
+pub invariant_of-self : goal.invariant_of-self
+invariant_of-self c =
+    let ports = c.self.inside.ports in
+    let blocks = c.self.inside.blocks in
+    elim c.match-get_mut.branch [
+      | in-Some w ↦ rw w.self-inside-is (changed_kept ports blocks c.args.port (with_security c.args.security) c.self.inside.totals w.in-Some.row.now (sym w.in-Some.ensures.value) (λ _. refl) c.self.invariant)
+      | in_default w ↦ rw w.self-inside-is c.self.invariant
+    ]
+
+pub returns : goal.returns
+returns c =
+    let ports = c.self.inside.ports in
+    let blocks = c.self.inside.blocks in
+    elim c.match-get_mut.branch [
+      | in-Some w ↦ rw (← c.self.view_is, w.self-inside-is) (seen_changed ports blocks c.args.port (with_security c.args.security) w.in-Some.row.now (sym w.in-Some.ensures.value))
+      | in_default w ↦ rw (← c.self.view_is, w.self-inside-is) (seen_kept ports blocks c.args.port (with_security c.args.security) (sym w.in_default.ensures.value))
+    ]

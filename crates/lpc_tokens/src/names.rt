@@ -1,0 +1,93 @@
+// The names of tokens, by which processes that are yet to come are given theirs.
+ghost use Rattle.std.specs.Prelude.{◌≡◌, ◌+◌, ◌<◌, ◌≤◌, ◌++◌, ◌∷◌, [], length, option_copied, None, OnErr, OnOk};
+ghost use Rattle.lpc_tokens.specs.Names.{named};
+
+use arrayvec::ArrayVec;
+use indexmap::IndexMap;
+use lpc_base::OutOfMemory;
+use lpc_sid::Token;
+use std::alloc::Global;
+use std::marker::Model;
+
+/// The bytes of a token's name, at most. This project's profile.
+pub const TOKEN_NAME_LIMIT: usize = 32;
+
+/// The tokens that have names, in the order in which they got them. A name leads to its token without a search, and
+/// stays. So many further ones as there is room for go in without memory.
+///
+/// A clause sees the names with their tokens, and the room.
+#[derive(Drop)]
+pub struct TokenNames {
+    names: IndexMap<ArrayVec<u8, TOKEN_NAME_LIMIT>, Token>,
+}
+
+impl Model for TokenNames {
+    ghost use Rattle.std.specs.Prelude.{◌≡◌, map, true};
+    ghost use Rattle.indexmap.specs.IndexMap.{spare};
+    ghost use Rattle.lpc_base.specs.Rows.{every};
+    ghost use Rattle.lpc_tokens.specs.Names.{TokenNames, is_short, shown_name};
+
+    ghost Value = { TokenNames };
+
+    ghost view = { λ s. record { rows = map shown_name s.names.entries; spare = spare s.names } };
+
+    ghost invariant = { λ s. every is_short (map shown_name s.names.entries) ≡ true };
+}
+
+// The key of a name.
+fn key_of(name: &[u8]) -> ArrayVec<u8, TOKEN_NAME_LIMIT>
+    requires { length name.now ≤ TOKEN_NAME_LIMIT }
+    ensures { result.items ≡ name.now }
+{
+    let mut key = ArrayVec::new();
+    key.try_extend_from_slice(name).unwrap();
+    key
+}
+
+impl TokenNames {
+    /// No name and no room. It takes no memory, and keeps the allocator for `reserve`.
+    pub fn new(alloc: Global) -> TokenNames
+        ensures { result.rows ≡ [] }
+    {
+        TokenNames {
+            names: IndexMap::new(alloc),
+        }
+    }
+
+    /// Makes room for so many further names. `OutOfMemory` comes only where the room isn't there; nothing has changed
+    /// then but the room.
+    pub fn reserve(&mut self, more: usize) -> Result<(), OutOfMemory>
+        ensures rows { self.new.rows ≡ self.old.rows }
+        ensures room { OnOk result (more ≤ self.new.spare) }
+        ensures wanting { OnErr result (self.old.spare < more) }
+        ensures spare { self.old.spare ≤ self.new.spare }
+    {
+        self.names.reserve(more).map_err(|_| OutOfMemory)
+    }
+
+    /// Gives a token a name, which no token has. There is room for it, and the name has at most 32 bytes.
+    pub fn add(&mut self, name: &[u8], token: Token)
+        requires room { 0 < self.old.spare }
+        requires short { length name.now ≤ TOKEN_NAME_LIMIT }
+        requires new { named self.old.rows name.now ≡ None }
+        ensures rows { self.new.rows
+            ≡ self.old.rows ++ (record { name = name.now; token = token }) ∷ [] }
+        ensures spare { self.old.spare ≤ self.new.spare + 1 }
+    {
+        match self.names.insert(key_of(name), token) {
+            Ok(_) => {}
+            Err(_) => unreachable!(),
+        }
+    }
+
+    /// The token of a name: None exactly where no token has it.
+    pub fn find(&self, name: &[u8]) -> Option<&Token>
+        ensures { option_copied result ≡ named self.now.rows name.now }
+    {
+        let names = &self.names;
+        if name.len() > TOKEN_NAME_LIMIT {
+            return None;
+        }
+        names.get(&key_of(name))
+    }
+}
