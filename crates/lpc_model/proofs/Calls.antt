@@ -5,6 +5,8 @@ pub mod Usable
 pub mod Creating
 pub mod Tested
 pub mod Taking
+pub mod Offers
+pub mod Sharing
 pub mod Outcomes
 pub mod Lines
 pub mod Acts

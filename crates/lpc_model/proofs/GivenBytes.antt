@@ -22,9 +22,9 @@ use Rattle.lpc_model.specs.declared.fault.LineFault.{LineFault}
 use Rattle.lpc_model.specs.declared.fault.LineFault.TheVariants as fault
 use Rattle.lpc_model.specs.Then.{◌>>=◌}
 use Rattle.lpc_model.specs.Message.{bytes_of, message_of}
-use Rattle.lpc_model.specs.Lines.{ScriptCall, ScriptLine, accept_connect_port, reply_port, reply_wait_receive_port, request_port, request_wait_reply_port, run, write_virtual_memory, read_request_data, write_request_data}
+use Rattle.lpc_model.specs.Lines.{ScriptCall, ScriptLine, accept_connect_port, reply_port, reply_wait_receive_port, request_port, request_wait_reply_port, run, write_virtual_memory, read_request_data, write_request_data, impersonate_client_of_port}
 use Rattle.lpc_model.specs.Words.{begins, split_once, hex_message, hex_or_fault, hex_word, id_word, info_word, message_word, number_word, parts, reply_message, three_parts, words}
-use Rattle.lpc_model.specs.Grammar.{accept_word, access_word, call_line, call_named, call_words, directive_line, directive_named, directive_words, four_words, given_message, handle_and_message, handle_and_reply, is_printable, one_handle, one_or_two_words, one_word, qos_word, read_line, starts_call, process_and_thread, target_and_code, target_and_thread, thread_call, two_words, view_word, words_line, address_and_bytes, range_words, range_and_bytes, four_numbers, two_numbers}
+use Rattle.lpc_model.specs.Grammar.{accept_word, access_word, call_line, call_named, call_words, directive_line, directive_named, directive_words, four_words, given_message, handle_and_message, handle_and_reply, is_printable, one_handle, one_or_two_words, one_word, qos_word, read_line, starts_call, process_and_thread, target_and_code, target_and_thread, thread_call, two_words, view_word, words_line, address_and_bytes, range_words, range_and_bytes, four_numbers, two_numbers, fixed_word, given_dacl, no_words, process_and_token, token_words}
 use Rattle.lpc_model.specs.Run.{numbered_line, said_from, unless_faulty}
 
 abbrev pub AreBytes : List ℕ → Type 0
@@ -108,7 +108,7 @@ message_bytes text =
 
 -- What a line gives: the message of each call that has one, and the bytes that one writes
 abbrev pub HasBytes : ScriptCall → Type 0
-HasBytes (accept_connect_port context bytes accept) = AreBytes bytes
+HasBytes (accept_connect_port context bytes accept view) = AreBytes bytes
 HasBytes (request_port handle bytes) = AreBytes bytes
 HasBytes (request_wait_reply_port handle bytes) = AreBytes bytes
 HasBytes (reply_port handle bytes) = AreBytes bytes
@@ -116,6 +116,7 @@ HasBytes (reply_wait_receive_port handle (Some bytes)) = AreBytes bytes
 HasBytes (write_virtual_memory address bytes) = AreBytes bytes
 HasBytes (read_request_data handle bytes index n) = AreBytes bytes
 HasBytes (write_request_data handle bytes index new) = AreBytes bytes × AreBytes new
+HasBytes (impersonate_client_of_port handle bytes) = AreBytes bytes
 HasBytes call = Unit {0}
 
 abbrev pub GivesBytes : ScriptLine → Type 0
@@ -165,7 +166,7 @@ range_bytes_give others =
 
 call_gives : (name : CallName) (others : List (List ℕ)) → Gives HasBytes (call_words name others)
 unfolding call_words
-call_gives call.NtCreatePort others = then_gives (one_word others) _ HasBytes (λ _ _. tt)
+call_gives call.NtCreatePort others = then_gives (one_or_two_words others) _ HasBytes (λ two _. then_gives (given_dacl two.1) _ HasBytes (λ _ _. tt))
 call_gives call.NtConnectPort others =
     then_gives (four_words others) _ HasBytes (λ four _.
     then_gives (qos_word four.1) _ HasBytes (λ _ _.
@@ -198,10 +199,16 @@ call_gives call.NtReadVirtualMemory others = then_gives (two_numbers others) _ H
 call_gives call.NtWriteVirtualMemory others = then_gives (address_and_bytes others) _ HasBytes (λ two is. gives_ok (λ (two : ℕ × List ℕ). AreBytes two.1) (address_and_bytes others) two (written_gives others) is)
 call_gives call.NtReadRequestData others = then_gives (range_words others) _ HasBytes (λ range is. gives_ok (λ (range : ℕ × List ℕ × ℕ × ℕ). AreBytes range.1) (range_words others) range (range_gives others) is)
 call_gives call.NtWriteRequestData others = then_gives (range_and_bytes others) _ HasBytes (λ new is. gives_ok (λ (new : ℕ × List ℕ × ℕ × List ℕ). AreBytes new.1 × AreBytes new.3) (range_and_bytes others) new (range_bytes_give others) is)
+call_gives call.NtImpersonateClientOfPort others = then_gives (handle_and_message others) _ HasBytes (λ two is. gives_ok (λ (two : ℕ × List ℕ). AreBytes two.1) (handle_and_message others) two (handle_gives others) is)
+call_gives call.NtSetInformationThread others = then_gives (two_words others) _ HasBytes (λ two _. then_gives (number_word two.0) _ HasBytes (λ _ _. then_gives (fixed_word (codes "null") two.1) _ HasBytes (λ _ _. tt)))
+call_gives call.NtOpenThreadToken others = then_gives (no_words others) _ HasBytes (λ _ _. tt)
+call_gives call.NtOpenProcessToken others = then_gives (no_words others) _ HasBytes (λ _ _. tt)
+call_gives call.NtQueryInformationToken others = then_gives (two_numbers others) _ HasBytes (λ _ _. tt)
 
 directive_gives : (name : Word) (others : List (List ℕ)) → Gives GivesBytes (directive_words name others)
 unfolding directive_words
-directive_gives word.Boot others = then_gives (process_and_thread others) _ GivesBytes (λ _ _. tt)
+directive_gives word.Boot others = then_gives (process_and_token others) _ GivesBytes (λ _ _. tt)
+directive_gives word.Token others = then_gives (token_words others) _ GivesBytes (λ _ _. tt)
 directive_gives word.Thread others = then_gives (two_words others) _ GivesBytes (λ two _. then_gives (id_word two.0) _ GivesBytes (λ _ _. then_gives (id_word two.1) _ GivesBytes (λ _ _. tt)))
 directive_gives word.Dir others = then_gives (one_word others) _ GivesBytes (λ _ _. tt)
 directive_gives word.Link others = then_gives (two_words others) _ GivesBytes (λ _ _. tt)

@@ -34,16 +34,21 @@ use Rattle.lpc_model.proofs.Lives.Handles.{living_step}
 use Rattle.lpc_model.proofs.Lives.KeptPairs.{pairs_step}
 use Rattle.lpc_model.proofs.Lives.Bare.{bare}
 use Rattle.lpc_model.proofs.Views.Lines.{views_none, views_step}
-use Rattle.lpc_model.specs.SoundViews.{HasSoundViews, RunKeepsViews}
+use Rattle.lpc_model.specs.SoundViews.{HasSoundViews, RunKeepsViews, RunKeepsOffers, HasSoundOffers}
 use Rattle.lpc_model.proofs.Lives.Registrations.{living_registrations_step}
 use Rattle.lpc_model.proofs.Lives.SingleRegistrations.{single_step}
+use Rattle.lpc_model.proofs.Views.Offers.{offers_step}
+use Rattle.lpc_model.specs.Clients.{HasAllowingClients, HasClientEnds, RefusesUnservedAlone, RunHasAllowingClients, RunHasClientEnds, RunRefusesUnservedAlone}
+use Rattle.lpc_model.proofs.Clients.Allowing.{allowing_step}
+use Rattle.lpc_model.proofs.Clients.Ends.{ends_step}
+use Rattle.lpc_model.proofs.Clients.Refusal.{refuses_unserved}
 
 -- before the first line
 pub lawful_none : IsLawfulWorld no_rows
 lawful_none = record {
   sound = sound_none;
   linked = linked_none;
-  held = record { ports = refl; lives = record { threads = refl; processes = refl }; sections = refl };
+  held = record { ports = refl; lives = record { threads = refl; processes = refl }; sections = refl; tokens = refl };
   queues = queues_none;
   names = names_none;
   single_closings = untold_none;
@@ -54,7 +59,10 @@ lawful_none = record {
   living = refl;
   views = refl;
   sound_views = views_none;
+  sound_offers = refl;
   pairs = refl;
+  clients = refl;
+  ends = refl;
 }
 
 -- and behind each line
@@ -64,7 +72,7 @@ lawful_step w line t = let shut = t.single_closings in let safe : IsSafe w = rec
   linked = linked_step w line t.sound shut.connects t.linked;
   held = held_step w line t.sound t.linked;
   queues = queues_step w line t.sound shut.connects t.linked t.queues;
-  names = names_step w line t.sound shut.connects t.linked t.names;
+  names = names_step w line t.sound shut.connects t.linked t.sound_offers t.names;
   single_closings = untold_step w line t.sound t.names t.single_closings;
   creators = keeps_step w line safe t.creators;
   threads = once_step w line t.sound shut.connects t.threads;
@@ -72,8 +80,11 @@ lawful_step w line t = let shut = t.single_closings in let safe : IsSafe w = rec
   single = single_step w line t.sound t.threads t.single;
   living = living.handles;
   views = living.views;
-  sound_views = views_step w line t.sound shut.connects t.sound_views;
+  sound_views = views_step w line t.sound shut.connects t.sound_offers t.sound_views;
+  sound_offers = offers_step w line t.sound shut.connects t.sound_views t.sound_offers;
   pairs = pairs_step w line safe t.pairs;
+  clients = allowing_step w line safe t.clients;
+  ends = ends_step w line safe (record { linked = t.linked; clients = t.clients }) t.ends;
 }
 
 pub said-lawful : (w : World) (said : Option ScriptLine) → IsLawfulWorld w → IsLawfulWorld (line_step w said).world
@@ -139,3 +150,18 @@ single_registrations_run bytes = trace-keeps HasSingleRegistrations (λ w t. t.s
 
 pub views_run : (bytes : List ℕ) → RunKeepsViews bytes
 views_run bytes = trace-keeps HasSoundViews (λ w t. t.sound_views) no_rows (said_in bytes) lawful_none
+
+pub offers_run : (bytes : List ℕ) → RunKeepsOffers bytes
+offers_run bytes = trace-keeps HasSoundOffers (λ w t. t.sound_offers) no_rows (said_in bytes) lawful_none
+
+pub allowing_run : (bytes : List ℕ) → RunHasAllowingClients bytes
+allowing_run bytes = trace-keeps HasAllowingClients (λ w t. t.clients) no_rows (said_in bytes) lawful_none
+
+pub client_ends_run : (bytes : List ℕ) → RunHasClientEnds bytes
+client_ends_run bytes = trace-keeps HasClientEnds (λ w t. t.ends) no_rows (said_in bytes) lawful_none
+
+pub unserved_alone : (w : World) → IsLawfulWorld w → RefusesUnservedAlone w
+unserved_alone w t = refuses_unserved w t.sound t.linked t.clients t.ends
+
+pub unserved_run : (bytes : List ℕ) → RunRefusesUnservedAlone bytes
+unserved_run bytes = trace-keeps RefusesUnservedAlone unserved_alone no_rows (said_in bytes) lawful_none

@@ -2,3 +2,4 @@
 pub mod Tables
 pub mod Steps
 pub mod Lines
+pub mod Offers

@@ -6,4 +6,6 @@ pub mod Endings
 pub mod Creations
 pub mod Views
 pub mod Ranges
+pub mod Offers
 pub mod Neighbours
+pub mod Tokens

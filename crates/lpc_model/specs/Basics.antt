@@ -1,5 +1,5 @@
 -- The basic steps that each line's step is a list of, and what one does.
-use Rattle.std.specs.Prelude.{ℕ, length, take, drop, replicate, ◌+◌, ◌||◌, nat_lt, Bool, true, false, List, [], ◌∷◌, ◌++◌, map, None, Some, if◌then◌else◌}
+use Rattle.std.specs.Prelude.{Option, ℕ, length, take, drop, replicate, ◌+◌, ◌||◌, nat_lt, Bool, true, false, List, [], ◌∷◌, ◌++◌, map, None, Some, if◌then◌else◌}
 use Rattle.lpc_base.specs.declared.status.Status.{Status}
 use Rattle.lpc_model.specs.declared.entry.Entry.{Entry}
 use Rattle.lpc_model.specs.declared.entry.Entry.TheVariants as entry
@@ -9,8 +9,8 @@ use Rattle.lpc_model.specs.declared.entry.Outcome.TheVariants as outcome
 use Rattle.lpc_base.specs.Rows.{change, each, when, which, without, without_first}
 use Rattle.lpc_names.specs.Binding.{is_name}
 use Rattle.lpc_model.specs.declared.entry.ObjectKind.TheVariants as kind
-use Rattle.lpc_model.specs.World.{World, Birth, CallName, ObjectKind, ObjectName, ProcessRow, ThreadRow, UsedThread, HandleRow, HandleTable, PortRow, MessageRow, WaitKind, WaitRow, Accepted, Connect, Node, Path, SectionRow, ContentRow, Contents, Known, Unknown, ViewRow, ViewTable}
-use Rattle.lpc_model.specs.Found.{has_value, is_content, is_own_of, is_section, is_space, lies_at, is_paired_to, is_port, is_queued, is_queued_connect, is_table, is_thread, same_birth, waits_as, waits_at}
+use Rattle.lpc_model.specs.World.{World, Birth, CallName, ObjectKind, ObjectName, ProcessRow, ThreadRow, UsedThread, HandleRow, HandleTable, PortRow, MessageRow, WaitKind, WaitRow, Acceptance, Accepted, Connect, Node, Path, SectionRow, ContentRow, Contents, Known, Unknown, ViewRow, ViewTable, TokenRow, TokenName, Security, Impersonation}
+use Rattle.lpc_model.specs.Found.{has_value, is_content, is_token, is_own_of, is_owned_by, is_section, is_space, lies_at, is_paired_to, is_port, is_queued, is_queued_connect, is_table, is_thread, same_birth, waits_as, waits_at}
 
 -- An entry, or one change of the rows that belong together: a wait that ends, with its entry; a thread that ends, with
 -- its entry and its wait; the two ends of a pair; a process, with its number and its empty tables of handles and views; a
@@ -22,9 +22,9 @@ pub data Basic : Type 0 where
   Wakes : ℕ → CallName → Status → List Field → Basic
   -- a thread begins to wait
   Awaits : WaitRow → Basic
-  -- a thread's request or connect to a queue is received, and a thread's connect is accepted with the data of an answer
+  -- a thread's request or connect to a queue is received, and a thread's connect is accepted
   Receives : ℕ → Birth → Basic
-  Accepts : ℕ → List ℕ → Basic
+  Accepts : ℕ → Acceptance → Basic
   -- a thread ends with a status, and its wait with it, which is told
   Dies : ℕ → Status → Basic
   -- a message enters its queue; the oldest message of a queue is taken, or its oldest connection request
@@ -64,14 +64,22 @@ pub data Basic : Type 0 where
   Maps : ℕ → ViewRow → Basic
   Unmaps : ℕ → ℕ → Basic
   DropsViewsOf : ℕ → Basic
+  -- the views that a port owns go, of whatever process they are
+  DropsOwned : Birth → Basic
+  -- a port gets its access list, or what it allows; a thread acts as a client, or with its process's token again
+  Secures : Birth → Security → Basic
+  Acts : ℕ → Option Impersonation → Basic
+  -- a token is made as an object; a token gets a name
+  AddsToken : TokenRow → Basic
+  NamesToken : TokenName → Basic
 
--- a connect, accepted with the data of an answer
-abbrev pub accepted_as : List ℕ → WaitKind → WaitKind
-accepted_as reply (Connect m) = Accepted m reply
-accepted_as reply kind = kind
+-- a connect that is accepted, which offers nothing from then on
+abbrev pub accepted_as : Acceptance → WaitKind → WaitKind
+accepted_as a (Connect m offer) = Accepted m a
+accepted_as a kind = kind
 
-abbrev pub accepted : List ℕ → WaitRow → WaitRow
-accepted reply x = record x { kind = accepted_as reply x.kind }
+abbrev pub accepted : Acceptance → WaitRow → WaitRow
+accepted a x = record x { kind = accepted_as a x.kind }
 
 -- a port with its other end and the context of the connection
 abbrev pub paired : Birth → ℕ → PortRow → PortRow
@@ -117,6 +125,13 @@ registering b t = record t { registrations = t.registrations ++ b ∷ [] }
 abbrev pub unregistering : Birth → ThreadRow → ThreadRow
 unregistering b t = record t { registrations = without (same_birth b) t.registrations }
 
+-- a port with an access list or what it allows; a thread that acts as a client, or as itself
+abbrev pub secured : Security → PortRow → PortRow
+secured s p = record p { security = s }
+
+abbrev pub acting : Option Impersonation → ThreadRow → ThreadRow
+acting own t = record t { own = own }
+
 -- the number of a thread, with its process
 abbrev pub used : ThreadRow → UsedThread
 used t = record { number = t.number; process = t.process }
@@ -140,12 +155,15 @@ no_handles pid = record { process = pid; rows = [] }
 abbrev pub with_view : ViewRow → ViewTable → ViewTable
 with_view v t = record t { rows = t.rows ++ v ∷ [] }
 
--- views without the one at a base, and a process without any
+-- views without the one at a base, a process without any, and views without those that a port owns
 abbrev pub without_view : ℕ → ViewTable → ViewTable
 without_view base t = record t { rows = without (lies_at base) t.rows }
 
 abbrev pub without_views : ViewTable → ViewTable
 without_views t = record t { rows = [] }
+
+abbrev pub without_owned : Birth → ViewTable → ViewTable
+without_owned b t = record t { rows = without (is_owned_by b) t.rows }
 
 -- a new process, without views
 abbrev pub no_views : ℕ → ViewTable
@@ -172,7 +190,7 @@ abbrev pub freed : World → ObjectKind → Birth → World
 freed w kind.Port b = record w { ports = without (is_port b) w.ports }
 freed w kind.Section b =
     record w { sections = without (is_section b) w.sections; contents = in_known (without (is_content b)) w.contents }
-freed w kind.Token b = w
+freed w kind.Token b = record w { tokens = without (is_token b) w.tokens }
 freed w kind.Process b = record w { processes = without (λ p. same_birth p.birth b) w.processes }
 freed w kind.Thread b = record w { threads = without (λ t. same_birth t.birth b) w.threads }
 
@@ -182,7 +200,7 @@ basic w (Tells e) = w
 basic w (Wakes who call status fields) = record w { waits = without (waits_as who) w.waits }
 basic w (Awaits x) = record w { waits = w.waits ++ x ∷ [] }
 basic w (Receives who queue) = record w { waits = change (waits_at who queue) received w.waits }
-basic w (Accepts who reply) = record w { waits = change (waits_as who) (accepted reply) w.waits }
+basic w (Accepts who a) = record w { waits = change (waits_as who) (accepted a) w.waits }
 basic w (Dies who status) =
     record w { threads = change (is_thread who) ended w.threads; waits = without (waits_as who) w.waits }
 basic w (Enters m) = record w { messages = w.messages ++ m ∷ [] }
@@ -219,6 +237,11 @@ basic w (Writes b place new) =
 basic w (Maps pid v) = record w { views = change (is_space pid) (with_view v) w.views }
 basic w (Unmaps pid base) = record w { views = change (is_space pid) (without_view base) w.views }
 basic w (DropsViewsOf pid) = record w { views = change (is_space pid) without_views w.views }
+basic w (DropsOwned b) = record w { views = map (without_owned b) w.views }
+basic w (Secures b s) = record w { ports = change (is_port b) (secured s) w.ports }
+basic w (Acts who own) = record w { threads = change (is_thread who) (acting own) w.threads }
+basic w (AddsToken t) = record w { tokens = w.tokens ++ t ∷ [] }
+basic w (NamesToken n) = record w { token_names = w.token_names ++ n ∷ [] }
 
 -- the entries that a basic step makes
 abbrev pub told : Basic → List Entry

@@ -2,7 +2,7 @@
 -- process is told follows from what its circle does and is told.
 use Rattle.std.specs.Prelude.{◌≡◌, ℕ, ◌==◌, ◌&&◌, ◌||◌, Bool, true, false, not, nat_lt, length, List, [], ◌∷◌, ◌++◌, map, Option, Some, None, Result, Ok, Err, is_none, option_map, if◌then◌else◌}
 use Rattle.std.specs.List.{list_any}
-use Rattle.lpc_base.specs.Rows.{every, first, has, passes, which}
+use Rattle.lpc_base.specs.Rows.{each, every, first, has, passes, which}
 use Rattle.lpc_base.specs.declared.limits.TheConstants.{HEADER_SIZE}
 use Rattle.lpc_base.specs.declared.port_kind.PortKind.TheVariants.{Client}
 use Rattle.lpc_message.specs.Layout.{header_of}
@@ -12,10 +12,10 @@ use Rattle.lpc_names.specs.declared.names.Found.{Found}
 use Rattle.lpc_names.specs.declared.names.Found.TheVariants.{Directory, Item as PortThere}
 use Rattle.lpc_model.specs.declared.entry.Entry.{Entry}
 use Rattle.lpc_model.specs.declared.entry.Entry.TheVariants.{Answer, Busy, Died, Directive, NoThread, Waits, Wakes}
-use Rattle.lpc_model.specs.World.{Birth, PortRow, ProcessRow, ThreadRow, UsedThread, ViewRow, ViewTable, World}
+use Rattle.lpc_model.specs.World.{Birth, Impersonation, PortRow, ProcessRow, ThreadRow, UsedThread, ViewRow, ViewTable, World}
 use Rattle.lpc_model.specs.Found.{is_used_thread, live_thread, same_birth, shows_section, views_of, wait_of, was_process}
-use Rattle.lpc_model.specs.Basics.{Basic, Writes}
-use Rattle.lpc_model.specs.Lines.{ScriptCall, ScriptLine, accept_connect_port, boot, complete_connect_port, connect_port, create_port, dir, link, listen_port, close, duplicate_object, query_object, create_process, create_thread, register_thread_terminate_port, reply_port, reply_wait_receive_port, request_port, request_wait_reply_port, run, terminate_process, terminate_thread, thread, create_section, map_view_of_section, unmap_view_of_section, read_virtual_memory, write_virtual_memory, read_request_data, write_request_data}
+use Rattle.lpc_model.specs.Basics.{Acts, Basic, Writes}
+use Rattle.lpc_model.specs.Lines.{ScriptCall, ScriptLine, accept_connect_port, boot, complete_connect_port, connect_port, create_port, dir, link, listen_port, close, duplicate_object, query_object, create_process, create_thread, register_thread_terminate_port, reply_port, reply_wait_receive_port, request_port, request_wait_reply_port, run, terminate_process, terminate_thread, thread, create_section, map_view_of_section, unmap_view_of_section, read_virtual_memory, write_virtual_memory, read_request_data, write_request_data, token, impersonate_client_of_port, set_information_thread, open_thread_token, open_process_token, query_information_token}
 use Rattle.lpc_model.specs.Linked.{passes_or_none}
 use Rattle.lpc_model.specs.Machine.{step, steps}
 use Rattle.lpc_model.specs.Ranges.{Described, described_test}
@@ -49,10 +49,11 @@ abbrev pub thread_whose : World → ℕ → Whose
 thread_whose w tid = owned (owner w tid)
 
 -- A line of a thread is of its process, by the world before the line. A directive about a process is of that process, one
--- about the name space is everyone's.
+-- about the name space or the name of a token is everyone's.
 abbrev pub line_whose : World → ScriptLine → Whose
-line_whose w (boot pid tid) = Of pid
+line_whose w (boot pid tid name) = Of pid
 line_whose w (thread tid pid) = Of pid
+line_whose w (token name content) = Everyone
 line_whose w (dir path) = Everyone
 line_whose w (link path target) = Everyone
 line_whose w (run tid call) = thread_whose w tid
@@ -68,10 +69,11 @@ entry_whose w directive (Died tid status) = thread_whose w tid
 entry_whose w directive (Directive word status) = directive
 
 -- What happens
--- a line is run, or an entry is told
+-- a line is run, an entry is told, or a thread gets the token as which it acts for its client, with the level
 pub data Item : Type 0 where
   Ran : ScriptLine → Item
   Told : Entry → Item
+  Gave : Impersonation → Item
 
 -- an item, and whose it is
 pub record Event : Type 0 where
@@ -81,11 +83,24 @@ pub record Event : Type 0 where
 abbrev pub told_event : World → Whose → Entry → Event
 told_event w directive e = record { whose = entry_whose w directive e; item = Told e }
 
--- what happens at a line: it is run, and its entries are told, in their order
+-- the tokens that steps give threads which act for their clients
+abbrev pub gave : Basic → List Impersonation
+gave (Acts who (Some own)) = own ∷ []
+gave b = []
+
+abbrev pub given_in : List Basic → List Impersonation
+given_in bs = each gave bs
+
+abbrev pub gave_event : Whose → Impersonation → Event
+gave_event whose own = record { whose = whose; item = Gave own }
+
+-- What happens at a line: it is run, and its entries are told, in their order; and then, where it lets its thread act for a
+-- client, the token that it gives.
 abbrev pub line_events : World → ScriptLine → List Event
 line_events w line =
     record { whose = line_whose w line; item = Ran line }
     ∷ map (told_event (step w line).world (line_whose w line)) (step w line).entries
+    ++ map (gave_event (line_whose w line)) (given_in (steps line w))
 
 -- what happens in a run of lines, from a state on
 abbrev pub events : State → List (Option ScriptLine) → List Event
@@ -110,9 +125,10 @@ is_directive (Busy tid) = false
 is_directive (NoThread tid) = false
 is_directive (Died tid status) = false
 
--- an entry of a thread of the process c
+-- an entry of a thread of the process c, or a token that such a thread gets
 abbrev pub is_told_to : ℕ → Whose → Item → Bool
 is_told_to c (Of pid) (Told e) = (pid == c) && not (is_directive e)
+is_told_to c (Of pid) (Gave own) = pid == c
 is_told_to c (Of pid) (Ran line) = false
 is_told_to c Everyone item = false
 is_told_to c Nobody item = false
@@ -126,8 +142,9 @@ is_input group c event = is_item group event && not (is_told_to c event.whose ev
 abbrev pub item_of : Event → Item
 item_of event = event.item
 
--- The items of a group: the lines of its members' threads, what those threads are told, and each directive about a member
--- or about the name space, with its status; all in order. Nothing tells at which line of the script an item stands.
+-- The items of a group: the lines of its members' threads, what those threads are told, with the tokens that they get of
+-- their clients, and each directive about a member, about the name space or about the name of a token, with its status; all
+-- in order. Nothing tells at which line of the script an item stands.
 abbrev pub items : Group → List Event → List Item
 items group happened = map item_of (which (is_item group) happened)
 
@@ -183,11 +200,11 @@ names_inside group w text = leads_inside group (lookup w.bindings text)
 
 -- a call names no outsider, and no port of one: not by a path, and not by the client of a message; one clause for each call
 abbrev pub is_fine_call : Group → World → ScriptCall → Bool
-is_fine_call group w (create_port None) = true
-is_fine_call group w (create_port (Some name)) = names_inside group w name
-is_fine_call group w (connect_port name info) = names_inside group w name
+is_fine_call group w (create_port None dacl) = true
+is_fine_call group w (create_port (Some name) dacl) = names_inside group w name
+is_fine_call group w (connect_port name quality view info) = names_inside group w name
 is_fine_call group w (listen_port handle) = true
-is_fine_call group w (accept_connect_port context message accept) = names_no_outsider group w message
+is_fine_call group w (accept_connect_port context message accept view) = names_no_outsider group w message
 is_fine_call group w (complete_connect_port handle) = true
 is_fine_call group w (request_port handle message) = names_no_outsider group w message
 is_fine_call group w (request_wait_reply_port handle message) = names_no_outsider group w message
@@ -209,6 +226,11 @@ is_fine_call group w (read_virtual_memory address n) = true
 is_fine_call group w (write_virtual_memory address new) = true
 is_fine_call group w (read_request_data handle message index n) = names_no_outsider group w message
 is_fine_call group w (write_request_data handle message index new) = names_no_outsider group w message
+is_fine_call group w (impersonate_client_of_port handle message) = names_no_outsider group w message
+is_fine_call group w (set_information_thread class) = true
+is_fine_call group w open_thread_token = true
+is_fine_call group w open_process_token = true
+is_fine_call group w (query_information_token handle class) = true
 
 -- The circle: what c may see of sections
 -- the views are an outsider's, and one of them is of the section; a step writes the section
@@ -256,8 +278,9 @@ SeesInner c outer w lines = Along (IsInnerAt c outer) w lines × HasInnerViews c
 -- where a line is a call of c, it is such a call; directives and other processes may name whom they like
 abbrev pub is_fine_line : Group → ℕ → World → ScriptLine → Bool
 is_fine_line group c w (run tid call) = not (passes (owner w tid) (λ p. p == c)) || is_fine_call group w call
-is_fine_line group c w (boot pid tid) = true
+is_fine_line group c w (boot pid tid name) = true
 is_fine_line group c w (thread tid pid) = true
+is_fine_line group c w (token name content) = true
 is_fine_line group c w (dir path) = true
 is_fine_line group c w (link path target) = true
 

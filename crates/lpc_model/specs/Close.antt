@@ -12,24 +12,25 @@ use Rattle.lpc_model.specs.Then.{◌>>=◌}
 use Rattle.lpc_model.specs.World.{Birth, Creator, HandleRow, Message, MessageRow, PortRow, ThreadRow, WaitRow, World}
 use Rattle.lpc_model.specs.Message.{made}
 use Rattle.lpc_model.specs.Found.{handle_count, if_open, is_accepted, is_client_port, is_listen, is_made_on, is_offered, is_receive, is_request, is_the, pair_of, port_row, same_birth, same_kind}
-use Rattle.lpc_model.specs.Basics.{Basic, Cuts, DropsHandle, Empties, Steps, Tells, Unbinds, Withdraws, doing, end_each, provided, ◌▹◌}
+use Rattle.lpc_model.specs.Basics.{Basic, Cuts, DropsHandle, DropsOwned, Empties, Steps, Tells, Unbinds, Withdraws, doing, end_each, provided, ◌▹◌}
 use Rattle.lpc_model.specs.Entering.{end_connect, enter, woken}
 use Rattle.lpc_model.specs.Tests.{own_handle}
 
 -- How waits end
--- a wait for a message ends, and an accepted connect, whose connection request was received
+-- a wait for a message ends, and an accepted connect, whose connection request was received; with a connect the views of
+-- its client port go
 abbrev pub wake : Status → WaitRow → List Basic
 wake status x = woken status [] x ∷ []
 
 abbrev pub end_accepted : WaitRow → List Basic
-end_accepted x = end_connect [] x ∷ []
+end_accepted x = end_connect [] x ∷ DropsOwned x.port ∷ []
 
--- a request ends, and a connect that isn't accepted: its message leaves its queue, where it still stands there
+-- a request ends, and a connect that isn't accepted: its message leaves its queue, where it still stands there.
 abbrev pub end_request : Status → WaitRow → List Basic
 end_request status x = woken status [] x ∷ Withdraws x.thread ∷ []
 
 abbrev pub end_offered : WaitRow → List Basic
-end_offered x = end_connect [] x ∷ Withdraws x.thread ∷ []
+end_offered x = end_connect [] x ∷ Withdraws x.thread ∷ DropsOwned x.port ∷ []
 
 -- Closing a port
 -- 1: its name goes
@@ -109,16 +110,20 @@ closing_post w p = option_and_then (λ queue. option_map (closed_row p queue) p.
 abbrev pub post_closed : Birth → Steps
 post_closed b w = given (port_row w b) (λ p. given (closing_post w p) (λ m. enter m w))
 
--- the six steps, each in the world that the one before it left
+-- 7: the views that it owns go
+abbrev pub drop_owned : Birth → Steps
+drop_owned b = doing (DropsOwned b ∷ [])
+
+-- the seven steps, each in the world that the one before it left
 unfoldable pub close_port : Birth → Steps
-close_port b = drop_name b ▹ end_receives b ▹ end_requests b ▹ empty_queue b ▹ cut_pair b ▹ post_closed b
+close_port b = drop_name b ▹ end_receives b ▹ end_requests b ▹ empty_queue b ▹ cut_pair b ▹ post_closed b ▹ drop_owned b
 
 -- Closing a handle
 -- it is the last one of a port
 abbrev pub is_last : HandleRow → World → Bool
 is_last r w = same_kind r.object.kind kind.Port && (handle_count w r.object == 1)
 
--- A handle goes. The last handle of a port goes behind the six steps, which need the port open.
+-- A handle goes. The last handle of a port goes behind the seven steps, which need the port open.
 abbrev pub close_handle : ℕ → HandleRow → Steps
 close_handle pid r = provided (is_last r) (close_port r.object.birth) ▹ doing (DropsHandle pid r.value ∷ [])
 

@@ -1,5 +1,5 @@
 -- Processes and threads that are made: by a directive, or by a call of a thread.
-use Rattle.std.specs.Prelude.{ℕ, ◌+◌, ◌&&◌, ◌||◌, ◌==◌, nat_le, Bool, true, List, [], ◌∷◌, Option, Some, Result, Ok}
+use Rattle.std.specs.Prelude.{ℕ, ◌+◌, ◌&&◌, ◌||◌, ◌==◌, nat_le, Bool, true, List, [], ◌∷◌, Option, None, Some, Result, Ok}
 use Rattle.lpc_base.specs.Rows.{count, passes}
 use Rattle.lpc_base.specs.declared.limits.TheConstants.{CHILD_LIMIT, THREAD_LIMIT}
 use Rattle.lpc_base.specs.declared.status.Status.{Status}
@@ -8,8 +8,8 @@ use Rattle.lpc_model.specs.declared.entry.CallName.TheVariants.{NtCreateProcess,
 use Rattle.lpc_model.specs.declared.entry.Entry.TheVariants.{Answer}
 use Rattle.lpc_model.specs.Refusal.{refuse_if}
 use Rattle.lpc_model.specs.Then.{◌>>=◌}
-use Rattle.lpc_model.specs.World.{Birth, ObjectName, ProcessRow, ThreadRow, World}
-use Rattle.lpc_model.specs.Found.{free_handle, is_live, live_count, process_name, thread_name, was_process, was_thread}
+use Rattle.lpc_model.specs.World.{Birth, ObjectName, ProcessRow, ThreadRow, Token, World}
+use Rattle.lpc_model.specs.Found.{free_handle, is_live, live_count, process_name, thread_name, token_of, was_process, was_thread}
 use Rattle.lpc_model.specs.Basics.{AddsHandle, AddsProcess, AddsThread, Basic, DrawsOrdinal, Tells, basic}
 use Rattle.lpc_model.specs.Fields.{first_thread, h}
 use Rattle.lpc_model.specs.Lines.{ProcArg}
@@ -18,8 +18,8 @@ use Rattle.lpc_model.specs.Tests.{handle_row, handles_test, live_test, next_birt
 
 -- What is made
 -- a process, and a live thread that has drawn and registered nothing yet
-abbrev pub new_process : ℕ → Option ℕ → Birth → ProcessRow
-new_process pid maker birth = record { number = pid; maker = maker; birth = birth }
+abbrev pub new_process : ℕ → Option ℕ → Birth → Token → ProcessRow
+new_process pid maker birth token = record { number = pid; maker = maker; birth = birth; token = token }
 
 abbrev pub new_thread : ℕ → ℕ → Birth → ThreadRow
 new_thread tid pid birth = record {
@@ -30,6 +30,7 @@ new_thread tid pid birth = record {
   next_identifier = 1;
   next_ordinal = 1;
   registrations = [];
+  own = None;
 }
 
 -- Tests
@@ -71,13 +72,13 @@ gives_life by value object = AddsHandle by.process (handle_row value object LIFE
 abbrev pub second_birth : ThreadRow → Birth
 second_birth by = record (next_birth by) { ordinal = by.next_ordinal + 1 }
 
--- The caller makes the process, then its first thread, and gets a handle to each, in this order.
-abbrev pub create_process_steps : ThreadRow → ℕ → ℕ → ℕ → ℕ → List Basic
-create_process_steps by pid tid value second =
+-- The caller makes the process, with the token of its own, then its first thread, and gets a handle to each, in this order.
+abbrev pub create_process_steps : ThreadRow → Token → ℕ → ℕ → ℕ → ℕ → List Basic
+create_process_steps by token pid tid value second =
     Tells (Answer by.number NtCreateProcess SUCCESS (h value ∷ first_thread second ∷ []))
     ∷ DrawsOrdinal by.number
     ∷ DrawsOrdinal by.number
-    ∷ AddsProcess (new_process pid (Some by.process) (next_birth by))
+    ∷ AddsProcess (new_process pid (Some by.process) (next_birth by) token)
     ∷ AddsThread (new_thread tid pid (second_birth by))
     ∷ gives_life by value (process_name (next_birth by))
     ∷ gives_life by second (thread_name (second_birth by))
@@ -90,7 +91,8 @@ second_handle w by =
 
 -- with the least free handles
 abbrev pub making_process : World → ThreadRow → ℕ → ℕ → List Basic
-making_process w by pid tid = create_process_steps by pid tid (free_handle w by.process) (second_handle w by)
+making_process w by pid tid =
+    create_process_steps by (token_of w by.process) pid tid (free_handle w by.process) (second_handle w by)
 
 -- NtCreateProcess: a number that was ever used, 64 live children, too many handles
 unfoldable pub nt_create_process : World → ThreadRow → ℕ → ℕ → Result (List Basic) Status

@@ -12,8 +12,8 @@ use Rattle.lpc_model.specs.Refusal.{refuse_if}
 use Rattle.lpc_model.specs.Then.{◌>>=◌}
 use Rattle.lpc_model.specs.World.{Birth, Message, MessageRow, ThreadRow, WaitRow, World}
 use Rattle.lpc_model.specs.Message.{made}
-use Rattle.lpc_model.specs.Found.{handles_of, is_accepted, is_live, live_threads, port_row, route, wait_of}
-use Rattle.lpc_model.specs.Basics.{Basic, Dies, DropsViewsOf, Steps, Tells, Unregisters, Withdraws, doing, in_turn, provided, ◌▹◌}
+use Rattle.lpc_model.specs.Found.{handles_of, is_accepted, is_connect, is_live, live_threads, port_row, route, wait_of}
+use Rattle.lpc_model.specs.Basics.{Basic, Dies, DropsOwned, DropsViewsOf, Steps, Tells, Unregisters, Withdraws, doing, in_turn, provided, ◌▹◌}
 use Rattle.lpc_model.specs.Entering.{enter, row_of}
 use Rattle.lpc_model.specs.Targets.{process_target, thread_target}
 use Rattle.lpc_model.specs.Tests.{client_of, live_test}
@@ -21,14 +21,16 @@ use Rattle.lpc_model.specs.Close.{birth_bytes, close_handle, cut_pair}
 use Rattle.lpc_model.specs.Lines.{ProcArg}
 
 -- Ending threads
--- the client port of a connect that was accepted is cut off from its other end
-abbrev pub cut_accepted : Option WaitRow → Steps
-cut_accepted None = doing []
-cut_accepted (Some x) = provided (λ w. is_accepted x) (cut_pair x.port)
+-- the client port of a connect whose thread ends is cut off from its other end, where the connect was accepted, and its
+-- views go
+abbrev pub end_client : Option WaitRow → Steps
+end_client None = doing []
+end_client (Some x) =
+    provided (λ w. is_accepted x) (cut_pair x.port) ▹ provided (λ w. is_connect x) (doing (DropsOwned x.port ∷ []))
 
 -- 1: a thread ends with its wait, by its number; its own message leaves its queue, where it still stands there
 abbrev pub dying : Status → ℕ → Steps
-dying code tid w = (doing (Dies tid code ∷ Withdraws tid ∷ []) ▹ cut_accepted (wait_of w tid)) w
+dying code tid w = (doing (Dies tid code ∷ Withdraws tid ∷ []) ▹ end_client (wait_of w tid)) w
 
 abbrev pub die : Status → ThreadRow → Steps
 die code t = dying code t.number

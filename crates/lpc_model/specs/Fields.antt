@@ -1,10 +1,11 @@
 -- The fields of entries, by what they show.
-use Rattle.std.specs.Prelude.{ℕ, List, [], ◌∷◌}
+use Rattle.std.specs.Prelude.{ℕ, List, [], ◌∷◌, ◌++◌, Option, None, Some}
+use Rattle.lpc_base.specs.declared.limits.TheConstants.{MESSAGE_LIMIT}
 use Rattle.lpc_model.specs.declared.entry.Field.{Field}
 use Rattle.lpc_model.specs.declared.entry.FieldName.TheVariants as name
-use Rattle.lpc_model.specs.declared.entry.Value.TheVariants.{Number, Hex, Kind, Bytes}
+use Rattle.lpc_model.specs.declared.entry.Value.TheVariants.{Number, Hex, Kind, Bytes, Sids}
 use Rattle.lpc_model.specs.Message.{bytes_of}
-use Rattle.lpc_model.specs.World.{Message, MessageRow, ObjectKind}
+use Rattle.lpc_model.specs.World.{Acceptance, Message, MessageRow, ObjectKind, Token}
 
 -- a new handle
 abbrev pub h : ℕ → Field
@@ -34,10 +35,43 @@ info bytes = record { name = name.Info; value = Bytes (record { items = bytes })
 abbrev pub bytes_read : List ℕ → Field
 bytes_read bytes = record { name = name.Data; value = Bytes (record { items = bytes }) }
 
--- the base and the size of a view
+-- the base of a view, and its size
+abbrev pub base : ℕ → Field
+base n = record { name = name.Base; value = Hex n }
+
 abbrev pub view_fields : ℕ → ℕ → List Field
-view_fields base size =
-    record { name = name.Base; value = Hex base } ∷ record { name = name.Size; value = Number size } ∷ []
+view_fields at size = base at ∷ record { name = name.Size; value = Number size } ∷ []
+
+-- the base that the view has, of what a thread offers, in the other process of the connection; and the base and the size
+-- of the view, of what is offered there, in its own
+abbrev pub target : ℕ → Field
+target n = record { name = name.Target; value = Hex n }
+
+abbrev pub vbase : ℕ → Field
+vbase n = record { name = name.ViewBase; value = Hex n }
+
+abbrev pub vsize : ℕ → Field
+vsize n = record { name = name.ViewSize; value = Number n }
+
+-- a field, where there is a value for it
+abbrev pub if_any : (ℕ → Field) → Option ℕ → List Field
+if_any field None = []
+if_any field (Some n) = field n ∷ []
+
+-- what a connect tells that waits: its identifier, and where its own view lies
+abbrev pub connect_fields : ℕ → Option ℕ → List Field
+connect_fields identifier own = id identifier ∷ if_any base own
+
+-- What an accept tells: the handle to the server port; where the server's view lies in its own process and in the
+-- client's; where the client's view lies in the server's process, and its size.
+abbrev pub accept_fields : ℕ → Option ℕ → Option ℕ → Option ℕ → Option ℕ → List Field
+accept_fields value own across theirs size =
+    h value ∷ if_any base own ++ if_any target across ++ if_any vbase theirs ++ if_any vsize size
+
+-- what a connect tells that is completed: the handle to the client port, and what its acceptance has
+abbrev pub completion_fields : ℕ → Acceptance → List Field
+completion_fields value a =
+    h value ∷ max MESSAGE_LIMIT ∷ info a.reply ∷ if_any target a.target ++ if_any vbase a.vbase ++ if_any vsize a.vsize
 
 -- a message, header and data
 abbrev pub msg : Message → Field
@@ -46,6 +80,16 @@ msg m = record { name = name.Msg; value = Bytes (record { items = bytes_of m }) 
 -- what a receive shows of the message that it took
 abbrev pub receipt : MessageRow → List Field
 receipt m = ctx m.context ∷ msg m.message ∷ []
+
+-- the user of a token, its groups, and the level of an impersonation token
+abbrev pub user : Token → Field
+user token = record { name = name.User; value = Sids (record { items = token.user ∷ [] }) }
+
+abbrev pub groups : Token → Field
+groups token = record { name = name.Groups; value = Sids token.groups }
+
+abbrev pub level : ℕ → Field
+level n = record { name = name.Level; value = Number n }
 
 -- what a query tells of an object: its kind, the rights of the handle, how many handles name it, and how many rows
 -- count for it

@@ -1,14 +1,18 @@
 -- What is found in the world: filters and counts of its rows.
 use Rattle.std.specs.Prelude.{ℕ, nat_le, ◌==◌, ◌&&◌, ◌||◌, ◌+◌, ◌++◌, Bool, true, false, not, List, [], length, map, Option, Some, None, is_none, option_and_then, if◌then◌else◌}
 use Rattle.lpc_base.specs.Places.{least_handle}
+use Rattle.lpc_tokens.specs.declared.security.Security.TheVariants.{Guarded}
 use Rattle.lpc_model.specs.declared.entry.ObjectKind.TheVariants as kind
 use Rattle.lpc_base.specs.declared.port_kind.PortKind.TheVariants.{Client, Connection, Server}
 pub use Rattle.lpc_base.specs.Births.{same_birth}
 use Rattle.lpc_base.specs.Rows.{each, first, has, count, passes, when, which}
 use Rattle.lpc_message.specs.declared.kind.TheConstants.{DATAGRAM}
 use Rattle.lpc_message.specs.declared.message.ClientId.{ClientId}
+use Rattle.lpc_sid.specs.WellKnown.{system_token}
+use Rattle.lpc_tokens.specs.Tokens.{effective}
+use Rattle.std.specs.Str.{bytes_eq}
 use Rattle.lpc_model.specs.Message.{asks, is_connection_request}
-use Rattle.lpc_model.specs.World.{World, Birth, ObjectKind, ObjectName, Message, ProcessRow, ThreadRow, HandleRow, HandleTable, PortRow, MessageRow, WaitRow, UsedThread, SectionRow, ContentRow, Contents, Known, Unknown, ViewRow, ViewTable, Accepted, Connect, Listen, Receive, Request}
+use Rattle.lpc_model.specs.World.{World, Birth, ObjectKind, ObjectName, Message, ProcessRow, ThreadRow, HandleRow, HandleTable, PortRow, MessageRow, Offer, WaitRow, UsedThread, SectionRow, ContentRow, Contents, Known, Unknown, ViewRow, ViewTable, Token, TokenRow, TokenName, Effective, Dacl, Security, Accepted, Connect, Listen, Receive, Request}
 
 -- Names
 -- an optional name is this one
@@ -240,6 +244,51 @@ view_holding w pid address n = first (holds_range address n) (views_of w pid)
 abbrev pub shows_section : Birth → ViewRow → Bool
 shows_section b v = same_birth v.section b
 
+-- a port owns the view
+abbrev pub is_owned_by : Birth → ViewRow → Bool
+is_owned_by b v = is_the b v.owner
+
+-- Tokens
+-- the name of a token that is an object
+abbrev pub token_name : Birth → ObjectName
+token_name b = record { kind = kind.Token; birth = b }
+
+-- the token object of a birth, and the row with that birth
+abbrev pub is_token : Birth → TokenRow → Bool
+is_token b t = same_birth t.birth b
+
+abbrev pub token_row : World → Birth → Option TokenRow
+token_row w b = first (is_token b) w.tokens
+
+-- the token that a directive gave a name
+abbrev pub is_called : List ℕ → TokenName → Bool
+is_called name n = bytes_eq n.name name
+
+abbrev pub named_token : World → List ℕ → Option TokenName
+named_token w name = first (is_called name) w.token_names
+
+-- the token of a process; each thread's process has a row while the thread lives
+abbrev pub token_in : Option ProcessRow → Token
+token_in None = system_token
+token_in (Some p) = p.token
+
+abbrev pub token_of : World → ℕ → Token
+token_of w pid = token_in (first (is_process pid) w.processes)
+
+-- the token with which a thread acts: the one as which it acts for a client, else its process's
+abbrev pub acting_token : World → ThreadRow → Effective
+acting_token w t = effective (token_of w t.process) t.own
+
+-- the access list of a port; none grants all
+abbrev pub list_in : Security → Option Dacl
+list_in s = elim s [
+  | Guarded dacl ↦ Some dacl
+  | _ ↦ None
+]
+
+abbrev pub access_list : World → Birth → Option Dacl
+access_list w b = option_and_then (λ p. list_in p.security) (port_row w b)
+
 -- Queues and waits
 -- a message of a queue
 abbrev pub is_queued : Birth → MessageRow → Bool
@@ -289,19 +338,33 @@ waiters_on w q = which (is_waiter_on q) w.waits
 -- a connect that isn't accepted, and one that is
 abbrev pub is_offered : WaitRow → Bool
 is_offered x = elim x.kind [
-  | Connect m ↦ true
+  | Connect m offer ↦ true
   | _ ↦ false
 ]
 
 abbrev pub is_accepted : WaitRow → Bool
 is_accepted x = elim x.kind [
-  | Accepted m reply ↦ true
+  | Accepted m a ↦ true
   | _ ↦ false
 ]
 
 -- a connect, accepted or not
 abbrev pub is_connect : WaitRow → Bool
 is_connect x = is_offered x || is_accepted x
+
+-- what a connect offers that isn't accepted, if it offers anything
+abbrev pub offer_of : WaitRow → Option Offer
+offer_of x = elim x.kind [
+  | Connect m offer ↦ offer
+  | _ ↦ None
+]
+
+-- the section is offered so, and the wait is of a connect that offers it
+abbrev pub is_offer_of : Birth → Offer → Bool
+is_offer_of b o = same_birth o.section b
+
+abbrev pub offers_section : Birth → WaitRow → Bool
+offers_section b x = passes (offer_of x) (is_offer_of b)
 
 -- a connect that is accepted was received
 abbrev pub is_taken : WaitRow → Bool
@@ -391,15 +454,16 @@ abbrev pub is_life : Birth → ThreadRow → Bool
 is_life b t = t.live && same_birth t.birth b
 
 -- How many rows but handles count for an object. A port: ports whose other end it is, those whose connection port it is, queued
--- messages that were sent on it, waits that were made on it, registrations of live threads. A section: views that show it. A
--- process: its live threads. A thread: itself, while it lives.
--- A queue and a name don't count for their port. There are no tokens yet.
+-- messages that were sent on it, waits that were made on it, registrations of live threads, views that it owns. A section:
+-- views that show it, and connects that offer it and aren't accepted. A process: its live threads. A thread: itself,
+-- while it lives.
+-- A queue and a name don't count for their port, and for a token nothing but handles does.
 abbrev pub holders : World → ObjectKind → Birth → ℕ
 holders w kind.Port b =
     count (is_paired_to b) w.ports + (count (is_connected_to b) w.ports
     + (count (is_sent_on b) w.messages + (count (is_made_on b) w.waits
-    + count (same_birth b) (all_registrations w))))
-holders w kind.Section b = count (shows_section b) (all_views w)
+    + (count (same_birth b) (all_registrations w) + count (is_owned_by b) (all_views w)))))
+holders w kind.Section b = count (shows_section b) (all_views w) + count (offers_section b) w.waits
 holders w kind.Token b = 0
 holders w kind.Process b = count (lives_by w b) w.threads
 holders w kind.Thread b = count (is_life b) w.threads
@@ -408,7 +472,7 @@ holders w kind.Thread b = count (is_life b) w.threads
 abbrev pub pointer_count : World → ObjectName → ℕ
 pointer_count w o = handle_count w o + holders w o.kind o.birth
 
--- the objects: a section, a process, a thread and a port are objects
+-- the objects: a token, a section, a process, a thread and a port are objects
 abbrev pub process_name : Birth → ObjectName
 process_name b = record { kind = kind.Process; birth = b }
 
@@ -417,9 +481,10 @@ thread_name b = record { kind = kind.Thread; birth = b }
 
 abbrev pub object_names : World → List ObjectName
 object_names w =
-    map (λ s. section_name s.birth) w.sections ++ (map (λ p. process_name p.birth) w.processes
-    ++ (map (λ t. thread_name t.birth) w.threads ++ map (λ p. port_name p.birth) w.ports))
+    map (λ t. token_name t.birth) w.tokens ++ (map (λ s. section_name s.birth) w.sections
+    ++ (map (λ p. process_name p.birth) w.processes
+    ++ (map (λ t. thread_name t.birth) w.threads ++ map (λ p. port_name p.birth) w.ports)))
 
 -- how many object rows there are
 abbrev pub objects : World → ℕ
-objects w = length w.sections + (length w.processes + length w.threads + length w.ports)
+objects w = length w.tokens + (length w.sections + (length w.processes + length w.threads + length w.ports))

@@ -1,19 +1,30 @@
 -- What a line says, or its first fault. A call or directive stands in its list, and has a case for its words.
-use Rattle.std.specs.Prelude.{ℕ, ◌&&◌, nat_lt, nat_le, not, Bool, true, false, List, [], ◌∷◌, length, find, codes, Option, Some, None, Result, Ok, Err, if◌then◌else◌}
-use Rattle.std.specs.Char.{is_ascii_digit}
+use Rattle.std.specs.Prelude.{ℕ, ◌==◌, ◌||◌, ◌&&◌, nat_lt, nat_le, not, Bool, true, false, List, [], ◌∷◌, length, drop, find, codes, Option, Some, None, Result, Ok, Err, if◌then◌else◌}
+use Rattle.std.specs.Char.{is_ascii_alphanumeric, is_ascii_digit}
 use Rattle.std.specs.List.{list_all}
 use Rattle.std.specs.Option.{ok_or}
 use Rattle.std.specs.Str.{bytes_eq}
 use Rattle.lpc_base.specs.declared.limits.TheConstants.{LINE_LIMIT}
+use Rattle.lpc_sid.specs.Spelling.{sid_of}
+use Rattle.lpc_sid.specs.declared.access.Ace.{Ace}
+use Rattle.lpc_sid.specs.declared.access.Dacl.{Dacl}
+use Rattle.lpc_sid.specs.declared.sid.Sid.{Sid}
+use Rattle.lpc_sid.specs.declared.token.Token.{Token}
+use Rattle.lpc_tokens.specs.declared.level.TheConstants.{DELEGATION, IMPERSONATION}
+use Rattle.lpc_tokens.specs.declared.names.TheConstants.{TOKEN_NAME_LIMIT}
+use Rattle.lpc_tokens.specs.declared.qos.Qos.{Qos}
+use Rattle.lpc_tokens.specs.declared.qos.Tracking.{Tracking}
+use Rattle.lpc_tokens.specs.declared.qos.Tracking.TheVariants.{Dynamic, Static}
 use Rattle.lpc_model.specs.declared.entry.CallName.{CallName}
-use Rattle.lpc_model.specs.declared.entry.CallName.TheVariants.{NtCreatePort, NtConnectPort, NtListenPort, NtAcceptConnectPort, NtCompleteConnectPort, NtRequestPort, NtRequestWaitReplyPort, NtReplyPort, NtReplyWaitReceivePort, NtRegisterThreadTerminatePort, NtClose, NtDuplicateObject, NtQueryObject, NtCreateProcess, NtCreateThread, NtTerminateProcess, NtTerminateThread, NtCreateSection, NtMapViewOfSection, NtUnmapViewOfSection, NtReadVirtualMemory, NtWriteVirtualMemory, NtReadRequestData, NtWriteRequestData}
+use Rattle.lpc_model.specs.declared.entry.CallName.TheVariants.{NtCreatePort, NtConnectPort, NtListenPort, NtAcceptConnectPort, NtCompleteConnectPort, NtRequestPort, NtRequestWaitReplyPort, NtReplyPort, NtReplyWaitReceivePort, NtRegisterThreadTerminatePort, NtClose, NtDuplicateObject, NtQueryObject, NtCreateProcess, NtCreateThread, NtTerminateProcess, NtTerminateThread, NtCreateSection, NtMapViewOfSection, NtUnmapViewOfSection, NtReadVirtualMemory, NtWriteVirtualMemory, NtReadRequestData, NtWriteRequestData, NtImpersonateClientOfPort, NtSetInformationThread, NtOpenThreadToken, NtOpenProcessToken, NtQueryInformationToken}
 use Rattle.lpc_model.specs.declared.entry.Word.{Word}
 use Rattle.lpc_model.specs.declared.entry.Word.TheVariants.{Boot, Thread, Dir, Link}
+use Rattle.lpc_model.specs.declared.entry.Word.TheVariants as word
 use Rattle.lpc_model.specs.declared.line.ProcArg.TheVariants.{By, Current}
 use Rattle.lpc_model.specs.declared.fault.LineFault.{LineFault}
 use Rattle.lpc_model.specs.declared.fault.LineFault.TheVariants as fault
-use Rattle.lpc_model.specs.Lines.{ScriptCall, create_port, connect_port, listen_port, accept_connect_port, complete_connect_port, request_port, request_wait_reply_port, reply_port, reply_wait_receive_port, register_thread_terminate_port, close, duplicate_object, query_object, create_process, create_thread, terminate_process, terminate_thread, create_section, map_view_of_section, unmap_view_of_section, read_virtual_memory, write_virtual_memory, read_request_data, write_request_data, ProcArg, ScriptLine, boot, thread, dir, link, run}
-use Rattle.lpc_model.specs.Words.{fault_if, hex_word, words, begins, number_word, id_word, is_id, message_word, info_word}
+use Rattle.lpc_model.specs.Lines.{ScriptCall, create_port, connect_port, listen_port, accept_connect_port, complete_connect_port, request_port, request_wait_reply_port, reply_port, reply_wait_receive_port, register_thread_terminate_port, close, duplicate_object, query_object, create_process, create_thread, terminate_process, terminate_thread, create_section, map_view_of_section, unmap_view_of_section, read_virtual_memory, write_virtual_memory, read_request_data, write_request_data, impersonate_client_of_port, set_information_thread, open_thread_token, open_process_token, query_information_token, ProcArg, ScriptLine, boot, thread, token, dir, link, run, ViewWord}
+use Rattle.lpc_model.specs.Words.{is_empty, fault_if, hex_word, words, begins, number_word, id_word, is_id, message_word, info_word, parts, three_parts}
 use Rattle.lpc_model.specs.Text.{call_text, word_text}
 use Rattle.lpc_model.specs.Then.{◌>>=◌}
 
@@ -44,6 +55,11 @@ calls =
     ∷ NtWriteVirtualMemory
     ∷ NtReadRequestData
     ∷ NtWriteRequestData
+    ∷ NtImpersonateClientOfPort
+    ∷ NtSetInformationThread
+    ∷ NtOpenThreadToken
+    ∷ NtOpenProcessToken
+    ∷ NtQueryInformationToken
     ∷ []
 
 -- the call whose name a word is
@@ -52,7 +68,7 @@ call_named word = find (λ call. bytes_eq word (call_text call)) calls
 
 -- the directives that a line may name
 abbrev pub directives : List Word
-directives = Boot ∷ Thread ∷ Dir ∷ Link ∷ []
+directives = Boot ∷ Thread ∷ word.Token ∷ Dir ∷ Link ∷ []
 
 -- the directive whose name a word is
 unfoldable pub directive_named : List ℕ → Option Word
@@ -62,12 +78,125 @@ directive_named word = find (λ directive. bytes_eq word (word_text directive)) 
 abbrev pub fixed_word : List ℕ → List ℕ → Result Unit LineFault
 fixed_word text word = fault_if (not (bytes_eq word text)) fault.Word
 
--- a quality of service, and a view; each is `-` alone so far
-abbrev pub qos_word : List ℕ → Result Unit LineFault
-qos_word word = fixed_word (codes "-") word
+-- exactly two parts
+unfoldable pub two_parts : List (List ℕ) → Option (List ℕ × List ℕ)
+two_parts (a ∷ b ∷ []) = Some (a, b)
+two_parts others = None
 
-abbrev pub view_word : List ℕ → Result Unit LineFault
-view_word word = fixed_word (codes "-") word
+-- static or dynamic tracking
+unfoldable pub tracking_word : List ℕ → Result Tracking LineFault
+tracking_word word =
+    if bytes_eq word (codes "s") then Ok Static
+    else (if bytes_eq word (codes "d") then Ok Dynamic
+    else Err fault.Word)
+
+-- an impersonation level: a Number up to 3
+unfoldable pub level_word : List ℕ → Result ℕ LineFault
+level_word word = do
+  level ← number_word word
+  _ ← fault_if (nat_lt DELEGATION level) fault.Number
+  Ok level
+
+-- a level and a tracking, parted by a colon, whose form comes before the number
+unfoldable pub quality_parts : List ℕ → Result Qos LineFault
+quality_parts text = do
+  two ← ok_or (two_parts (parts 58 text)) fault.Word
+  tracking ← tracking_word two.1
+  level ← level_word two.0
+  Ok (record { level = level; tracking = tracking })
+
+-- the quality of service of a connect that asks for none
+abbrev pub default_quality : Qos
+default_quality = record { level = IMPERSONATION; tracking = Dynamic }
+
+-- QOS: `-` for the default, or `q:` and its parts
+unfoldable pub qos_word : List ℕ → Result Qos LineFault
+qos_word word =
+    if bytes_eq word (codes "-") then Ok default_quality
+    else (if begins (codes "q:") word then quality_parts (drop 2 word)
+    else Err fault.Word)
+
+-- SID: the one spelling of a SID
+unfoldable pub sid_word : List ℕ → Result Sid LineFault
+sid_word word = ok_or (sid_of word) fault.Sid
+
+-- words that are each read so, from left to right
+unfoldable pub each_word : {A B : Type 0} → (A → Result B LineFault) → List A → Result (List B) LineFault
+each_word read [] = Ok []
+each_word read (word ∷ others) = do
+  one ← read word
+  rest ← each_word read others
+  Ok (one ∷ rest)
+
+-- an entry of an access list by its form: whether it allows or denies, the text of its mask, and that of its SID
+unfoldable pub entry_kind : List ℕ → Result Bool LineFault
+entry_kind word =
+    if bytes_eq word (codes "A") then Ok true
+    else (if bytes_eq word (codes "D") then Ok false
+    else Err fault.Word)
+
+unfoldable pub entry_form : List ℕ → Result (Bool × List ℕ × List ℕ) LineFault
+entry_form text = do
+  three ← ok_or (three_parts (parts 47 text)) fault.Word
+  allow ← entry_kind three.0
+  Ok (allow, three.1, three.2)
+
+-- the numbers of an entry
+unfoldable pub entry_of : Bool × List ℕ × List ℕ → Result Ace LineFault
+entry_of form = do
+  mask ← number_word form.1
+  sid ← sid_word form.2
+  Ok (record { allow = form.0; mask = mask; sid = sid })
+
+-- the texts of the entries of an access list, parted by commas; an empty text has none
+abbrev pub entry_texts : List ℕ → List (List ℕ)
+entry_texts text = if is_empty text then [] else parts 44 text
+
+-- the entries of an access list, at most 16: the forms of all come first
+unfoldable pub entries_word : List ℕ → Result Dacl LineFault
+entries_word text = do
+  _ ← fault_if (nat_lt 16 (length (entry_texts text))) fault.Word
+  forms ← each_word entry_form (entry_texts text)
+  aces ← each_word entry_of forms
+  Ok (record { list = record { items = aces } })
+
+-- DACL: `acl:` and the entries
+unfoldable pub dacl_word : List ℕ → Result Dacl LineFault
+dacl_word word = if begins (codes "acl:") word then entries_word (drop 4 word) else Err fault.Word
+
+-- an access list, where a word is given for it
+abbrev pub given_dacl : Option (List ℕ) → Result (Option Dacl) LineFault
+given_dacl None = Ok None
+given_dacl (Some word) = do
+  dacl ← dacl_word word
+  Ok (Some dacl)
+
+-- the name of a token: 1 to 32 letters, digits or `_`
+abbrev pub is_name_byte : ℕ → Bool
+is_name_byte b = is_ascii_alphanumeric b || (b == 95)
+
+unfoldable pub token_word : List ℕ → Result (List ℕ) LineFault
+token_word word = do
+  _ ← fault_if (not ((nat_le 1 (length word) && nat_le (length word) TOKEN_NAME_LIMIT) && list_all is_name_byte word)) fault.Word
+  Ok word
+
+-- a view's handle, offset and size, each parted from the next by a colon
+unfoldable pub view_numbers : List ℕ → Result ViewWord LineFault
+view_numbers text = do
+  numbers ← ok_or (three_parts (parts 58 text)) fault.Word
+  handle ← number_word numbers.0
+  offset ← number_word numbers.1
+  size ← number_word numbers.2
+  Ok (record { handle = handle; offset = offset; size = size })
+
+-- VIEW: `-` for none, or `w:` and its numbers
+unfoldable pub view_word : List ℕ → Result (Option ViewWord) LineFault
+view_word word =
+    if bytes_eq word (codes "-") then Ok None
+    else (if begins (codes "w:") word then (do
+      view ← view_numbers (drop 2 word)
+      Ok (Some view))
+    else Err fault.Word)
 
 -- whether a connect is accepted: `accept` or `refuse`
 unfoldable pub accept_word : List ℕ → Result Bool LineFault
@@ -89,11 +218,27 @@ unfoldable pub four_words : List (List ℕ) → Result (List ℕ × List ℕ × 
 four_words (a ∷ b ∷ c ∷ d ∷ []) = Ok (a, b, c, d)
 four_words others = Err fault.Count
 
+-- no word
+unfoldable pub no_words : List (List ℕ) → Result Unit LineFault
+no_words [] = Ok tt
+no_words others = Err fault.Count
+
 -- one word, and perhaps a second
 unfoldable pub one_or_two_words : List (List ℕ) → Result (List ℕ × Option (List ℕ)) LineFault
 one_or_two_words (a ∷ []) = Ok (a, None)
 one_or_two_words (a ∷ b ∷ []) = Ok (a, Some b)
 one_or_two_words others = Err fault.Count
+
+-- two words, and perhaps a third
+unfoldable pub two_or_three_words : List (List ℕ) → Result (List ℕ × List ℕ × Option (List ℕ)) LineFault
+two_or_three_words (a ∷ b ∷ []) = Ok (a, b, None)
+two_or_three_words (a ∷ b ∷ c ∷ []) = Ok (a, b, Some c)
+two_or_three_words others = Err fault.Count
+
+-- two words, and up to 16 more
+unfoldable pub two_and_more_words : List (List ℕ) → Result (List ℕ × List ℕ × List (List ℕ)) LineFault
+two_and_more_words (a ∷ b ∷ others) = if nat_le (length others) 16 then Ok (a, b, others) else Err fault.Count
+two_and_more_words others = Err fault.Count
 
 -- a message, where a word is given for it
 abbrev pub given_message : Option (List ℕ) → Result (Option (List ℕ)) LineFault
@@ -127,6 +272,31 @@ target_word word =
     else (do
       handle ← number_word word
       Ok (By handle))
+
+-- the name of a token, where a word is given for it
+abbrev pub given_token : Option (List ℕ) → Result (Option (List ℕ)) LineFault
+given_token None = Ok None
+given_token (Some word) = do
+  name ← token_word word
+  Ok (Some name)
+
+-- the numbers of a new process and of its first thread, and perhaps the name of a token
+abbrev pub process_and_token : List (List ℕ) → Result (ℕ × ℕ × Option (List ℕ)) LineFault
+process_and_token others = do
+  three ← two_or_three_words others
+  pid ← id_word three.0
+  tid ← id_word three.1
+  name ← given_token three.2
+  Ok (pid, tid, name)
+
+-- the name of a new token, its user, and its groups
+abbrev pub token_words : List (List ℕ) → Result (List ℕ × Token) LineFault
+token_words others = do
+  all ← two_and_more_words others
+  name ← token_word all.0
+  user ← sid_word all.1
+  groups ← each_word sid_word all.2
+  Ok (name, record { user = user; groups = record { items = groups } })
 
 -- the numbers of a new process and of its first thread
 abbrev pub process_and_thread : List (List ℕ) → Result (ℕ × ℕ) LineFault
@@ -216,14 +386,15 @@ range_and_bytes others = do
 -- a call by the words behind its name
 unfoldable pub call_words : CallName → List (List ℕ) → Result ScriptCall LineFault
 call_words NtCreatePort others = do
-  word ← one_word others
-  Ok (create_port (name_word word))
+  two ← one_or_two_words others
+  dacl ← given_dacl two.1
+  Ok (create_port (name_word two.0) dacl)
 call_words NtConnectPort others = do
   four ← four_words others
-  _ ← qos_word four.1
-  _ ← view_word four.2
+  quality ← qos_word four.1
+  view ← view_word four.2
   info ← info_word four.3
-  Ok (connect_port four.0 info)
+  Ok (connect_port four.0 quality view info)
 call_words NtListenPort others = do
   handle ← one_handle others
   Ok (listen_port handle)
@@ -232,8 +403,8 @@ call_words NtAcceptConnectPort others = do
   context ← number_word four.0
   message ← message_word four.1
   accept ← accept_word four.2
-  _ ← view_word four.3
-  Ok (accept_connect_port context message accept)
+  view ← view_word four.3
+  Ok (accept_connect_port context message accept view)
 call_words NtCompleteConnectPort others = do
   handle ← one_handle others
   Ok (complete_connect_port handle)
@@ -296,17 +467,37 @@ call_words NtReadRequestData others = do
 call_words NtWriteRequestData others = do
   new ← range_and_bytes others
   Ok (write_request_data new.0 new.1 new.2 new.3)
+call_words NtImpersonateClientOfPort others = do
+  client ← handle_and_message others
+  Ok (impersonate_client_of_port client.0 client.1)
+call_words NtSetInformationThread others = do
+  two ← two_words others
+  class ← number_word two.0
+  _ ← fixed_word (codes "null") two.1
+  Ok (set_information_thread class)
+call_words NtOpenThreadToken others = do
+  _ ← no_words others
+  Ok open_thread_token
+call_words NtOpenProcessToken others = do
+  _ ← no_words others
+  Ok open_process_token
+call_words NtQueryInformationToken others = do
+  two ← two_numbers others
+  Ok (query_information_token two.0 two.1)
 
 -- a directive by the words behind it; a path may be any word
 unfoldable pub directive_words : Word → List (List ℕ) → Result ScriptLine LineFault
 directive_words Boot others = do
-  made ← process_and_thread others
-  Ok (boot made.0 made.1)
+  made ← process_and_token others
+  Ok (boot made.0 made.1 made.2)
 directive_words Thread others = do
   two ← two_words others
   tid ← id_word two.0
   pid ← id_word two.1
   Ok (thread tid pid)
+directive_words word.Token others = do
+  named ← token_words others
+  Ok (token named.0 named.1)
 directive_words Dir others = do
   path ← one_word others
   Ok (dir path)
@@ -365,8 +556,9 @@ has_call_ids (create_thread target tid) = is_id tid
 has_call_ids call = true
 
 abbrev pub has_ids : ScriptLine → Bool
-has_ids (boot pid tid) = is_id pid && is_id tid
+has_ids (boot pid tid name) = is_id pid && is_id tid
 has_ids (thread tid pid) = is_id tid && is_id pid
+has_ids (token name content) = true
 has_ids (dir path) = true
 has_ids (link path target) = true
 has_ids (run tid call) = is_id tid && has_call_ids call

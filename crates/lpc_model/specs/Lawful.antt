@@ -3,6 +3,7 @@ use Rattle.std.specs.Prelude.{ℕ, ◌≤◌}
 use Rattle.lpc_base.specs.Rows.{count}
 use Rattle.lpc_model.specs.World.{World}
 use Rattle.lpc_model.specs.Found.{is_thread}
+use Rattle.lpc_model.specs.Clients.{HasAllowingClients, HasClientEnds}
 use Rattle.lpc_model.specs.Creators.{KeepsConnects}
 use Rattle.lpc_model.specs.Deaths.{HasLivingRegistrations, HasSingleRegistrations}
 use Rattle.lpc_model.specs.Left.{HasKeptPairs, HasLivingHandles, HasLivingViews}
@@ -11,7 +12,7 @@ use Rattle.lpc_model.specs.Linked.{HasHeldRows, IsLinked}
 use Rattle.lpc_model.specs.Machine.{step}
 use Rattle.lpc_model.specs.OpenQueues.{HasOpenQueues}
 use Rattle.lpc_model.specs.SoundWaits.{IsSoundWorld}
-use Rattle.lpc_model.specs.SoundViews.{HasSoundViews}
+use Rattle.lpc_model.specs.SoundViews.{HasSoundOffers, HasSoundViews}
 use Rattle.lpc_model.specs.Standing.{NamesWhatStands}
 use Rattle.lpc_model.specs.SingleClosings.{HasSingleClosings}
 
@@ -23,7 +24,8 @@ HasThreadsOnce w = (n : ℕ) → count (is_thread n) w.threads ≤ 1
 -- closed port that stays so one message at most tells that it is closed, and of an open one none does, and each client
 -- port keeps the connect in whose name that message is. A thread has one row, an ended one has no registrations, and no
 -- port is registered twice. Only living processes have handles and views, and of the two ports of a connection one at
--- least is open. Views lie in their sections, and apart from each other.
+-- least is open. Views lie in their sections, and apart from each other, and what connects offer may be seen. A client
+-- port allows its server something, and the other end of a server port is a client port.
 pub record IsLawfulWorld (w : World) : Type 0 where
   pub sound : IsSoundWorld w
   pub linked : IsLinked w
@@ -38,7 +40,10 @@ pub record IsLawfulWorld (w : World) : Type 0 where
   pub living : HasLivingHandles w
   pub views : HasLivingViews w
   pub sound_views : HasSoundViews w
+  pub sound_offers : HasSoundOffers w
   pub pairs : HasKeptPairs w
+  pub clients : HasAllowingClients w
+  pub ends : HasClientEnds w
 
 -- the step of each line keeps that
 abbrev pub StepsKeepLaws : Type 0

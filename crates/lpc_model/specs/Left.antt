@@ -13,6 +13,7 @@ pub record IsBare (w : World) : Type 0 where
   pub threads : w.threads ≡ []
   pub ports : w.ports ≡ []
   pub sections : w.sections ≡ []
+  pub tokens : w.tokens ≡ []
   pub messages : w.messages ≡ []
   pub waits : w.waits ≡ []
   pub views : all_views w ≡ []

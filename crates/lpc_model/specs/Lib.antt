@@ -20,6 +20,8 @@ pub mod Creation
 pub mod Death
 pub mod Memory
 pub mod Ranges
+pub mod Offers
+pub mod Impersonation
 pub mod Sweep
 pub mod Machine
 pub mod Text
@@ -44,6 +46,7 @@ pub mod Deaths
 pub mod Left
 pub mod Accounts
 pub mod Creators
+pub mod Clients
 pub mod SingleClosings
 pub mod Lawful
 pub mod Transcript
@@ -54,4 +57,6 @@ pub mod WorkedEndings
 pub mod WorkedCreations
 pub mod WorkedViews
 pub mod WorkedRanges
+pub mod WorkedOffers
 pub mod WorkedNeighbours
+pub mod WorkedTokens

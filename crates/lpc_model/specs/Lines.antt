@@ -1,19 +1,24 @@
 -- What a line of a script says, whatever buffer its messages lie in.
 use Rattle.std.specs.Prelude.{ℕ, Bool, List, Option}
 use Rattle.std.specs.Option.{option_copied}
+use Rattle.lpc_sid.specs.declared.access.Dacl.{Dacl}
+use Rattle.lpc_sid.specs.declared.token.Token.{Token}
+use Rattle.lpc_tokens.specs.declared.qos.Qos.{Qos}
 use Rattle.lpc_model.specs.declared.line.Call.{Call}
 use Rattle.lpc_model.specs.declared.line.Call.TheVariants as call
 use Rattle.lpc_model.specs.declared.line.Line.{Line}
 pub use Rattle.lpc_model.specs.declared.line.ProcArg.{ProcArg}
+pub use Rattle.lpc_model.specs.declared.line.ViewWord.{ViewWord}
 use Rattle.lpc_model.specs.declared.line.Line.TheVariants as line
 
--- a system call with its arguments; a message, a name and what is written are their bytes, and an unnamed port has none; a further
--- handle without rights of its own has those of the handle
+-- A system call with its arguments. A message, a name and what is written are their bytes, and an unnamed port has none. A
+-- port may have an access list; a further handle without rights of its own has those of the handle; a connect or its answer
+-- may offer a view.
 pub data ScriptCall : Type 0 where
-  create_port : Option (List ℕ) → ScriptCall
-  connect_port : List ℕ → List ℕ → ScriptCall
+  create_port : Option (List ℕ) → Option Dacl → ScriptCall
+  connect_port : List ℕ → Qos → Option ViewWord → List ℕ → ScriptCall
   listen_port : ℕ → ScriptCall
-  accept_connect_port : ℕ → List ℕ → Bool → ScriptCall
+  accept_connect_port : ℕ → List ℕ → Bool → Option ViewWord → ScriptCall
   complete_connect_port : ℕ → ScriptCall
   request_port : ℕ → List ℕ → ScriptCall
   request_wait_reply_port : ℕ → List ℕ → ScriptCall
@@ -34,21 +39,27 @@ pub data ScriptCall : Type 0 where
   write_virtual_memory : ℕ → List ℕ → ScriptCall
   read_request_data : ℕ → List ℕ → ℕ → ℕ → ScriptCall
   write_request_data : ℕ → List ℕ → ℕ → List ℕ → ScriptCall
+  impersonate_client_of_port : ℕ → List ℕ → ScriptCall
+  set_information_thread : ℕ → ScriptCall
+  open_thread_token : ScriptCall
+  open_process_token : ScriptCall
+  query_information_token : ℕ → ℕ → ScriptCall
 
--- a directive, or a call of a thread; a path is its bytes
+-- a directive, or a call of a thread; a path and the name of a token are their bytes
 pub data ScriptLine : Type 0 where
-  boot : ℕ → ℕ → ScriptLine
+  boot : ℕ → ℕ → Option (List ℕ) → ScriptLine
   thread : ℕ → ℕ → ScriptLine
+  token : List ℕ → Token → ScriptLine
   dir : List ℕ → ScriptLine
   link : List ℕ → List ℕ → ScriptLine
   run : ℕ → ScriptCall → ScriptLine
 
 -- a call without the bytes that it is lent
 abbrev pub call_of : Call → ScriptCall
-call_of (call.CreatePort name) = create_port (option_copied name)
-call_of (call.ConnectPort name info) = connect_port name.now info.now
+call_of (call.CreatePort name dacl) = create_port (option_copied name) dacl
+call_of (call.ConnectPort name quality view info) = connect_port name.now quality view info.now
 call_of (call.ListenPort handle) = listen_port handle
-call_of (call.AcceptConnectPort context message accept) = accept_connect_port context message.now accept
+call_of (call.AcceptConnectPort context message accept view) = accept_connect_port context message.now accept view
 call_of (call.CompleteConnectPort handle) = complete_connect_port handle
 call_of (call.RequestPort handle message) = request_port handle message.now
 call_of (call.RequestWaitReplyPort handle message) = request_wait_reply_port handle message.now
@@ -69,10 +80,16 @@ call_of (call.ReadVirtualMemory address length) = read_virtual_memory address le
 call_of (call.WriteVirtualMemory address bytes) = write_virtual_memory address bytes.now
 call_of (call.ReadRequestData handle message index length) = read_request_data handle message.now index length
 call_of (call.WriteRequestData handle message index bytes) = write_request_data handle message.now index bytes.now
+call_of (call.ImpersonateClientOfPort handle message) = impersonate_client_of_port handle message.now
+call_of (call.SetInformationThread class) = set_information_thread class
+call_of call.OpenThreadToken = open_thread_token
+call_of call.OpenProcessToken = open_process_token
+call_of (call.QueryInformationToken handle class) = query_information_token handle class
 
 abbrev pub line_of : Line → ScriptLine
-line_of (line.Boot pid tid) = boot pid tid
+line_of (line.Boot pid tid name) = boot pid tid (option_copied name)
 line_of (line.Thread tid pid) = thread tid pid
+line_of (line.Token name content) = token name.now content
 line_of (line.Dir path) = dir path.now
 line_of (line.Link path target) = link path.now target.now
 line_of (line.Run tid c) = run tid (call_of c)

@@ -4,7 +4,7 @@ use Rattle.lpc_base.specs.Rows.{count, every, passes}
 use Rattle.lpc_model.specs.World.{Birth, Node, PortRow, WaitRow, World}
 use Rattle.lpc_names.specs.Walk.{LinkTo, Stands}
 use Rattle.lpc_names.specs.declared.names.Found.TheVariants.{Directory, Item}
-use Rattle.lpc_model.specs.Found.{is_offered, is_port, is_the, pair_of, port_name, port_row, process_name, section_name, thread_name}
+use Rattle.lpc_model.specs.Found.{is_offered, is_port, is_the, pair_of, port_name, port_row, process_name, section_name, thread_name, token_name}
 use Rattle.std.specs.List.{AllByRecursion}
 use Rattle.lpc_model.specs.Sweep.{is_unheld}
 use Rattle.lpc_model.specs.Lines.{ScriptLine}
@@ -68,11 +68,16 @@ pub record AreLivesHeld (w : World) : Type 0 where
 abbrev pub HasHeldSections : World → Type 0
 HasHeldSections w = every (λ s. not (is_unheld w (section_name s.birth))) w.sections ≡ true
 
+-- some row counts for each token object
+abbrev pub HasHeldTokens : World → Type 0
+HasHeldTokens w = every (λ t. not (is_unheld w (token_name t.birth))) w.tokens ≡ true
+
 -- some row counts for each object that stands
 pub record HasHeldRows (w : World) : Type 0 where
   pub ports : HasHeldPorts w
   pub lives : AreLivesHeld w
   pub sections : HasHeldSections w
+  pub tokens : HasHeldTokens w
 
 -- the step of each line keeps ports linked, and leaves no object that no row counts for, where no connect waits on an
 -- open port

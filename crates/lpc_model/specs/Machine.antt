@@ -1,21 +1,24 @@
 -- One line's step: a directive, or a call of a thread that can make one.
-use Rattle.std.specs.Prelude.{ℕ, List, [], ◌∷◌, Option, Some, None, Result, Ok, Err}
+use Rattle.std.specs.Prelude.{ℕ, List, [], ◌∷◌, Option, Some, None, is_some, Result, Ok, Err}
 use Rattle.lpc_base.specs.declared.status.Status.{Status}
-use Rattle.lpc_base.specs.declared.status.TheConstants.{SUCCESS}
+use Rattle.lpc_base.specs.declared.status.TheConstants.{OBJECT_NAME_COLLISION, OBJECT_NAME_NOT_FOUND, SUCCESS}
 use Rattle.lpc_model.specs.declared.entry.Entry.{Entry}
 use Rattle.lpc_model.specs.declared.entry.Entry.TheVariants.{Answer, Busy, Directive, NoThread}
 use Rattle.lpc_model.specs.declared.entry.Word.{Word}
 use Rattle.lpc_model.specs.declared.entry.Word.TheVariants as word
-use Rattle.lpc_model.specs.declared.entry.CallName.TheVariants.{NtAcceptConnectPort, NtCompleteConnectPort, NtConnectPort, NtCreatePort, NtListenPort, NtReplyPort, NtReplyWaitReceivePort, NtRequestPort, NtRequestWaitReplyPort, NtRegisterThreadTerminatePort, NtClose, NtDuplicateObject, NtQueryObject, NtCreateProcess, NtCreateThread, NtTerminateProcess, NtTerminateThread, NtCreateSection, NtMapViewOfSection, NtUnmapViewOfSection, NtReadVirtualMemory, NtWriteVirtualMemory, NtReadRequestData, NtWriteRequestData}
+use Rattle.lpc_model.specs.declared.entry.CallName.TheVariants.{NtAcceptConnectPort, NtCompleteConnectPort, NtConnectPort, NtCreatePort, NtListenPort, NtReplyPort, NtReplyWaitReceivePort, NtRequestPort, NtRequestWaitReplyPort, NtRegisterThreadTerminatePort, NtClose, NtDuplicateObject, NtQueryObject, NtCreateProcess, NtCreateThread, NtTerminateProcess, NtTerminateThread, NtCreateSection, NtMapViewOfSection, NtUnmapViewOfSection, NtReadVirtualMemory, NtWriteVirtualMemory, NtReadRequestData, NtWriteRequestData, NtImpersonateClientOfPort, NtSetInformationThread, NtOpenThreadToken, NtOpenProcessToken, NtQueryInformationToken}
+use Rattle.lpc_sid.specs.WellKnown.{system_token}
+use Rattle.lpc_model.specs.Refusal.{found_or, refuse_if}
 use Rattle.lpc_model.specs.Then.{◌>>=◌}
-use Rattle.lpc_model.specs.World.{World, Birth, CallName, MessageRow, ThreadRow, WaitRow}
-use Rattle.lpc_model.specs.Found.{live_thread, wait_of}
-use Rattle.lpc_model.specs.Basics.{AddsProcess, AddsThread, Basic, Binds, Steps, Tells, entries_of, posts_of, world_after, ◌▹◌}
+use Rattle.lpc_model.specs.World.{World, Birth, CallName, MessageRow, ThreadRow, Token, WaitRow}
+use Rattle.lpc_model.specs.Found.{live_thread, named_token, wait_of}
+use Rattle.lpc_model.specs.Basics.{AddsProcess, AddsThread, Basic, Binds, NamesToken, Steps, Tells, entries_of, posts_of, world_after, ◌▹◌}
 use Rattle.lpc_model.specs.Sweep.{sweep}
 use Rattle.lpc_model.specs.Connect.{nt_accept_connect_port, nt_complete_connect_port, nt_connect_port, nt_create_port, nt_listen_port}
 use Rattle.lpc_model.specs.Close.{nt_close}
 use Rattle.lpc_model.specs.Counts.{nt_duplicate_object, nt_query_object}
 use Rattle.lpc_model.specs.Memory.{nt_create_section, nt_map_view_of_section, nt_read_virtual_memory, nt_unmap_view_of_section, nt_write_virtual_memory}
+use Rattle.lpc_model.specs.Impersonation.{nt_impersonate_client_of_port, nt_open_process_token, nt_open_thread_token, nt_query_information_token, nt_set_information_thread}
 use Rattle.lpc_model.specs.Ranges.{nt_read_request_data, nt_write_request_data}
 use Rattle.lpc_model.specs.Register.{nt_register_thread_terminate_port}
 use Rattle.lpc_model.specs.Death.{nt_terminate_process, nt_terminate_thread}
@@ -26,14 +29,14 @@ use Rattle.lpc_model.specs.Named.{free_name, spelled_name}
 use Rattle.lpc_names.specs.Walk.{LinkTo, Stands}
 use Rattle.lpc_names.specs.declared.names.Found.TheVariants.{Directory}
 use Rattle.lpc_model.specs.Request.{nt_reply_port, nt_reply_wait_receive_port, nt_request_port, nt_request_wait_reply_port}
-use Rattle.lpc_model.specs.Lines.{ScriptCall, create_port, connect_port, listen_port, accept_connect_port, complete_connect_port, request_port, request_wait_reply_port, reply_port, reply_wait_receive_port, register_thread_terminate_port, close, duplicate_object, query_object, create_process, create_thread, terminate_process, terminate_thread, create_section, map_view_of_section, unmap_view_of_section, read_virtual_memory, write_virtual_memory, read_request_data, write_request_data, ScriptLine, boot, thread, dir, link, run}
+use Rattle.lpc_model.specs.Lines.{ScriptCall, create_port, connect_port, listen_port, accept_connect_port, complete_connect_port, request_port, request_wait_reply_port, reply_port, reply_wait_receive_port, register_thread_terminate_port, close, duplicate_object, query_object, create_process, create_thread, terminate_process, terminate_thread, create_section, map_view_of_section, unmap_view_of_section, read_virtual_memory, write_virtual_memory, read_request_data, write_request_data, impersonate_client_of_port, set_information_thread, open_thread_token, open_process_token, query_information_token, ScriptLine, boot, thread, token, dir, link, run}
 
 -- the name of a call
 abbrev pub name_of_call : ScriptCall → CallName
-name_of_call (create_port name) = NtCreatePort
-name_of_call (connect_port name info) = NtConnectPort
+name_of_call (create_port name dacl) = NtCreatePort
+name_of_call (connect_port name quality view info) = NtConnectPort
 name_of_call (listen_port handle) = NtListenPort
-name_of_call (accept_connect_port context message accept) = NtAcceptConnectPort
+name_of_call (accept_connect_port context message accept view) = NtAcceptConnectPort
 name_of_call (complete_connect_port handle) = NtCompleteConnectPort
 name_of_call (request_port handle message) = NtRequestPort
 name_of_call (request_wait_reply_port handle message) = NtRequestWaitReplyPort
@@ -54,13 +57,19 @@ name_of_call (read_virtual_memory address n) = NtReadVirtualMemory
 name_of_call (write_virtual_memory address new) = NtWriteVirtualMemory
 name_of_call (read_request_data handle message index n) = NtReadRequestData
 name_of_call (write_request_data handle message index new) = NtWriteRequestData
+name_of_call (impersonate_client_of_port handle message) = NtImpersonateClientOfPort
+name_of_call (set_information_thread class) = NtSetInformationThread
+name_of_call open_thread_token = NtOpenThreadToken
+name_of_call open_process_token = NtOpenProcessToken
+name_of_call (query_information_token handle class) = NtQueryInformationToken
 
 -- the service that serves a call
 abbrev pub service_of : World → ThreadRow → ScriptCall → Result (List Basic) Status
-service_of w by (create_port name) = nt_create_port w by name
-service_of w by (connect_port name info) = nt_connect_port w by name info
+service_of w by (create_port name dacl) = nt_create_port w by name dacl
+service_of w by (connect_port name quality view info) = nt_connect_port w by name quality view info
 service_of w by (listen_port handle) = nt_listen_port w by handle
-service_of w by (accept_connect_port context message accept) = nt_accept_connect_port w by context message accept
+service_of w by (accept_connect_port context message accept view) =
+    nt_accept_connect_port w by context message accept view
 service_of w by (complete_connect_port handle) = nt_complete_connect_port w by handle
 service_of w by (request_port handle message) = nt_request_port w by handle message
 service_of w by (request_wait_reply_port handle message) = nt_request_wait_reply_port w by handle message
@@ -81,6 +90,11 @@ service_of w by (read_virtual_memory address n) = nt_read_virtual_memory w by ad
 service_of w by (write_virtual_memory address new) = nt_write_virtual_memory w by address new
 service_of w by (read_request_data handle message index n) = nt_read_request_data w by handle message index n
 service_of w by (write_request_data handle message index new) = nt_write_request_data w by handle message index new
+service_of w by (impersonate_client_of_port handle message) = nt_impersonate_client_of_port w by handle message
+service_of w by (set_information_thread class) = nt_set_information_thread w by class
+service_of w by open_thread_token = nt_open_thread_token w by
+service_of w by open_process_token = nt_open_process_token w by
+service_of w by (query_information_token handle class) = nt_query_information_token w by handle class
 
 -- a refusal is one answer, and changes nothing
 abbrev pub settled : ThreadRow → CallName → Result (List Basic) Status → List Basic
@@ -111,11 +125,32 @@ directed word (Err s) = Tells (Directive word s) ∷ []
 abbrev pub directive_birth : ℕ → ℕ → Birth
 directive_birth n pid = record { maker = 0; ordinal = n; process = pid }
 
--- `boot`: a number that was ever used
-unfoldable pub boot_line : World → ℕ → ℕ → Result (List Basic) Status
-boot_line w pid tid = do
+-- the token that a `boot` names, and where it names none the local system's
+abbrev pub boot_token : World → Option (List ℕ) → Result Token Status
+boot_token w None = Ok system_token
+boot_token w (Some name) = do
+  named ← found_or (named_token w name) OBJECT_NAME_NOT_FOUND
+  Ok named.token
+
+-- a process and its thread are made by a directive
+abbrev pub boot_steps : ℕ → ℕ → Token → List Basic
+boot_steps pid tid content =
+    AddsProcess (new_process pid None (directive_birth pid pid) content)
+    ∷ AddsThread (new_thread tid pid (directive_birth tid pid))
+    ∷ []
+
+-- `boot`: no token of that name, a number that was ever used
+unfoldable pub boot_line : World → ℕ → ℕ → Option (List ℕ) → Result (List Basic) Status
+boot_line w pid tid name = do
+  content ← boot_token w name
   _ ← unused_test w pid tid
-  Ok (AddsProcess (new_process pid None (directive_birth pid pid)) ∷ AddsThread (new_thread tid pid (directive_birth tid pid)) ∷ [])
+  Ok (boot_steps pid tid content)
+
+-- `token`: a name that a token has
+unfoldable pub token_line : World → List ℕ → Token → Result (List Basic) Status
+token_line w name content = do
+  _ ← refuse_if (is_some (named_token w name)) OBJECT_NAME_COLLISION
+  Ok (NamesToken (record { name = name; token = content }) ∷ [])
 
 -- `thread`: no such process, a thread number that was ever used, 64 live threads
 unfoldable pub thread_line : World → ℕ → ℕ → Result (List Basic) Status
@@ -139,8 +174,9 @@ link_line w text target = do
 -- Lines
 -- what a line does in a world, before rows go
 unfoldable pub bare_steps : ScriptLine → Steps
-bare_steps (boot pid tid) w = directed word.Boot (boot_line w pid tid)
+bare_steps (boot pid tid name) w = directed word.Boot (boot_line w pid tid name)
 bare_steps (thread tid pid) w = directed word.Thread (thread_line w tid pid)
+bare_steps (token name content) w = directed word.Token (token_line w name content)
 bare_steps (dir path) w = directed word.Dir (dir_line w path)
 bare_steps (link path target) w = directed word.Link (link_line w path target)
 bare_steps (run tid call) w = thread_steps tid call (live_thread w tid) w

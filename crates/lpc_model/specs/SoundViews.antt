@@ -1,11 +1,12 @@
 -- Sound views: each shows a part of a section that stands, and lies apart from the others of its process.
-use Rattle.std.specs.Prelude.{◌≡◌, ℕ, ◌≤◌, ◌+◌, ◌%◌, ◌==◌, ◌&&◌, ◌||◌, Bool, true, not, nat_le, List, [], ◌∷◌, length, map, Option, None, Some}
+use Rattle.std.specs.Prelude.{◌≡◌, ℕ, ◌≤◌, ◌+◌, ◌%◌, ◌==◌, ◌&&◌, ◌||◌, Bool, true, not, nat_le, nat_lt, List, [], ◌∷◌, length, map, Option, None, Some}
 use Rattle.std.specs.List.{AllByRecursion}
 use Rattle.lpc_base.specs.Rows.{every, passes}
 use Rattle.lpc_base.specs.Views.{meets}
 use Rattle.lpc_base.specs.declared.limits.TheConstants.{ALLOCATION_GRANULARITY, LOWEST_USER_ADDRESS, PAGE_SIZE, SECTION_LIMIT, USER_ADDRESS_END, VIEW_LIMIT}
-use Rattle.lpc_model.specs.World.{Birth, ContentRow, Contents, Known, SectionRow, Unknown, ViewRow, World}
-use Rattle.lpc_model.specs.Found.{section_row, views_of}
+use Rattle.lpc_model.specs.World.{Birth, ContentRow, Contents, Known, Offer, SectionRow, Unknown, ViewRow, WaitRow, World}
+use Rattle.lpc_model.specs.Found.{offer_of, section_row, views_of}
+use Rattle.lpc_model.specs.Linked.{passes_or_none}
 use Rattle.lpc_model.specs.Lines.{ScriptLine}
 use Rattle.lpc_model.specs.Machine.{step}
 use Rattle.lpc_model.specs.Run.{run_of}
@@ -57,6 +58,16 @@ pub record AreSoundViews (w : World) (vs : List ViewRow) : Type 0 where
   pub apart : are_apart vs ≡ true
   pub few : length vs ≤ VIEW_LIMIT
 
+-- what a connect offers is some bytes, no more than a section has that stands, and may be written
+abbrev pub offers_part : Offer → SectionRow → Bool
+offers_part o s = nat_lt 0 o.size && (nat_le (o.offset + o.size) s.size && s.writable)
+
+abbrev pub is_sound_offer : World → WaitRow → Bool
+is_sound_offer w x = passes_or_none (offer_of x) (λ o. passes (section_row w o.section) (offers_part o))
+
+abbrev pub HasSoundOffers : World → Type 0
+HasSoundOffers w = every (is_sound_offer w) w.waits ≡ true
+
 -- Of each section as many bytes stand as its size says. A process that has a table of handles has one of views, and its
 -- views are sound.
 pub record HasSoundViews (w : World) : Type 0 where
@@ -65,11 +76,20 @@ pub record HasSoundViews (w : World) : Type 0 where
   pub tables : map (λ t. t.process) w.views ≡ map (λ t. t.process) w.handles
   pub views : (pid : ℕ) → AreSoundViews w (views_of w pid)
 
--- the step of each line keeps that in a sound world, where no connect waits on an open port
+-- the step of each line keeps both in a sound world, where no connect waits on an open port
 abbrev pub StepsKeepViews : Type 0
 StepsKeepViews =
-    (w : World) (line : ScriptLine) → IsSoundWorld w → HasShutConnects w → HasSoundViews w → HasSoundViews (step w line).world
+    (w : World) (line : ScriptLine) → IsSoundWorld w → HasShutConnects w → HasSoundOffers w → HasSoundViews w →
+    HasSoundViews (step w line).world
+
+abbrev pub StepsKeepOffers : Type 0
+StepsKeepOffers =
+    (w : World) (line : ScriptLine) → IsSoundWorld w → HasShutConnects w → HasSoundViews w → HasSoundOffers w →
+    HasSoundOffers (step w line).world
 
 -- so behind each line of a script
 abbrev pub RunKeepsViews : List ℕ → Type 0
 RunKeepsViews bytes = AllByRecursion (λ s. HasSoundViews s.world) (run_of bytes)
+
+abbrev pub RunKeepsOffers : List ℕ → Type 0
+RunKeepsOffers bytes = AllByRecursion (λ s. HasSoundOffers s.world) (run_of bytes)

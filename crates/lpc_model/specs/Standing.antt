@@ -4,11 +4,12 @@ use Rattle.std.specs.List.{AllByRecursion}
 use Rattle.lpc_base.specs.Rows.{every, has, passes}
 use Rattle.lpc_model.specs.declared.entry.ObjectKind.TheVariants as kind
 use Rattle.lpc_model.specs.World.{Birth, HandleRow, ObjectKind, PortRow, ViewRow, WaitRow, World}
-use Rattle.lpc_model.specs.Found.{all_registrations, is_born_process, is_born_thread, is_connected_to, is_paired_to, is_port, is_request, is_section, port_row}
+use Rattle.lpc_model.specs.Found.{all_registrations, is_born_process, is_born_thread, is_connected_to, is_paired_to, is_port, is_request, is_section, is_token, port_row}
 use Rattle.lpc_model.specs.Lines.{ScriptLine}
 use Rattle.lpc_model.specs.Machine.{step}
 use Rattle.lpc_model.specs.Run.{run_of}
-use Rattle.lpc_model.specs.Linked.{IsLinked}
+use Rattle.lpc_model.specs.Linked.{IsLinked, passes_or_none}
+use Rattle.lpc_model.specs.SoundViews.{HasSoundOffers}
 use Rattle.lpc_model.specs.SoundWaits.{HasShutConnects, IsSoundWorld}
 
 -- the port of a birth stands
@@ -19,11 +20,15 @@ port_stands w b = has (is_port b) w.ports
 abbrev pub section_stands : World → Birth → Bool
 section_stands w b = has (is_section b) w.sections
 
--- the object of a name stands: a port, a section, a process or a thread; there are no tokens yet
+-- the token object of a birth stands
+abbrev pub token_stands : World → Birth → Bool
+token_stands w b = has (is_token b) w.tokens
+
+-- the object of a name stands
 abbrev pub stands_as : World → ObjectKind → Birth → Bool
 stands_as w kind.Port b = port_stands w b
 stands_as w kind.Section b = section_stands w b
-stands_as w kind.Token b = false
+stands_as w kind.Token b = token_stands w b
 stands_as w kind.Process b = has (is_born_process b) w.processes
 stands_as w kind.Thread b = has (is_born_thread b) w.threads
 
@@ -38,12 +43,13 @@ is_near x p = is_port x.queue p || (is_connected_to x.queue p || (is_request x &
 abbrev pub has_near_queue : World → WaitRow → Bool
 has_near_queue w x = passes (port_row w x.port) (is_near x)
 
--- the section that a view shows stands
+-- the section that a view shows stands, and the port that owns it, where one does
 abbrev pub shows_standing : World → ViewRow → Bool
-shows_standing w v = section_stands w v.section
+shows_standing w v = section_stands w v.section && passes_or_none v.owner (port_stands w)
 
 -- each handle names an object that stands; each queued message was sent on a port that stands, each wait was made on
--- one, near its queue, and live threads registered such ports; each view shows a section that stands
+-- one, near its queue, and live threads registered such ports; each view shows a section that stands, and is owned by no
+-- port or by one that stands
 pub record NamesWhatStands (w : World) : Type 0 where
   pub handles : every (λ t. every (names_object w) t.rows) w.handles ≡ true
   pub senders : every (λ m. has (is_port m.sender) w.ports) w.messages ≡ true
@@ -51,10 +57,11 @@ pub record NamesWhatStands (w : World) : Type 0 where
   pub registrations : every (port_stands w) (all_registrations w) ≡ true
   pub views : every (λ t. every (shows_standing w) t.rows) w.views ≡ true
 
--- the step of each line keeps that in a sound world whose ports are linked, and where no connect waits on an open port
+-- the step of each line keeps that in a sound world whose ports are linked, where no connect waits on an open port, and
+-- what connects offer may be seen
 abbrev pub StepsNameWhatStands : Type 0
 StepsNameWhatStands =
-    (w : World) (line : ScriptLine) → IsSoundWorld w → HasShutConnects w → IsLinked w → NamesWhatStands w →
+    (w : World) (line : ScriptLine) → IsSoundWorld w → HasShutConnects w → IsLinked w → HasSoundOffers w → NamesWhatStands w →
     NamesWhatStands (step w line).world
 
 -- in the world that each line of a script leaves, what rows name stands

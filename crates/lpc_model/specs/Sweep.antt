@@ -3,7 +3,7 @@ use Rattle.std.specs.Prelude.{Bool, true, false, List, [], ◌∷◌, map, ◌==
 use Rattle.lpc_base.specs.Rows.{which}
 use Rattle.lpc_model.specs.World.{ObjectName, World}
 use Rattle.lpc_model.specs.Found.{object_names, pointer_count}
-use Rattle.lpc_model.specs.Basics.{Basic, Cuts, Dies, DropsHandle, DropsViewsOf, Empties, Frees, Joins, Steps, Takes, TakesConnect, Unmaps, Unregisters, Wakes, Withdraws, ◌▹◌}
+use Rattle.lpc_model.specs.Basics.{Accepts, Basic, Cuts, Dies, DropsHandle, DropsOwned, DropsViewsOf, Empties, Frees, Joins, Steps, Takes, TakesConnect, Unmaps, Unregisters, Wakes, Withdraws, ◌▹◌}
 
 -- no row counts for the object
 abbrev pub is_unheld : World → ObjectName → Bool
@@ -21,11 +21,12 @@ free_unheld w = map Frees (unheld w)
 unfoldable pub sweep : Steps
 sweep = free_unheld ▹ free_unheld
 
--- a step takes a row away that may count for an object, or what in it counts: a join takes the other end that a port
--- had
+-- a step takes a row away that may count for an object, or what in it counts: an accept takes what the connect offered,
+-- a join the other end that a port had
 abbrev pub loosens : Basic → Bool
 loosens (Wakes who call status fields) = true
 loosens (Dies who status) = true
+loosens (Accepts who a) = true
 loosens (Takes q) = true
 loosens (TakesConnect q) = true
 loosens (Withdraws who) = true
@@ -37,6 +38,7 @@ loosens (Frees o) = true
 loosens (DropsHandle pid value) = true
 loosens (Unmaps pid base) = true
 loosens (DropsViewsOf pid) = true
+loosens (DropsOwned b) = true
 loosens b = false
 
 -- one of the steps does, or one before them did

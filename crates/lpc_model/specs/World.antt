@@ -2,6 +2,12 @@
 use Rattle.std.specs.Prelude.{ℕ, Bool, List, [], Option}
 pub use Rattle.lpc_base.specs.declared.birth.Birth.{Birth}
 use Rattle.lpc_message.specs.declared.message.ClientId.{ClientId}
+pub use Rattle.lpc_sid.specs.declared.access.Dacl.{Dacl}
+pub use Rattle.lpc_sid.specs.declared.token.Token.{Token}
+pub use Rattle.lpc_tokens.specs.declared.effective.Effective.{Effective}
+pub use Rattle.lpc_tokens.specs.declared.effective.Impersonation.{Impersonation}
+pub use Rattle.lpc_tokens.specs.declared.qos.Qos.{Qos}
+pub use Rattle.lpc_tokens.specs.declared.security.Security.{Security}
 pub use Rattle.lpc_base.specs.declared.port_kind.PortKind.{PortKind}
 pub use Rattle.lpc_names.specs.Walk.{Bindings, Node, Path}
 pub use Rattle.lpc_model.specs.declared.entry.CallName.{CallName}
@@ -13,14 +19,17 @@ pub record ObjectName : Type 0 where
   pub kind : ObjectKind
   pub birth : Birth
 
--- a process, with the process that made it, none where a directive did; it is live where it has a live thread
+-- a process, with the process that made it, none where a directive did, and with its token; it is live where it has a
+-- live thread
 pub record ProcessRow : Type 0 where
   pub number : ℕ
   pub maker : Option ℕ
   pub birth : Birth
+  pub token : Token
 
 -- a thread of a process; whether it is live, or has ended; the message identifier that it draws next and the ordinal of
--- what it makes next, both from 1; the ports that are to be told of its end, in the order in which it registered them
+-- what it makes next, both from 1; the ports that are to be told of its end, in the order in which it registered them; the
+-- token as which it acts for a client, none where it acts with that of its process
 pub record ThreadRow : Type 0 where
   pub number : ℕ
   pub process : ℕ
@@ -29,6 +38,7 @@ pub record ThreadRow : Type 0 where
   pub next_identifier : ℕ
   pub next_ordinal : ℕ
   pub registrations : List Birth
+  pub own : Option Impersonation
 
 -- a thread number that was used, with the process of that thread
 pub record UsedThread : Type 0 where
@@ -53,7 +63,7 @@ pub record Creator : Type 0 where
 
 -- a port; the connection port of a client or server port; the other end of a connection, none where it was never made
 -- or is cut; what the server gave the connection when it accepted it; whether the connection was completed; the connect
--- that made a client port
+-- that made a client port; its access list, or what it allows
 pub record PortRow : Type 0 where
   pub birth : Birth
   pub kind : PortKind
@@ -62,6 +72,18 @@ pub record PortRow : Type 0 where
   pub context : ℕ
   pub completed : Bool
   pub creator : Option Creator
+  pub security : Security
+
+-- a token as an object: its content, and the level of an impersonation token, none where it is a process's
+pub record TokenRow : Type 0 where
+  pub birth : Birth
+  pub token : Token
+  pub level : Option ℕ
+
+-- a token that a directive named, for processes that are yet to come
+pub record TokenName : Type 0 where
+  pub name : List ℕ
+  pub token : Token
 
 -- a message that stands in the queue of a port, the port on which it was sent, and the context that a receive shows
 pub record MessageRow : Type 0 where
@@ -70,15 +92,29 @@ pub record MessageRow : Type 0 where
   pub context : ℕ
   pub message : Message
 
+-- what a connect or its answer offers to be seen: a section, from an offset on, and so many bytes of it
+pub record Offer : Type 0 where
+  pub section : Birth
+  pub offset : ℕ
+  pub size : ℕ
+
+-- What the completion of an accepted connect tells: the bytes of the answer; where the client's view lies in the server,
+-- if one was offered; and where the server's view lies in the client, if one was offered, and its size.
+pub record Acceptance : Type 0 where
+  pub reply : List ℕ
+  pub target : Option ℕ
+  pub vbase : Option ℕ
+  pub vsize : Option ℕ
+
 -- What a thread waits for: the reply to its request, which is kept as it was sent; a message; a connection request; the
--- answer to its connect, whose connection request is kept too; and, once that was accepted with some data, its
--- completion, with those data.
+-- answer to its connect, whose connection request is kept too, with what it offers; and, once that was accepted, its
+-- completion, with what that tells.
 pub data WaitKind : Type 0 where
   Request : Message → WaitKind
   Receive : WaitKind
   Listen : WaitKind
-  Connect : Message → WaitKind
-  Accepted : Message → List ℕ → WaitKind
+  Connect : Message → Option Offer → WaitKind
+  Accepted : Message → Acceptance → WaitKind
 
 -- The wait of a thread, which has one at most: its call; the port on which the call was made, for a connect the client
 -- port that it made; the queue that the request entered or on which a receive or listen waits; the identifier of the
@@ -129,7 +165,7 @@ pub record ViewTable : Type 0 where
 -- Handles and views stand by process in order of making; in each process handles are by value, views in order of mapping.
 -- Every other list is in order of making. A number that was used is never removed from the used ones, nor a process's
 -- table of handles or of views. The name space binds paths to directories, to links, and to ports by their births. The
--- bytes of sections stand apart from their rows.
+-- bytes of sections stand apart from their rows. The name of a token never goes.
 pub record World : Type 0 where
   pub processes : List ProcessRow
   pub threads : List ThreadRow
@@ -143,6 +179,8 @@ pub record World : Type 0 where
   pub sections : List SectionRow
   pub contents : Contents
   pub views : List ViewTable
+  pub tokens : List TokenRow
+  pub token_names : List TokenName
 
 -- the world before the first line
 abbrev pub no_rows : World
@@ -159,4 +197,6 @@ no_rows = record {
   sections = [];
   contents = Known [];
   views = [];
+  tokens = [];
+  token_names = [];
 }

@@ -9,6 +9,7 @@ ghost use Rattle.lpc_model.specs.Text.{call_text, word_text};
 use arrayvec::ArrayVec;
 use lpc_base::limits::MEMORY_LIMIT;
 use lpc_base::{OutOfMemory, Status, reserve_rows, status};
+use lpc_sid::Sid;
 use std::alloc::Global;
 use std::marker::Model;
 
@@ -39,11 +40,16 @@ pub enum CallName {
     NtWriteVirtualMemory,
     NtReadRequestData,
     NtWriteRequestData,
+    NtImpersonateClientOfPort,
+    NtSetInformationThread,
+    NtOpenThreadToken,
+    NtOpenProcessToken,
+    NtQueryInformationToken,
 }
 
 impl CallName {
     /// Each call, in the order in which the grammar lists them.
-    pub const ALL: [CallName; 24] = [
+    pub const ALL: [CallName; 29] = [
         CallName::NtCreatePort,
         CallName::NtConnectPort,
         CallName::NtListenPort,
@@ -68,6 +74,11 @@ impl CallName {
         CallName::NtWriteVirtualMemory,
         CallName::NtReadRequestData,
         CallName::NtWriteRequestData,
+        CallName::NtImpersonateClientOfPort,
+        CallName::NtSetInformationThread,
+        CallName::NtOpenThreadToken,
+        CallName::NtOpenProcessToken,
+        CallName::NtQueryInformationToken,
     ];
 
     /// The name of the call, as scripts and transcripts spell it.
@@ -99,6 +110,11 @@ impl CallName {
             CallName::NtWriteVirtualMemory => b"NtWriteVirtualMemory",
             CallName::NtReadRequestData => b"NtReadRequestData",
             CallName::NtWriteRequestData => b"NtWriteRequestData",
+            CallName::NtImpersonateClientOfPort => b"NtImpersonateClientOfPort",
+            CallName::NtSetInformationThread => b"NtSetInformationThread",
+            CallName::NtOpenThreadToken => b"NtOpenThreadToken",
+            CallName::NtOpenProcessToken => b"NtOpenProcessToken",
+            CallName::NtQueryInformationToken => b"NtQueryInformationToken",
         }
     }
 }
@@ -108,13 +124,14 @@ impl CallName {
 pub enum Word {
     Boot,
     Thread,
+    Token,
     Dir,
     Link,
 }
 
 impl Word {
     /// Each directive, in the order in which the grammar lists them.
-    pub const ALL: [Word; 4] = [Word::Boot, Word::Thread, Word::Dir, Word::Link];
+    pub const ALL: [Word; 5] = [Word::Boot, Word::Thread, Word::Token, Word::Dir, Word::Link];
 
     /// The word of the directive, as scripts and transcripts spell it.
     pub fn name(self) -> &'static [u8]
@@ -123,13 +140,14 @@ impl Word {
         match self {
             Word::Boot => b"boot",
             Word::Thread => b"thread",
+            Word::Token => b"token",
             Word::Dir => b"dir",
             Word::Link => b"link",
         }
     }
 }
 
-/// The kinds of object. No line makes a token so far.
+/// The kinds of object.
 #[derive(Clone, Copy, PartialEq, Eq)]
 pub enum ObjectKind {
     Port,
@@ -181,6 +199,18 @@ pub enum FieldName {
     Base,
     /// The size of a view.
     Size,
+    /// The base, in the other process of a connection, of a view that was offered there.
+    Target,
+    /// The base of a view that the other process of a connection offered.
+    ViewBase,
+    /// The size of that view.
+    ViewSize,
+    /// The user of a token.
+    User,
+    /// The groups of a token.
+    Groups,
+    /// The level of an impersonation token.
+    Level,
 }
 
 /// The value of a field.
@@ -196,6 +226,8 @@ pub enum Value {
     Bytes(ArrayVec<u8, 256>),
     /// The bytes of a memory read, which lie in the list of entries; printed as those bytes.
     Read,
+    /// SIDs, printed as their text, parted by commas.
+    Sids(ArrayVec<Sid, 16>),
 }
 
 /// A field of an entry.

@@ -6,6 +6,7 @@ ghost use Rattle.lpc_model.specs.Linked.{IsLinked, RunHoldsRows, StepsHoldRows};
 ghost use Rattle.lpc_model.specs.Standing.{NamesWhatStands, RunNamesWhatStands, StepsNameWhatStands};
 ghost use Rattle.lpc_model.specs.OpenQueues.{HasOpenQueues, RunKeepsQueuesOpen, StepsKeepQueuesOpen};
 ghost use Rattle.lpc_model.specs.Closings.{RunTellsClosings};
+ghost use Rattle.lpc_model.specs.Clients.{RefusesUnservedAlone, RunHasAllowingClients, RunHasClientEnds, RunRefusesUnservedAlone};
 ghost use Rattle.lpc_model.specs.Creators.{RunKeepsConnects};
 ghost use Rattle.lpc_model.specs.Deaths.{RunHasLivingRegistrations, RunHasSingleRegistrations, RunTellsDeaths};
 ghost use Rattle.lpc_model.specs.Lawful.{IsLawfulWorld, StepsKeepLaws};
@@ -16,7 +17,7 @@ ghost use Rattle.lpc_model.specs.Limits.{LimitsChildren, LimitsDatagrams, Limits
 ghost use Rattle.lpc_model.specs.Connected.{ConnectedPortsReachEachOther};
 ghost use Rattle.lpc_model.specs.Queues.{FirstWaiterTakes, QueuesAreFirstInFirstOut};
 ghost use Rattle.lpc_model.specs.Run.{first_state};
-ghost use Rattle.lpc_model.specs.SoundViews.{HasSoundViews, RunKeepsViews, StepsKeepViews};
+ghost use Rattle.lpc_model.specs.SoundViews.{HasSoundOffers, HasSoundViews, RunKeepsOffers, RunKeepsViews, StepsKeepOffers, StepsKeepViews};
 ghost use Rattle.lpc_model.specs.SoundWaits.{HasSoundWaits, IsSoundWorld, RefusesCutPairsAlone, RunRefusesCutPairsAlone, RunStaysSound, StepsStaySound};
 
 /// In every script each waiting thread waits for what can still come, and hasn't come.
@@ -42,6 +43,19 @@ pub fn law_completion_refuses_cut_pairs()
     ensures runs { (script : List ℕ) → RunRefusesCutPairsAlone script }
 {}
 
+/// In every script an impersonation is refused as a mismatch only where it names no request.
+///
+/// Where NtImpersonateClientOfPort answers C000021F, its handle leads to a server port, its message
+/// is read, and no received request of the port's other end is found that the message names. For the
+/// other end of a server port is a client port, and each client port allows its server something,
+/// behind each line. So a request that is found is allowed something.
+pub fn law_impersonation_refuses_unserved()
+    ensures alone { (w : World) → IsLawfulWorld w → RefusesUnservedAlone w }
+    ensures runs { (script : List ℕ) → RunRefusesUnservedAlone script }
+    ensures clients { (script : List ℕ) → RunHasAllowingClients script }
+    ensures ends { (script : List ℕ) → RunHasClientEnds script }
+{}
+
 /// In every script some row counts for each object that stands behind a line, and what rows name
 /// stands.
 ///
@@ -49,8 +63,8 @@ pub fn law_completion_refuses_cut_pairs()
 /// enough. Each handle names an object that stands, each queued message was sent on one, each wait
 /// was made on one: its queue is that of this port, of its connection port or, for a request, of
 /// its other end; live threads registered ports that stand, and each view shows a section that
-/// stands. So no row is left that names a port or a section that went. Before
-/// the first line none stands.
+/// stands, and is owned by no port or by one that stands. So no row is left that names a port or a
+/// section that went. Before the first line none stands.
 pub fn law_held_objects()
     ensures first { IsLinked first_state }
     ensures steps { StepsHoldRows }
@@ -119,12 +133,16 @@ pub fn law_death()
 /// up to 4 MiB. A view shows no more than its section has, and may be written only where the
 /// section may. Its base is a multiple of 65536 from 00010000, and it ends at or below 7FFF0000.
 /// No two views of a process have an address in common, and a process has at most 128. A process
-/// has a table of views where it has one of handles. So before the first line, where there are
-/// none.
+/// has a table of views where it has one of handles. What a connect offers that isn't accepted is no
+/// more than a section has that stands, and the section may be written. So before the first line,
+/// where there are none.
 pub fn law_views()
     ensures first { HasSoundViews first_state }
     ensures steps { StepsKeepViews }
     ensures runs { (script : List ℕ) → RunKeepsViews script }
+    ensures offers_first { HasSoundOffers first_state }
+    ensures offers_steps { StepsKeepOffers }
+    ensures offers_runs { (script : List ℕ) → RunKeepsOffers script }
 {}
 
 /// In every script each message that asks for no answer is accounted for.
@@ -145,9 +163,11 @@ pub fn law_messages_are_accounted_for()
 /// Each line keeps all that the calls ask of the world at once.
 ///
 /// Waits are sound, ports linked, objects held, queues open; what rows name stands; of an open port
-/// no message tells that it is closed, and each client port keeps a connect of its maker. A thread has one row, an ended one has no registrations, and
-/// no port is registered twice with one. Only living processes have handles and views, and a connection has
-/// one open end at least. Views lie in their sections, and apart. What the calls that close and end ask of the rows is part of it.
+/// no message tells that it is closed, and each client port keeps a connect of its maker. A thread
+/// has one row, an ended one has no registrations, and no port is registered twice with one. Only
+/// living processes have handles and views, and a connection has one open end at least. Views lie in
+/// their sections, and apart. A client port allows its server something, and the other end of a
+/// server port is a client port. What the calls that close and end ask of the rows is part of it.
 pub fn law_lawful_worlds()
     ensures first { IsLawfulWorld first_state }
     ensures steps { StepsKeepLaws }

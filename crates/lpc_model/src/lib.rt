@@ -14,13 +14,14 @@ pub use entry::{
 };
 pub use fault::LineFault;
 pub use fields::{
-    completion_fields, handle_field, identifier_field, info_field, kept, message_field,
-    object_fields, process_fields, receipt, refuse, view_fields,
+    accept_fields, completion_fields, connect_fields, handle_field, identifier_field, info_field,
+    kept, message_field, object_fields, process_fields, receipt, refuse, view_fields,
 };
 pub use laws::{
     law_closings_are_told, law_completion_refuses_cut_pairs, law_connected_ports_reach_each_other,
-    law_death, law_held_objects, law_lawful_worlds, law_limits, law_messages_are_accounted_for,
-    law_open_queues, law_queues_keep_their_order, law_sound_waits, law_views,
+    law_death, law_held_objects, law_impersonation_refuses_unserved, law_lawful_worlds, law_limits,
+    law_messages_are_accounted_for, law_open_queues, law_queues_keep_their_order, law_sound_waits,
+    law_views,
 };
-pub use line::{Call, Line, ProcArg};
+pub use line::{Call, Line, ProcArg, ViewWord};
 pub use message::{Body, Message};

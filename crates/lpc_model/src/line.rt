@@ -1,4 +1,7 @@
-// A line of a script. Its messages, and what it writes, lie in a buffer that is lent, its names in the line itself.
+// A line of a script. Its messages, and what it writes, lie in a buffer that is lent, its names in the line itself; access
+// lists and tokens stand in it by value.
+use lpc_sid::{Dacl, Token};
+use lpc_tokens::Qos;
 
 /// The process or thread that a call is about: the caller's own, spelled `self`, or that of a handle.
 #[derive(Clone, Copy)]
@@ -9,31 +12,50 @@ pub enum ProcArg {
     By(u32),
 }
 
+/// What a connect or its answer offers to be seen, spelled `w:H:OFFSET:SIZE`: the section that a handle names, from an
+/// offset on, and so many bytes of it, or where that is 0 all up to its end.
+#[derive(Clone, Copy)]
+pub struct ViewWord {
+    /// The handle to the section.
+    pub handle: u32,
+    /// Where in the section the view begins.
+    pub offset: u32,
+    /// How many bytes it shows.
+    pub size: u32,
+}
+
 /// A system call with its arguments, as a line spells it.
 ///
 /// A message is the whole message, header and data, and a name is a word as it stands; both are tested by the call, not
 /// by the line.
-#[derive(Clone, Copy)]
+#[derive(Drop)]
 pub enum Call<'a> {
-    /// `NtCreatePort NAME`: makes a connection port of that name, or an unnamed port where the word is `-`.
+    /// `NtCreatePort NAME [DACL]`: makes a connection port of that name, to which only those may connect whom the access
+    /// list grants it, if one is given; or an unnamed port where the word is `-`.
     CreatePort {
         name: Option<&'a [u8]>,
+        dacl: Option<Dacl>,
     },
-    /// `NtConnectPort NAME - - INFO`: asks the connection port of a name for a connection, with the bytes of INFO, none
-    /// where the word is `-`, and waits until the server completes or refuses it.
+    /// `NtConnectPort NAME QOS VIEW INFO`: asks the connection port of a name for a connection, with the bytes of INFO,
+    /// none where the word is `-`, offers a view, none where VIEW is `-`, and waits until the server completes or refuses
+    /// it. QOS says how far, and as whom, the server may act for the client.
     ConnectPort {
         name: &'a [u8],
+        quality: Qos,
+        view: Option<ViewWord>,
         info: &'a [u8],
     },
     /// `NtListenPort H`: takes the oldest connection request of a connection port's queue, or waits for one.
     ListenPort {
         handle: u32,
     },
-    /// `NtAcceptConnectPort CTX MSG accept|refuse -`: accepts or refuses the connect that the message names.
+    /// `NtAcceptConnectPort CTX MSG accept|refuse VIEW`: accepts or refuses the connect that the message names, and to
+    /// accept it offers a view, none where VIEW is `-`.
     AcceptConnectPort {
         context: u32,
         message: &'a [u8],
         accept: bool,
+        view: Option<ViewWord>,
     },
     /// `NtCompleteConnectPort H`: completes the connection of a server port, and wakes the client.
     CompleteConnectPort {
@@ -141,20 +163,57 @@ pub enum Call<'a> {
         index: u32,
         bytes: &'a [u8],
     },
+    /// `NtImpersonateClientOfPort H MSG`: the thread acts from then on as the client of a server port whose request the
+    /// message names.
+    ImpersonateClientOfPort {
+        handle: u32,
+        message: &'a [u8],
+    },
+    /// `NtSetInformationThread CLASS null`: with CLASS 5 the thread acts as itself again.
+    SetInformationThread {
+        class: u32,
+    },
+    /// `NtOpenThreadToken`: makes a token of the one as which the thread acts, and gives the caller a handle to it.
+    OpenThreadToken,
+    /// `NtOpenProcessToken`: the same of the token of the caller's process.
+    OpenProcessToken,
+    /// `NtQueryInformationToken H CLASS`: tells the user of a token (1), its groups (2), or its level (9).
+    QueryInformationToken {
+        handle: u32,
+        class: u32,
+    },
 }
 
 /// What one line of a script says. Process and thread numbers are from 1 to 2147483647. A path is a word as it stands;
 /// it is tested by the directive, not by the line.
-#[derive(Clone, Copy)]
+#[derive(Drop)]
 pub enum Line<'a> {
-    /// `boot PID TID`: makes a process with its first thread.
-    Boot { pid: u32, tid: u32 },
+    /// `boot PID TID [TOKEN]`: makes a process with its first thread, with the token of that name, or the default.
+    Boot {
+        pid: u32,
+        tid: u32,
+        token: Option<&'a [u8]>,
+    },
     /// `thread TID PID`: makes a further thread of a process.
-    Thread { tid: u32, pid: u32 },
+    Thread {
+        tid: u32,
+        pid: u32,
+    },
+    /// `token NAME USER [GROUP] ..`: gives a token a name.
+    Token {
+        name: &'a [u8],
+        token: Token,
+    },
     /// `dir PATH`: makes a directory of the name space.
     Dir(&'a [u8]),
     /// `link PATH TARGET`: makes a link of the name space to another path.
-    Link { path: &'a [u8], target: &'a [u8] },
+    Link {
+        path: &'a [u8],
+        target: &'a [u8],
+    },
     /// `TID CALL WORDS`: a thread makes a call.
-    Run { tid: u32, call: Call<'a> },
+    Run {
+        tid: u32,
+        call: Call<'a>,
+    },
 }

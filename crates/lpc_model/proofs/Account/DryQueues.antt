@@ -12,7 +12,7 @@ use Rattle.lpc_base.specs.declared.status.TheConstants.{SUCCESS}
 use Rattle.lpc_model.specs.declared.entry.Entry.TheVariants as entry
 use Rattle.lpc_model.specs.declared.entry.ObjectKind.{ObjectKind}
 use Rattle.lpc_model.specs.declared.entry.ObjectKind.TheVariants as kind
-use Rattle.lpc_model.specs.World.{Listen, MessageRow, Receive, WaitRow, World}
+use Rattle.lpc_model.specs.World.{Acceptance, Listen, MessageRow, Receive, WaitRow, World}
 use Rattle.lpc_model.specs.Message.{asks, is_connection_request, message_of}
 use Rattle.lpc_model.specs.Fields.{msg, receipt}
 use Rattle.lpc_model.specs.Found.{is_listen, is_open, is_own_of, is_queued, is_queued_connect, is_receive, is_the, port_row, same_birth, waits_as, waits_at}
@@ -52,8 +52,8 @@ less-dry w v u x = parts (is_receive x) (has (is_queued x.queue) v.messages) (ha
 fewer-dry : (w v : World) (ms : List MessageRow) → ((q : Birth) → has (is_queued q) v.messages ≡ false → has (is_queued q) ms ≡ false) → HasDryQueues w v → HasDryQueues w (record v { messages = ms })
 fewer-dry w v ms less dry = every-more (is_dry w v) (is_dry w (record v { messages = ms })) (λ x. less-dry w v (record v { messages = ms }) x (λ _ off. less x.queue off)) v.waits dry
 
-accepted-dry : (w v : World) (reply : List ℕ) (x : WaitRow) → is_dry w v x ≡ true → is_dry w v (accepted reply x) ≡ true
-accepted-dry w v reply = by_kind (λ x. is_dry w v x ≡ true → is_dry w v (accepted reply x) ≡ true) (λ x m is. is) (λ x is. is) (λ x is. is) (λ x m is. refl) (λ x m r is. is)
+accepted-dry : (w v : World) (reply : Acceptance) (x : WaitRow) → is_dry w v x ≡ true → is_dry w v (accepted reply x) ≡ true
+accepted-dry w v reply = by_kind (λ x. is_dry w v x ≡ true → is_dry w v (accepted reply x) ≡ true) (λ x m is. is) (λ x is. is) (λ x is. is) (λ x m offer is. refl) (λ x m r is. is)
 
 freed-dry : (w v : World) (k : ObjectKind) (b : Birth) → HasDryQueues w v → HasDryQueues w (freed v k b)
 freed-dry w v kind.Port b dry = dry
@@ -186,7 +186,7 @@ module _ (s : Receipt) (quiet : asks (message_of s.bytes) ≡ false) (w : World)
       (subst (λ q. has (is_queued q) v.messages ≡ false) same (off-part (has (is_queued x.queue) v.messages) (is_the x.queue (waited_on w x.thread)) one))
       (subst (λ q. is_the q (waited_on w x.thread) ≡ true) same (second-part (has (is_queued x.queue) v.messages) (is_the x.queue (waited_on w x.thread)) one)) dry)
       (λ x is one dry. enter-listen v m (record x { kind = Listen }) (first-true (is_connection_request m.message) (same_birth x.queue m.queue) is) dry)
-      (λ x r is one dry. absurd (cc))
+      (λ x r offer is one dry. absurd (cc))
       (λ x r reply is one dry. absurd (cc))
     where
       off-part : (a b : Bool) → (not a && b) ≡ true → a ≡ false
@@ -232,7 +232,7 @@ dry-sound w =
     by_kind (λ x. is_sound_wait w x ≡ true → is_the x.queue (waited_on w x.thread) ≡ true → is_dry w w x ≡ true)
     (λ x m is own. refl)
     (λ x is own. receives x (come-part (is_client w (waiter_of x)) (is_open w x.port) (is_open w x.queue) (has_come w (record x { kind = Receive })) (passes (port_row w x.port) is_joined) is) own)
-    (λ x is own. refl) (λ x m is own. refl) (λ x m reply is own. refl)
+    (λ x is own. refl) (λ x m offer is own. refl) (λ x m reply is own. refl)
   where
     come-part : (c o q h j : Bool) → (c && (o && (q && (not h && j)))) ≡ true → h ≡ false
     come-part c o q h j is = grind arith

@@ -2,7 +2,7 @@
 use Rattle.std.proofs.Common.{◌≡◌, ℕ, ◌+◌, List, [], ◌∷◌, ◌++◌, Bool, true, false, not, Option, Some, None, refl, sym, subst, arith}
 use Rattle.std.proofs.lemmas.Bool.{and_from}
 use Rattle.lpc_base.specs.Rows.{count, every, first, when, without_first}
-use Rattle.lpc_base.proofs.RowWords.{count-append, first-passes}
+use Rattle.lpc_base.proofs.RowWords.{count-append, first-passes, every-append}
 use Rattle.lpc_base.proofs.Births.{birth-same, birth-self}
 use Rattle.lpc_base.specs.declared.birth.Birth.{Birth}
 use Rattle.lpc_base.specs.declared.status.Status.{Status}
@@ -13,16 +13,16 @@ use Rattle.lpc_model.specs.declared.entry.CallName.TheVariants.{NtClose, NtReply
 use Rattle.lpc_model.specs.declared.entry.Entry.{Entry}
 use Rattle.lpc_model.specs.declared.entry.Entry.TheVariants as entry
 use Rattle.lpc_model.specs.declared.message.Message.{Message}
-use Rattle.lpc_model.specs.World.{HandleRow, MessageRow, PortRow, ThreadRow, World}
+use Rattle.lpc_model.specs.World.{HandleRow, MessageRow, PortRow, ThreadRow, World, ViewRow}
 use Rattle.lpc_model.specs.Accounts.{Receipt, is_received, has_receipt, received_on, standing}
 use Rattle.lpc_model.specs.Basics.{Basic, Receives, Takes, Tells, Wakes, world_after}
 use Rattle.lpc_model.specs.Close.{close_handle, close_steps}
-use Rattle.lpc_model.specs.Connect.{client_port, connect_start, connection_request}
+use Rattle.lpc_model.specs.Connect.{client_port, connection_request, connect_start, accept_steps, accept_start, shared_fields, allow_steps, connect_steps, create_steps, guard_steps, named_steps}
 use Rattle.lpc_model.specs.Death.{end_threads}
 use Rattle.lpc_model.specs.Entering.{enter, row_of}
 use Rattle.lpc_model.specs.Fields.{receipt}
-use Rattle.lpc_model.specs.Found.{is_queued}
-use Rattle.lpc_model.specs.Lines.{ScriptLine, reply_wait_receive_port, run}
+use Rattle.lpc_model.specs.Found.{is_queued, free_handle}
+use Rattle.lpc_model.specs.Lines.{ScriptLine, reply_wait_receive_port, run, connect_port}
 use Rattle.lpc_model.specs.Machine.{bare_steps, steps}
 use Rattle.lpc_model.specs.Message.{asks, message_of}
 use Rattle.lpc_model.specs.Request.{datagram_start, given_reply, receive_steps, receive_test, reply_test, request_start, sent_by}
@@ -37,6 +37,9 @@ use Rattle.lpc_model.proofs.Calls.Holding.{Holds, bind_holds, holds_ok}
 use Rattle.lpc_model.proofs.Calls.Lines.{AnyWorld, IsCalled, LineLaw, line-does, shows_status}
 use Rattle.lpc_model.proofs.Calls.Outcomes.{Outcomes}
 use Rattle.lpc_model.proofs.Sound.Drops.{count-first, one_if}
+use Rattle.lpc_model.specs.Offers.{mapped, shared_steps}
+use Rattle.lpc_model.proofs.Calls.Sharing.{mapped-pass, shared-pass, guard-pass}
+use Rattle.lpc_model.specs.Tests.{next_birth}
 
 -- an entry that shows a status alone tells of no receipt
 status-level : (e : Entry) → shows_status e ≡ true → not (tells_two e) ≡ true
@@ -129,16 +132,38 @@ module _ (s : Receipt) (quiet : asks (message_of s.bytes) ≡ false) where
   ended-balanced w line by name true pid code ts sound = let ends = end_balances s quiet w line pid code ts w (dry-first w sound) in record { sum = ends.balanced }
   ended-balanced w line by name false pid code ts sound = let ends = end_balances s quiet w line pid code ts w (dry-first w sound) in answered w line by name (end_threads pid code ts w) ends.balanced
 
+  -- an accept tells no two fields of which the second has bytes
+  shared-level : (value : ℕ) (own theirs across : Option ViewRow) → not (are_two (shared_fields value (record { own = own; theirs = theirs; across = across }))) ≡ true
+  shared-level value None None None = refl
+  shared-level value None None (Some c) = refl
+  shared-level value None (Some b) None = refl
+  shared-level value None (Some b) (Some c) = refl
+  shared-level value (Some a) None None = refl
+  shared-level value (Some a) None (Some c) = refl
+  shared-level value (Some a) (Some b) None = refl
+  shared-level value (Some a) (Some b) (Some c) = refl
+
   -- The calls
   calls-balanced : (by : ThreadRow) (w : World) → IsCalled AnyWorld w by → Outcomes w by (λ call. IsBalanced (run by.number call) w)
   calls-balanced by w is = record {
-    creates = level w _ _ refl;
-    founds = λ name path free. level w _ _ refl;
-    connects = λ name bytes connection at. let m = connection_request by bytes in sent w _ (row_of connection (client_port by connection) m) (connect_start by connection m) refl is.sound;
+    creates = λ dacl. level w _ _ refl;
+    founds = λ name dacl path free. level w _ _ (every-append is_level (create_steps by (named_steps (next_birth by) path) (free_handle w by.process)) (guard_steps (next_birth by) (Some name) dacl) refl (guard-pass is_level (λ _ _. refl) (next_birth by) dacl));
+    connects = λ name quality view bytes offer own connection c.
+        let m = connection_request by offer bytes in
+        let line = run by.number (connect_port name quality view bytes) in
+        let start = connect_start by connection offer own m in
+        let row = row_of connection (client_port by connection) m in
+        let bs = start ++ enter row (world_after w start) in
+        let one = sent w line row start refl is.sound in
+        let maps = mapped by.process own in
+        let both = both-balanced s quiet w line w bs maps one.sum (level-balanced s quiet w line (world_after w bs) maps (mapped-pass is_level by.process (λ _. refl) own)) in
+        let all = connect_steps by connection offer own m w in
+        record { sum = both-balanced s quiet w line w all (allow_steps w by quality) both (level-balanced s quiet w line (world_after w all) (allow_steps w by quality) refl) };
     listens = λ handle port m l at. level w _ _ (level-receipt m);
     awaits_connect = λ handle port l at. level w _ _ refl;
-    refuses = λ context bytes a at. level w _ _ refl;
-    accepts = λ context bytes a at. level w _ _ refl;
+    refuses = λ context bytes view a at. level w _ _ refl;
+    accepts = λ context bytes view offer a views c. level w _ (accept_steps by context (free_handle w by.process) a views)
+        (every-append is_level (accept_start by context (free_handle w by.process) a views) (shared_steps by a.wait views) (and_from _ _ (shared-level (free_handle w by.process) views.own views.theirs views.across) refl) (shared-pass is_level by a.wait (λ _. refl) (λ _. refl) views));
     completes = λ handle c at. level w _ _ refl;
     sends = λ handle bytes t at. sent w _ (row_of t.queue t.port (sent_by by DATAGRAM t.message)) (datagram_start by) refl is.sound;
     asks = λ handle bytes t at. let m = sent_by by REQUEST t.message in sent w _ (row_of t.queue t.port m) (request_start by t.port.birth t.queue m) refl is.sound;
@@ -162,6 +187,11 @@ module _ (s : Receipt) (quiet : asks (message_of s.bytes) ≡ false) where
     writes_memory = λ address new v at may. level w _ _ refl;
     reads_range = λ handle bytes index n d at. level w _ _ refl;
     writes_range = λ handle bytes index new d at may. level w _ _ refl;
+    impersonates = λ handle bytes own allowed. level w _ _ refl;
+    reverts = λ class. level w _ _ refl;
+    opens_own = λ own at. level w _ _ refl;
+    opens_primary = level w _ _ refl;
+    asks_token = λ handle class t field at told. level w _ _ refl;
     ends = λ call name own pid code ts doomed. ended-balanced w _ by name own pid code ts is.sound;
   }
 
@@ -170,7 +200,8 @@ module _ (s : Receipt) (quiet : asks (message_of s.bytes) ≡ false) where
   balanced-lines = record {
     tells = λ line w e is. level w line _ (and_from _ true (status-level e is) refl);
     calls = calls-balanced;
-    boots = λ w pid tid new unused sound more. level w _ _ refl;
+    names = λ w name content more. level w _ _ refl;
+    boots = λ w pid tid name content new unused sound more. level w _ _ refl;
     threads = λ w tid pid live unused sound more. level w _ _ refl;
     dirs = λ w text path free more. level w _ _ refl;
     links = λ w text target path to free more. level w _ _ refl;

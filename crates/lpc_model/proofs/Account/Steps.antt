@@ -9,11 +9,11 @@ use Rattle.lpc_base.specs.declared.status.Status.{Status}
 use Rattle.lpc_base.specs.declared.status.TheConstants.{LPC_REPLY_LOST, PORT_DISCONNECTED}
 use Rattle.lpc_model.specs.World.{Creator, HandleRow, MessageRow, PortRow, ThreadRow, WaitRow, World}
 use Rattle.lpc_model.specs.Message.{asks, message_of}
-use Rattle.lpc_model.specs.Found.{handles_of, is_accepted, is_live, port_row, wait_of}
-use Rattle.lpc_model.specs.Basics.{Basic, Cuts, Dies, DropsHandle, DropsViewsOf, Empties, Steps, Unregisters, Withdraws, doing, end_each, in_turn, provided, world_after, ◌▹◌}
+use Rattle.lpc_model.specs.Found.{handles_of, is_accepted, is_connect, is_live, port_row, wait_of}
+use Rattle.lpc_model.specs.Basics.{Basic, Cuts, Dies, DropsHandle, DropsOwned, DropsViewsOf, Empties, Steps, Unregisters, Withdraws, doing, end_each, in_turn, provided, world_after, ◌▹◌}
 use Rattle.lpc_model.specs.Entering.{enter}
-use Rattle.lpc_model.specs.Close.{close_handle, close_port, closed_row, cut_pair, drop_name, empty_queue, end_accepted, end_offered, end_receives, end_request, end_requests, is_accepted_across, is_last, is_offered_to, is_queued_request, is_receive_across, is_receiver, is_request_across, is_request_on, post_closed, server_of, closing_post, wake}
-use Rattle.lpc_model.specs.Death.{cut_accepted, die, end_process, end_threads, post_death, post_deaths, death_post}
+use Rattle.lpc_model.specs.Close.{close_handle, close_port, closed_row, cut_pair, drop_name, drop_owned, empty_queue, end_accepted, end_offered, end_receives, end_request, end_requests, is_accepted_across, is_last, is_offered_to, is_queued_request, is_receive_across, is_receiver, is_request_across, is_request_on, post_closed, server_of, closing_post, wake}
+use Rattle.lpc_model.specs.Death.{end_client, die, end_process, end_threads, post_death, post_deaths, death_post}
 use Rattle.lpc_model.specs.Lines.{ScriptLine}
 use Rattle.lpc_model.specs.Sweep.{sweep}
 use Rattle.lpc_model.proofs.Steps.Closing.{behind}
@@ -101,11 +101,12 @@ module _ (s : Receipt) (quiet : asks (message_of s.bytes) ≡ false) (w : World)
   port_balances : (b : Birth) → Balances (close_port b)
   unfolding close_port
   port_balances b =
-      then_balances (drop_name b) (end_receives b ▹ (end_requests b ▹ (empty_queue b ▹ (cut_pair b ▹ post_closed b)))) (plain_balances (drop_name b) (λ v. refl))
-      (then_balances (end_receives b) (end_requests b ▹ (empty_queue b ▹ (cut_pair b ▹ post_closed b))) (ends_balance (λ w. is_receiver b) (wake PORT_DISCONNECTED) (λ x. refl))
-      (then_balances (end_requests b) (empty_queue b ▹ (cut_pair b ▹ post_closed b)) (ends_balance (λ w. is_request_on b) (end_request PORT_DISCONNECTED) (λ x. refl))
-      (then_balances (empty_queue b) (cut_pair b ▹ post_closed b) (queue_balances b)
-      (then_balances (cut_pair b) (post_closed b) (pair_balances b) (post_balances b)))))
+      then_balances (drop_name b) (end_receives b ▹ (end_requests b ▹ (empty_queue b ▹ (cut_pair b ▹ (post_closed b ▹ drop_owned b))))) (plain_balances (drop_name b) (λ v. refl))
+      (then_balances (end_receives b) (end_requests b ▹ (empty_queue b ▹ (cut_pair b ▹ (post_closed b ▹ drop_owned b)))) (ends_balance (λ w. is_receiver b) (wake PORT_DISCONNECTED) (λ x. refl))
+      (then_balances (end_requests b) (empty_queue b ▹ (cut_pair b ▹ (post_closed b ▹ drop_owned b))) (ends_balance (λ w. is_request_on b) (end_request PORT_DISCONNECTED) (λ x. refl))
+      (then_balances (empty_queue b) (cut_pair b ▹ (post_closed b ▹ drop_owned b)) (queue_balances b)
+      (then_balances (cut_pair b) (post_closed b ▹ drop_owned b) (pair_balances b)
+      (then_balances (post_closed b) (drop_owned b) (post_balances b) (plain_balances (drop_owned b) (λ v. refl)))))))
 
   provided_balances : (test : World → Bool) (f : Steps) → Balances f → Balances (provided test f)
   provided_balances test f one v dry = at (test v)
@@ -118,12 +119,14 @@ module _ (s : Receipt) (quiet : asks (message_of s.bytes) ≡ false) (w : World)
   handle_balances pid r = then_balances (provided (is_last r) (close_port r.object.birth)) (doing (DropsHandle pid r.value ∷ [])) (provided_balances (is_last r) (close_port r.object.birth) (port_balances r.object.birth)) (plain_balances (doing (DropsHandle pid r.value ∷ [])) (λ v. refl))
 
   -- Threads that end
-  accepted_balances : (o : Option WaitRow) → Balances (cut_accepted o)
+  accepted_balances : (o : Option WaitRow) → Balances (end_client o)
   accepted_balances None = plain_balances (doing []) (λ v. refl)
-  accepted_balances (Some x) = provided_balances (λ w. is_accepted x) (cut_pair x.port) (pair_balances x.port)
+  accepted_balances (Some x) =
+      let own : Steps = doing (DropsOwned x.port ∷ []) in
+      then_balances (provided (λ w. is_accepted x) (cut_pair x.port)) (provided (λ w. is_connect x) own) (provided_balances (λ w. is_accepted x) (cut_pair x.port) (pair_balances x.port)) (provided_balances (λ w. is_connect x) own (plain_balances own (λ v. refl)))
 
   die_balances : (code : Status) (t : ThreadRow) → Balances (die code t)
-  die_balances code t v dry = then_balances (doing (Dies t.number code ∷ Withdraws t.number ∷ [])) (cut_accepted (wait_of v t.number)) (plain_balances (doing (Dies t.number code ∷ Withdraws t.number ∷ [])) (λ v. refl)) (accepted_balances (wait_of v t.number)) v dry
+  die_balances code t v dry = then_balances (doing (Dies t.number code ∷ Withdraws t.number ∷ [])) (end_client (wait_of v t.number)) (plain_balances (doing (Dies t.number code ∷ Withdraws t.number ∷ [])) (λ v. refl)) (accepted_balances (wait_of v t.number)) v dry
 
   told_balances : (t : ThreadRow) (b : Birth) → Balances (post_death t b)
   told_balances t b = then_balances (doing (Unregisters t.number b ∷ [])) (λ w. given (death_post w t b) (λ m. enter m w)) (plain_balances (doing (Unregisters t.number b ∷ [])) (λ v. refl)) (λ v dry. at v dry (death_post v t b))

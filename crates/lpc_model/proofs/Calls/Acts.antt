@@ -1,10 +1,10 @@
 -- What calls do, as acts, of which their outcomes are made: a law on steps that holds of each act holds of each outcome.
+use Rattle.lpc_tokens.specs.declared.security.Security.TheVariants.{Allows, Guarded}
 use Rattle.lpc_model.specs.declared.entry.ObjectKind.TheVariants as kind
 use Rattle.lpc_base.proofs.Births.{birth-same, birth-self}
 use Rattle.lpc_base.proofs.RowMaps.{every-first}
-use Rattle.lpc_base.proofs.RowWords.{first-behind, has-push}
+use Rattle.lpc_base.proofs.RowWords.{first-behind, first-passes, has-kept, has-push}
 use Rattle.lpc_base.specs.Rows.{count, every, first, given, has, when}
-use Rattle.lpc_base.specs.declared.limits.TheConstants.{MESSAGE_LIMIT}
 use Rattle.lpc_base.specs.declared.status.Status.{Status}
 use Rattle.lpc_base.specs.declared.status.TheConstants.{INVALID_PARAMETER, INVALID_PORT_HANDLE, PORT_DISCONNECTED, SUCCESS, INVALID_HANDLE}
 use Rattle.lpc_message.specs.declared.kind.TheConstants.{DATAGRAM, REQUEST}
@@ -13,7 +13,18 @@ use Rattle.lpc_model.proofs.Calls.Creating.{rows-behind}
 use Rattle.lpc_model.proofs.Steps.Ending.{AreEnding, answered_end, behind_dead, behind_told, die-ending, ending-enter, first-at, handle-ending, rows-left, told-facts, turn-keeps}
 use Rattle.lpc_model.proofs.Calls.Holding.{Holds, bind_holds, found_ok, holds_ok, found_holds}
 use Rattle.lpc_model.proofs.Calls.Lines.{IsCalled, Shut}
-use Rattle.lpc_model.proofs.Calls.Outcomes.{IsListening, IsReceiving, Outcomes, IsBuilding, IsMapping}
+use Rattle.lpc_model.proofs.Calls.Offers.{Given, IsOffer, IsViewOf, fits, found-row, found-size, offered, viewed}
+pub use Rattle.lpc_model.proofs.Calls.Sharing.{accept_act, connect_act}
+use Rattle.lpc_model.proofs.Calls.Sharing.{AreShared, IsMapped, entered-beside, mapped-alike, mapped-ports, mapped-sections, own-mapped, shared, their-mapped, connect_begun}
+use Rattle.lpc_model.proofs.Sound.Ties.{joined-birth}
+use Rattle.lpc_model.proofs.Sound.Connect.{offered-client}
+use Rattle.lpc_model.specs.Lines.{ViewWord}
+use Rattle.lpc_model.specs.Offers.{SharedViews, acceptance, if_given, mapped, offer_test, server_views, shared_test, view_test}
+use Rattle.lpc_model.specs.SoundViews.{is_sized, is_sound_offer}
+use Rattle.lpc_base.specs.Views.{passes_section, view_size}
+use Rattle.lpc_base.proofs.Bools.{first-true, second-true}
+use Rattle.std.proofs.lemmas.Bool.{and_from, eqb-true}
+use Rattle.lpc_model.proofs.Calls.Outcomes.{IsAccepting, IsConnecting, IsListening, IsReceiving, Outcomes, IsBuilding, IsMapping}
 use Rattle.lpc_model.proofs.Steps.Rows.{count-change, has-found}
 use Rattle.lpc_model.proofs.Sound.Basics.{sound-ordinal, sound-process}
 use Rattle.lpc_model.proofs.Sound.Close.{found-value}
@@ -21,31 +32,33 @@ use Rattle.lpc_model.proofs.Sound.Terminate.{IsSafe, die-safe, enter-safe, handl
 use Rattle.lpc_model.proofs.Steps.InTurn.{after-append}
 use Rattle.lpc_model.proofs.Calls.Tested.{CanComplete, can-complete, name-open, named-wait}
 use Rattle.lpc_model.proofs.Calls.Usable.{CanCall, IsUsable, by_port_kind, handle-open, if-same, port-usable, queue-open, routed}
-use Rattle.lpc_model.specs.Basics.{Accepts, AddsHandle, AddsProcess, AddsThread, Awaits, Basic, Completes, DrawsIdentifier, DrawsOrdinal, DropsViewsOf, Joins, Makes, Registers, Steps, Tells, Unregisters, basic, in_turn, no_handles, with_handle, world_after, AddsSection, Maps, Unmaps, Writes}
+use Rattle.lpc_model.specs.Basics.{joined, Acts, AddsHandle, AddsProcess, AddsThread, AddsToken, Secures, Awaits, Basic, Completes, DrawsIdentifier, DrawsOrdinal, DropsOwned, DropsViewsOf, Registers, Steps, Tells, Unregisters, basic, in_turn, no_handles, with_handle, world_after, AddsSection, Maps, Unmaps, Writes}
 use Rattle.lpc_model.specs.Close.{close_handle}
 use Rattle.lpc_model.specs.Closings.{is_closed_post}
-use Rattle.lpc_model.specs.Connect.{Completable, ConnectAnswer, answer_of, answer_test, client_port, complete_steps, complete_test, connect_wait, connection_request, is_accepted_on, listen_steps, listen_wait, named_steps, names_connect, server_port, unnamed_steps}
+use Rattle.lpc_model.specs.Connect.{Completable, ConnectAnswer, accept_steps, acceptance_of, answer_test, client_port, connect_steps, complete_steps, complete_test, connection_request, is_accepted_on, listen_steps, listen_wait, named_steps, names_connect, server_port, unnamed_steps}
 use Rattle.lpc_model.specs.Counts.{asked}
+use Rattle.lpc_model.specs.Impersonation.{TOKEN_ACCESS, new_token, token_steps}
 use Rattle.lpc_model.specs.Creation.{gives_life, making_process, making_thread, new_process, new_thread, second_birth, second_handle}
 use Rattle.lpc_model.specs.Death.{death_post, die, end_process, end_threads, post_death, post_deaths}
-use Rattle.lpc_model.specs.Entering.{enter, row_of, take_connect_steps, take_steps, woken}
-use Rattle.lpc_model.specs.Fields.{h, info, max}
-use Rattle.lpc_model.specs.Found.{free_handle, handle_at, handles_of, has_value, is_accepted, is_born_process, is_born_thread, is_connect, is_connected_to, is_cut, is_live, is_open, is_paired_to, is_port, is_server_port, is_table, is_the, port_name, port_row, process_name, queue_of, route, rows_in, same_birth, same_kind, thread_name, way, was_process, was_thread, is_section, section_name, section_row}
-use Rattle.lpc_model.specs.Memory.{SECTION_ACCESS, mapped_view, mapping_right, new_section, place_in, section_steps, section_test}
+use Rattle.lpc_model.specs.Entering.{end_connect, enter, row_of, take_connect_steps, take_steps, woken}
+use Rattle.lpc_model.specs.Fields.{completion_fields}
+use Rattle.lpc_model.specs.Found.{acting_token, is_token, token_name, token_of, free_handle, handle_at, handles_of, has_value, is_accepted, is_born_process, is_born_thread, is_connect, is_connected_to, is_cut, is_live, is_open, is_paired_to, is_port, is_offered, is_server_port, is_table, is_the, names_wait, offer_of, port_name, port_row, process_name, queue_of, route, rows_in, same_birth, same_kind, thread_name, way, was_process, was_thread, is_section, section_name, section_row}
+use Rattle.lpc_model.specs.Memory.{SECTION_ACCESS, mapped_view, mapping_right, new_section, place_in, section_steps, section_test, size_test}
 use Rattle.lpc_model.specs.Message.{message_test}
 use Rattle.lpc_model.specs.Named.{free_name, named_port}
 use Rattle.lpc_model.specs.Refusal.{found_or, refuse_if}
 use Rattle.lpc_model.specs.Request.{Sendable, datagram_send_test, datagram_steps, datagram_test, given_reply, is_spent, receive_steps, receive_test, receive_wait, reply_test, request_steps, request_wait, send_test, sent_by}
-use Rattle.lpc_model.specs.SoundWaits.{IsSoundWorld}
-use Rattle.lpc_model.specs.Standing.{NamesWhatStands, has_near_queue, is_near, names_object, stands_as, section_stands}
+use Rattle.lpc_model.specs.SoundWaits.{IsSoundWorld, can_stay_sound}
+use Rattle.lpc_model.specs.Standing.{NamesWhatStands, has_near_queue, port_stands, is_near, names_object, stands_as, section_stands}
 use Rattle.lpc_model.specs.Targets.{LIFE_ACCESS}
 use Rattle.lpc_model.specs.Tests.{PORT_ACCESS, handle_row, next_birth, port_test, object_test}
-use Rattle.lpc_model.specs.World.{Birth, HandleRow, HandleTable, Message, MessageRow, ObjectName, Path, PortRow, ThreadRow, WaitRow, World, SectionRow}
+use Rattle.lpc_model.specs.World.{Acceptance, Dacl, Effective, Impersonation, Security, Token, Birth, HandleRow, HandleTable, Message, MessageRow, ObjectName, Offer, Path, PortRow, SectionRow, ThreadRow, ViewRow, WaitRow, World}
 use Rattle.lpc_model.specs.declared.entry.CallName.{CallName}
+use Rattle.lpc_model.specs.declared.entry.CallName.TheVariants.{NtOpenProcessToken, NtOpenThreadToken}
 use Rattle.lpc_model.specs.declared.entry.Entry.{Entry}
 use Rattle.lpc_model.specs.declared.entry.Field.{Field}
-use Rattle.std.proofs.Common.{Bool, List, None, Option, Some, [], arith, false, not, refl, subst, sym, true, ℕ, ◌++◌, ◌∷◌, ◌≡◌, ◌≤◌}
-use Rattle.std.specs.Prelude.{Ok, ◌||◌, if◌then◌else◌}
+use Rattle.std.proofs.Common.{Bool, List, None, Option, Some, [], ap, arith, false, map, not, refl, subst, sym, true, ℕ, ◌++◌, ◌∙◌, ◌∷◌, ◌≡◌, ◌≤◌}
+use Rattle.std.specs.Prelude.{Ok, ◌%◌, ◌&&◌, ◌+◌, ◌==◌, ◌||◌, nat_le, if◌then◌else◌}
 
 -- What the tests of calls find
 -- a message is sent on a port that stands, into an open queue, and tells of no closing
@@ -77,30 +90,15 @@ pub record IsFirm (K : World → Type 0) (w : World) : Type 0 where
   pub safe : IsSafe w
   pub known : K w
 
--- The acts
-abbrev pub accept_act : World → ThreadRow → ℕ → Message → WaitRow → List Basic
-accept_act w by context m x =
-    DrawsOrdinal by.number
-    ∷ Makes (server_port (next_birth by) x.queue)
-    ∷ AddsHandle by.process (handle_row (free_handle w by.process) (port_name (next_birth by)) PORT_ACCESS)
-    ∷ Accepts x.thread m.body
-    ∷ Joins x.port (next_birth by) context
-    ∷ []
-
+-- The acts; those of a connect and of an accept stand beside what is known of their views
 abbrev pub complete_act : World → Completable → List Basic
 complete_act w c =
     let value = free_handle w c.wait.process in
-    Completes c.server ∷ Completes c.client ∷ AddsHandle c.wait.process (handle_row value (port_name c.client) PORT_ACCESS) ∷ woken SUCCESS (h value ∷ max MESSAGE_LIMIT ∷ info (answer_of c.wait) ∷ []) c.wait ∷ []
+    Completes c.server ∷ Completes c.client ∷ AddsHandle c.wait.process (handle_row value (port_name c.client) PORT_ACCESS) ∷ woken SUCCESS (completion_fields value (acceptance_of c.wait)) c.wait ∷ []
 
 -- a port is made with a handle, with or without a name
 abbrev pub create_act : World → ThreadRow → List Basic → List Basic
 create_act w by made = DrawsOrdinal by.number ∷ made ++ AddsHandle by.process (handle_row (free_handle w by.process) (port_name (next_birth by)) PORT_ACCESS) ∷ []
-
--- a client port is made, its thread waits on it, and its request enters
-abbrev pub connect_act : World → ThreadRow → Birth → Message → List Basic
-connect_act w by connection m =
-    let bs = DrawsIdentifier by.number ∷ DrawsOrdinal by.number ∷ Makes (client_port by connection) ∷ Awaits (connect_wait by connection m) ∷ [] in
-    bs ++ enter (row_of connection (client_port by connection) m) (world_after w bs)
 
 -- A law on steps, of the world before them: it holds of each act, and of acts one behind the other. What else is known of the
 -- worlds, steps keep by which something ends.
@@ -121,25 +119,30 @@ pub record Law (by : ThreadRow) (C K : World → Type 0) (P : World → List Bas
   -- a port is made with its handle, with or without a name, or for a connect; a further handle is given
   pub creates : (w : World) → IsCalled C w by → P w (create_act w by (unnamed_steps (next_birth by)))
   pub founds : (w : World) (name : List ℕ) (path : Path) → free_name w name ≡ Ok path → IsCalled C w by → P w (create_act w by (named_steps (next_birth by) path))
-  pub connects : (w : World) (connection : Birth) (bytes : List ℕ) → is_open w connection ≡ true → IsCalled C w by → P w (connect_act w by connection (connection_request by bytes))
+  pub connects : (w : World) (connection : Birth) (offer : Option Offer) (bytes : List ℕ) → is_open w connection ≡ true → Given (IsOffer w) offer → IsCalled C w by → P w (connect_act w by connection offer (connection_request by offer bytes))
   pub gives : (w : World) (pid : ℕ) (o : ObjectName) (access : ℕ) → IsGift w pid o → P w (AddsHandle pid (handle_row (free_handle w pid) o access) ∷ [])
   -- a connect is accepted, a connection completed, a port registered
-  pub accepts : (w : World) (context : ℕ) (m : Message) (x : WaitRow) → first (names_connect w by m) w.waits ≡ Some x → IsCalled C w by → P w (accept_act w by context m x)
+  pub accepts : (w : World) (context : ℕ) (m : Message) (x : WaitRow) (a : Acceptance) → first (names_connect w by m) w.waits ≡ Some x → IsCalled C w by → P w (accept_act w by context x a)
   pub completes : (w : World) (c : Completable) → IsCompleted w c → P w (complete_act w c)
   pub registers : (w : World) (b : Birth) → has (is_port b) w.ports ≡ true → P w (Registers by.number b ∷ [])
   -- a process is made with its thread, a thread is made
-  pub spawns : (w : World) (pid tid : ℕ) → was_process w pid ≡ false → was_thread w tid ≡ false → IsSoundWorld w → P w (DrawsOrdinal by.number ∷ DrawsOrdinal by.number ∷ AddsProcess (new_process pid (Some by.process) (next_birth by)) ∷ AddsThread (new_thread tid pid (second_birth by)) ∷ [])
+  pub spawns : (w : World) (pid tid : ℕ) (token : Token) → was_process w pid ≡ false → was_thread w tid ≡ false → IsSoundWorld w → P w (DrawsOrdinal by.number ∷ DrawsOrdinal by.number ∷ AddsProcess (new_process pid (Some by.process) (next_birth by) token) ∷ AddsThread (new_thread tid pid (second_birth by)) ∷ [])
   pub starts : (w : World) (tid pid : ℕ) → is_live w pid ≡ true → was_thread w tid ≡ false → IsSoundWorld w → P w (DrawsOrdinal by.number ∷ AddsThread (new_thread tid pid (next_birth by)) ∷ [])
-  -- a handle goes, a thread ends, a registration goes, the views of a process go
+  -- a handle goes, a thread ends, a registration goes, the views of a process go, and those of a port
   pub closes : (w : World) (pid : ℕ) (r : HandleRow) → handle_at w pid r.value ≡ Some r → IsSoundWorld w → K w → P w (close_handle pid r w)
   pub dies : (w : World) (code : Status) (t : ThreadRow) → IsSafe w → P w (die code t w)
   pub leaves : (w : World) (n : ℕ) (b : Birth) → P w (Unregisters n b ∷ [])
   pub vacates : (w : World) (pid : ℕ) → P w (DropsViewsOf pid ∷ [])
+  pub disowns : (w : World) (b : Birth) → P w (DropsOwned b ∷ [])
   -- a section is made, without a handle; a view is mapped, and goes; bytes are written
   pub builds : (w : World) (size prot : ℕ) → IsBuilding size prot → P w (DrawsOrdinal by.number ∷ AddsSection (new_section by size prot) ∷ [])
-  pub maps : (w : World) (handle offset size prot : ℕ) (s : SectionRow) (rounded base : ℕ) → IsMapping w by handle offset size prot s rounded base → P w (Maps by.process (mapped_view s offset rounded prot base) ∷ [])
+  pub maps : (w : World) (pid : ℕ) (v : ViewRow) → IsMapped C w pid v → P w (Maps pid v ∷ [])
   pub unmaps : (w : World) (pid base : ℕ) → P w (Unmaps pid base ∷ [])
   pub writes : (w : World) (b : Birth) (place : ℕ) (new : List ℕ) → P w (Writes b place new ∷ [])
+  -- a port gets its access list, or what it allows; a thread acts as its client, or as itself; a token is made, without a handle
+  pub secures : (w : World) (b : Birth) (s : Security) → P w (Secures b s ∷ [])
+  pub acts : (w : World) (own : Option Impersonation) → P w (Acts by.number own ∷ [])
+  pub holds_token : (w : World) (content : Effective) → P w (DrawsOrdinal by.number ∷ AddsToken (new_token by content) ∷ [])
 
 -- what steps keep, steps behind others keep
 pub keeps_on : (Q : World → Type 0) (w : World) (xs ys : List Basic) → (Q w → Q (world_after w xs)) → (Q (world_after w xs) → Q (world_after (world_after w xs) ys)) → Q w → Q (world_after w (xs ++ ys))
@@ -225,8 +228,28 @@ tested-section w by rights handle =
     bind_holds (object_test w by kind.Section rights handle) _ P (λ birth _.
     found_holds P (section_row w birth) INVALID_HANDLE (λ s row. has-found (is_section s.birth) (is_section birth) w.sections s row (birth-self s.birth)))
 
-pub mapped-stands : (w : World) (by : ThreadRow) (handle offset size prot : ℕ) (s : SectionRow) (rounded base : ℕ) → IsMapping w by handle offset size prot s rounded base → section_stands w s.birth ≡ true
-mapped-stands w by handle offset size prot s rounded base m = holds_ok (λ (s : SectionRow). section_stands w s.birth ≡ true) (section_test w by (mapping_right prot) handle) s (tested-section w by (mapping_right prot) handle) m.section
+may-write : (prot writable : Bool) → (prot && not writable) ≡ false → (not prot || writable) ≡ true
+may-write prot writable off = grind arith
+
+pub view-mapped : (C : World → Type 0) (w : World) (by : ThreadRow) (handle offset size prot : ℕ) (s : SectionRow) (rounded base : ℕ) → C w → IsMapping w by handle offset size prot s rounded base → IsMapped C w by.process (mapped_view s offset rounded prot base)
+view-mapped C w by handle offset size prot s rounded base known m =
+    let row = holds_ok (λ (s : SectionRow). section_row w s.birth ≡ Some s) (section_test w by (mapping_right prot) handle) s (found-row w by (mapping_right prot) handle) m.section in
+    record {
+      before = w;
+      known = known;
+      shows = λ _. record {
+        section = s;
+        row = row;
+        part = λ t.
+            let sized = holds_ok (λ n. (passes_section s.size offset size ≡ false) × (n ≡ view_size s.size offset size)) (size_test s offset size) rounded (found-size s offset size) m.size_found in
+            let lawful : is_sized s ≡ true = every-first is_sized (is_section s.birth) w.sections s t.sizes row in
+            let whole : s.size % 4096 ≡ 0 = eqb-true (s.size % 4096) 0 (first-true _ _ lawful) in
+            let part : nat_le (offset + rounded) s.size ≡ true = subst (λ n. nat_le (offset + n) s.size ≡ true) (sym sized.1) (fits s.size offset size whole m.pages sized.0) in
+            and_from _ _ part (may-write (prot == 4) s.writable m.written);
+      };
+      owner = refl;
+      place = m.base_found;
+    }
 
 -- the accepted connect that is completed waits on the client port
 pub complete-found : (w : World) (by : ThreadRow) (handle : ℕ) → Holds (λ (c : Completable). first (is_accepted_on c.client) w.waits ≡ Some c.wait) (complete_test w by handle)
@@ -238,6 +261,17 @@ complete-found w by handle =
     bind_holds (found_or port.pair PORT_DISCONNECTED) _ P (λ client _.
     bind_holds (found_or (first (is_accepted_on client) w.waits) PORT_DISCONNECTED) _ P (λ x wait.
     found_ok (first (is_accepted_on client) w.waits) PORT_DISCONNECTED x wait)))))
+
+-- the client port of a connect that is answered stands
+offered-client-stands : (w : World) (by : ThreadRow) (m : Message) (x : WaitRow) → first (names_connect w by m) w.waits ≡ Some x → IsSoundWorld w → port_stands w x.port ≡ true
+offered-client-stands w by m x at s =
+    let named = first-passes (names_connect w by m) w.waits x at in
+    let offered : is_offered x ≡ true = first-true (is_offered x) _ (second-true (names_wait x m) _ named) in
+    first-true _ _ (offered-client w x offered (every-first (can_stay_sound w) (names_connect w by m) w.waits x s.stay at))
+
+has-joined : (client server : Birth) (context : ℕ) (c : Birth) (ps : List PortRow) → has (is_port c) (map (joined client server context) ps) ≡ has (is_port c) ps
+has-joined client server context c [] = refl
+has-joined client server context c (p ∷ ps) = let same = joined-birth client server context p in grind (arith, has-joined client server context c ps)
 
 -- The calls
 module _ (by : ThreadRow) (C K : World → Type 0) (P : World → List Basic → Type 0) (k : Law by C K P) where
@@ -308,7 +342,7 @@ module _ (by : ThreadRow) (C K : World → Type 0) (P : World → List Basic →
   -- a process is made, with its first thread
   spawning : (w : World) (pid tid : ℕ) → was_process w pid ≡ false → was_thread w tid ≡ false → CanCall w by → IsSoundWorld w → P w (making_process w by pid tid)
   spawning w pid tid new unused c s =
-      let p = new_process pid (Some by.process) (next_birth by) in
+      let p = new_process pid (Some by.process) (next_birth by) (token_of w by.process) in
       let t = new_thread tid pid (second_birth by) in
       let drawn : World = basic (basic w (DrawsOrdinal by.number)) (DrawsOrdinal by.number) in
       let bs = DrawsOrdinal by.number ∷ DrawsOrdinal by.number ∷ AddsProcess p ∷ AddsThread t ∷ [] in
@@ -321,7 +355,7 @@ module _ (by : ThreadRow) (C K : World → Type 0) (P : World → List Basic →
       let next : free_handle given by.process ≡ second_handle w by = rw (rows-behind w.handles by.process pid (handle_row value (process_name p.birth) LIFE_ACCESS) c.home) refl in
       let few : count (is_table by.process) given.handles ≤ 1 = rw (count-change (is_table by.process) (is_table by.process) (with_handle (handle_row value (process_name p.birth) LIFE_ACCESS)) (λ t. refl) made.handles) (tables.tables by.process) in
       let two = gives given (thread_name t.birth) (second_handle w by) next (λ _. has-push (is_born_thread t.birth) drawn.threads t (birth-self t.birth)) (λ is. absurd (cc)) few in
-      told-first w _ _ (k.follows w bs _ (k.spawns w pid tid new unused s) (k.follows made (gives_life by value (process_name p.birth) ∷ []) _ one two))
+      told-first w _ _ (k.follows w bs _ (k.spawns w pid tid (token_of w by.process) new unused s) (k.follows made (gives_life by value (process_name p.birth) ∷ []) _ one two))
     where
       gives : (v : World) (o : ObjectName) (value : ℕ) → free_handle v by.process ≡ value → (NamesWhatStands v → stands_as v o.kind o.birth ≡ true) → (same_kind o.kind kind.Port ≡ true → is_open v o.birth ≡ true) → count (is_table by.process) v.handles ≤ 1 → P v (gives_life by value o ∷ [])
       gives v o value same stands opens one = subst (λ n. P v (gives_life by n o ∷ [])) same (k.gives v by.process o LIFE_ACCESS (record { stands = stands; opens = opens; one = one }))
@@ -339,6 +373,66 @@ module _ (by : ThreadRow) (C K : World → Type 0) (P : World → List Basic →
       let made = new_section by size prot in
       let bs = DrawsOrdinal by.number ∷ AddsSection made ∷ [] in
       told-first w _ _ (k.follows w bs _ (k.builds w size prot asked) (k.gives (world_after w bs) by.process (section_name made.birth) SECTION_ACCESS (record { stands = λ _. has-push (is_section made.birth) w.sections made (birth-self made.birth); opens = λ is. absurd (cc); one = s.tables by.process })))
+
+  -- a token is made, with a handle
+  holding : (w : World) (name : CallName) (content : Effective) → IsSoundWorld w → P w (token_steps by name content (free_handle w by.process))
+  holding w name content s =
+      let made = new_token by content in
+      let bs = DrawsOrdinal by.number ∷ AddsToken made ∷ [] in
+      told-first w _ _ (k.follows w bs _ (k.holds_token w content) (k.gives (world_after w bs) by.process (token_name made.birth) TOKEN_ACCESS (record { stands = λ _. has-push (is_token made.birth) w.tokens made (birth-self made.birth); opens = λ is. absurd (cc); one = s.tables by.process })))
+
+  -- a port with a name, and perhaps an access list
+  guarding : (w : World) (b : Birth) (dacl : Option Dacl) → P w (given dacl (λ d. Secures b (Guarded d) ∷ []))
+  guarding w b None = k.nothing w
+  guarding w b (Some d) = k.secures w b (Guarded d)
+
+  -- views are mapped
+  mapping : (w : World) (pid : ℕ) (o : Option ViewRow) → Given (IsMapped C w pid) o → P w (mapped pid o)
+  mapping w pid None is = k.nothing w
+  mapping w pid (Some v) is = k.maps w pid v is
+
+  connecting : (w : World) (name : List ℕ) (view : Option ViewWord) (bytes : List ℕ) (offer : Option Offer) (own : Option ViewRow) (connection : Birth) → IsConnecting w by name view offer own connection → IsCalled C w by → P w (connect_steps by connection offer own (connection_request by offer bytes) w)
+  connecting w name view bytes offer own connection c is =
+      let m = connection_request by offer bytes in
+      let bs = connect_begun by connection offer m in
+      let row = row_of connection (client_port by connection) m in
+      let u = world_after w bs in
+      let v = world_after u (enter row u) in
+      let act = connect_act w by connection offer m in
+      let offering = holds_ok (Given (IsOffer w)) (if_given offer_test c.wanted) offer (offered w by view c.wanted c.wanted_found) c.offer_made in
+      let seen = holds_ok (IsViewOf w by.process (next_birth by) offer) (if_given (view_test w by.process (next_birth by)) offer) own (viewed w by.process (next_birth by) offer) c.view_placed in
+      let beside = entered-beside row u in
+      let stands : port_stands v (next_birth by) ≡ true = subst (λ (ps : List PortRow). has (is_port (next_birth by)) ps ≡ true) (sym beside.ports) (has-push (is_port (next_birth by)) w.ports (client_port by connection) (birth-self (next_birth by))) in
+      let one = k.connects w connection offer bytes (holds_ok (λ port. is_open w port ≡ true) (named_port w name) connection (name-open w name is.sound) c.port_named) offering is in
+      let two = mapping v by.process own (own-mapped C w v is.known beside.sections w by.process (next_birth by) offer own seen offering (sym beside.views) stands) in
+      told-first w _ _ (k.follows w act (mapped by.process own) one (subst (λ (u : World). P u (mapped by.process own)) (sym (after-append w bs (enter row u))) two))
+
+  accepting : (w : World) (context : ℕ) (bytes : List ℕ) (view : Option ViewWord) (offer : Option Offer) (a : ConnectAnswer) (views : SharedViews) → IsAccepting w by bytes view offer a views → IsCalled C w by → P w (accept_steps by context (free_handle w by.process) a views)
+  accepting w context bytes view offer a views c is =
+      let x = a.wait in
+      let found = holds_ok (λ (a : ConnectAnswer). first (names_connect w by a.message) w.waits ≡ Some a.wait) (answer_test w by bytes) a (named-wait w by bytes) c.answered in
+      let act = accept_act w by context x (acceptance a.message.body views) in
+      let v = world_after w act in
+      let own = mapped by.process views.own in
+      let theirs = mapped by.process views.theirs in
+      let across = mapped x.process views.across in
+      let u = world_after v own in
+      let t = world_after u theirs in
+      let offering = holds_ok (Given (IsOffer w)) (if_given offer_test c.wanted) offer (offered w by view c.wanted c.wanted_found) c.offer_made in
+      let s = holds_ok (AreShared w by x offer) (shared_test w by x offer) views (shared w by x offer) c.views_placed in
+      let server : port_stands v (next_birth by) ≡ true = rw (has-joined x.port (next_birth by) context (next_birth by) (w.ports ++ server_port (next_birth by) x.queue ∷ [])) (has-push (is_port (next_birth by)) w.ports (server_port (next_birth by) x.queue) (birth-self (next_birth by))) in
+      let client : port_stands v x.port ≡ true = rw (has-joined x.port (next_birth by) context x.port (w.ports ++ server_port (next_birth by) x.queue ∷ [])) (has-kept (is_port x.port) w.ports (server_port (next_birth by) x.queue) (offered-client-stands w by a.message x found is.sound)) in
+      let first-views = mapped-alike w v by.process views.own refl in
+      let both-views = mapped-alike (world_after w own) u by.process views.theirs first-views in
+      let here : port_stands u (next_birth by) ≡ true = subst (λ (ps : List PortRow). has (is_port (next_birth by)) ps ≡ true) (sym (mapped-ports v by.process views.own)) server in
+      let there : port_stands t x.port ≡ true = subst (λ (ps : List PortRow). has (is_port x.port) ps ≡ true) (sym (mapped-ports u by.process views.theirs ∙ mapped-ports v by.process views.own)) client in
+      let sections = mapped-sections v by.process views.own in
+      let both-sections = mapped-sections u by.process views.theirs ∙ sections in
+      let one = mapping v by.process views.own (own-mapped C w v is.known refl w by.process (next_birth by) offer views.own s.own offering refl server) in
+      let two = mapping u by.process views.theirs (their-mapped C w u is.known sections (world_after w own) by.process (next_birth by) x (offer_of x) views.theirs s.theirs refl (λ all. every-first (is_sound_offer w) (names_connect w by a.message) w.waits x all found) first-views here) in
+      let three = mapping t x.process views.across (own-mapped C w t is.known both-sections (world_after w (server_views by views.own views.theirs)) x.process x.port offer views.across s.across offering (ap (λ (w : World). w.views) (after-append w own theirs) ∙ both-views) there) in
+      told-first w _ _ (k.follows w act _ (k.accepts w context a.message x (acceptance a.message.body views) found is)
+      (k.follows v (own ++ theirs) across (k.follows v own theirs one two) (subst (λ (u : World). P u across) (sym (after-append v own theirs)) three)))
 
   -- Threads end in turn
   firm : (w : World) (bs : List Basic) → AreEnding bs → IsFirm K w → IsSafe (world_after w bs) → IsFirm K (world_after w bs)
@@ -394,13 +488,13 @@ module _ (by : ThreadRow) (C K : World → Type 0) (P : World → List Basic →
   -- a law that holds of each act holds of what each call comes to
   pub outcomes : ((w : World) → C w → Shut K w) → (w : World) → IsCalled C w by → Outcomes w by (λ _. P w)
   outcomes deep w is = record {
-    creates = told-first w _ _ (k.creates w is);
-    founds = λ name path free. told-first w _ _ (k.founds w name path free is);
-    connects = λ name bytes connection at. told-first w _ _ (k.connects w connection bytes (holds_ok (λ port. is_open w port ≡ true) (named_port w name) connection (name-open w name is.sound) at) is);
+    creates = λ dacl. told-first w _ _ (k.creates w is);
+    founds = λ name dacl path free. k.follows w _ _ (told-first w _ _ (k.founds w name path free is)) (guarding _ (next_birth by) dacl);
+    connects = λ name quality view bytes offer own connection c. k.follows w _ _ (connecting w name view bytes offer own connection c is) (k.secures _ (next_birth by) (Allows quality (acting_token w by)));
     listens = λ handle port m l at. told-first w _ _ (k.listens w m);
     awaits_connect = λ handle port l at. listening w handle port l;
-    refuses = λ context bytes a at. told-first w _ _ (k.wakes w _ _ a.wait);
-    accepts = λ context bytes a at. told-first w _ _ (k.accepts w context a.message a.wait (holds_ok (λ (a : ConnectAnswer). first (names_connect w by a.message) w.waits ≡ Some a.wait) (answer_test w by bytes) a (named-wait w by bytes) at) is);
+    refuses = λ context bytes view a at. told-first w _ _ (k.follows w (end_connect a.message.body a.wait ∷ []) (DropsOwned a.wait.port ∷ []) (k.wakes w _ _ a.wait) (k.disowns _ a.wait.port));
+    accepts = λ context bytes view offer a views c. accepting w context bytes view offer a views c is;
     completes = λ handle c at. completing w handle c at is.sound;
     sends = λ handle bytes s at. sending w handle bytes s at;
     asks = λ handle bytes s at. asking w handle bytes s at;
@@ -415,11 +509,16 @@ module _ (by : ThreadRow) (C K : World → Type 0) (P : World → List Basic →
     spawns = λ pid tid new unused. spawning w pid tid new unused is.can is.sound;
     starts = λ target tid pid at live unused. starting w tid pid live unused is.sound;
     makes_section = λ size prot asked. building w size prot asked is.sound;
-    maps_view = λ handle offset size prot s rounded base m. told-first w _ _ (k.maps w handle offset size prot s rounded base m);
+    maps_view = λ handle offset size prot s rounded base m. told-first w _ _ (k.maps w by.process (mapped_view s offset rounded prot base) (view-mapped C w by handle offset size prot s rounded base is.known m));
     unmaps_view = λ address v at. told-first w _ _ (k.unmaps w by.process v.base);
     reads_memory = λ address n v at. k.says w _;
     writes_memory = λ address new v at writes. told-first w _ _ (k.writes w v.section (place_in v address) new);
     reads_range = λ handle bytes index n d at. k.says w _;
     writes_range = λ handle bytes index new d at writes. told-first w _ _ (k.writes w d.view.section (place_in d.view d.address) new);
+    impersonates = λ handle bytes own is. told-first w _ _ (k.acts w (Some own));
+    reverts = λ class. told-first w _ _ (k.acts w None);
+    opens_own = λ own at. holding w NtOpenThreadToken _ is.sound;
+    opens_primary = holding w NtOpenProcessToken _ is.sound;
+    asks_token = λ handle class t field at told. k.says w _;
     ends = λ call name own pid code ts doomed. ending w name own pid code ts (record { safe = record { sound = is.sound; shut = (deep w is.known).0 }; known = (deep w is.known).1 });
   }

@@ -5,8 +5,8 @@ use Rattle.lpc_base.specs.Rows.{change, first, has}
 use Rattle.lpc_base.specs.declared.status.TheConstants.{INVALID_CID, OBJECT_NAME_COLLISION}
 use Rattle.lpc_base.proofs.Bools.{first-off, second-off}
 use Rattle.lpc_base.proofs.RowWords.{first-behind}
-use Rattle.lpc_model.specs.World.{HandleRow, HandleTable, ObjectName, ThreadRow, World}
-use Rattle.lpc_model.specs.Found.{free_handle, is_live, is_table, process_name, rows_in, thread_name, was_process, was_thread}
+use Rattle.lpc_model.specs.World.{HandleRow, HandleTable, ObjectName, ThreadRow, Token, World}
+use Rattle.lpc_model.specs.Found.{free_handle, is_live, is_table, process_name, rows_in, thread_name, token_of, was_process, was_thread}
 use Rattle.lpc_model.specs.Basics.{AddsProcess, AddsThread, Basic, DrawsOrdinal, basic, no_handles, with_handle, world_after}
 use Rattle.lpc_model.specs.Lines.{ProcArg}
 use Rattle.lpc_model.specs.Targets.{LIFE_ACCESS, process_target}
@@ -27,7 +27,7 @@ tested-further w tid pid =
 
 -- the steps of a call that isn't refused: both numbers are new
 pub process-made : (P : List Basic → Type 0) (w : World) (by : ThreadRow) (pid tid : ℕ)
-    → (was_process w pid ≡ false → was_thread w tid ≡ false → P (create_process_steps by pid tid (free_handle w by.process) (second_handle w by)))
+    → (was_process w pid ≡ false → was_thread w tid ≡ false → P (create_process_steps by (token_of w by.process) pid tid (free_handle w by.process) (second_handle w by)))
     → Holds P (nt_create_process w by pid tid)
 unfolding nt_create_process
 process-made P w by pid tid all =
@@ -50,8 +50,8 @@ thread-made P w by target tid all =
 
 -- The worlds between
 -- behind what a thread draws, it makes
-abbrev pub booted : World → ThreadRow → ℕ → ℕ → World
-booted w by pid tid = basic (basic w (AddsProcess (new_process pid (Some by.process) (next_birth by)))) (AddsThread (new_thread tid pid (second_birth by)))
+abbrev pub booted : World → ThreadRow → Token → ℕ → ℕ → World
+booted w by token pid tid = basic (basic w (AddsProcess (new_process pid (Some by.process) (next_birth by) token))) (AddsThread (new_thread tid pid (second_birth by)))
 
 abbrev pub threaded : World → ThreadRow → ℕ → ℕ → World
 threaded w by tid pid = basic w (AddsThread (new_thread tid pid (next_birth by)))
@@ -65,9 +65,9 @@ rows-behind hs pid n h home =
 module _ (P : World → Type 0) (w : World) (by : ThreadRow) (c : CanCall w by) (draws : (v : World) → P v → P (basic v (DrawsOrdinal by.number)))
     (gives : (v : World) (o : ObjectName) → P v → P (basic v (gives_life by (free_handle v by.process) o))) where
   -- what each step keeps
-  pub process-keeps : (pid tid : ℕ) → (P (basic (basic w (DrawsOrdinal by.number)) (DrawsOrdinal by.number)) → P (booted (basic (basic w (DrawsOrdinal by.number)) (DrawsOrdinal by.number)) by pid tid)) → P w → P (world_after w (making_process w by pid tid))
+  pub process-keeps : (pid tid : ℕ) → (P (basic (basic w (DrawsOrdinal by.number)) (DrawsOrdinal by.number)) → P (booted (basic (basic w (DrawsOrdinal by.number)) (DrawsOrdinal by.number)) by (token_of w by.process) pid tid)) → P w → P (world_after w (making_process w by pid tid))
   process-keeps pid tid makes start =
-      let made : World = booted (basic (basic w (DrawsOrdinal by.number)) (DrawsOrdinal by.number)) by pid tid in
+      let made : World = booted (basic (basic w (DrawsOrdinal by.number)) (DrawsOrdinal by.number)) by (token_of w by.process) pid tid in
       let one : P made = makes (draws (basic w (DrawsOrdinal by.number)) (draws w start)) in
       let value = free_handle w by.process in
       let same : free_handle made by.process ≡ value = rw (first-behind (is_table by.process) w.handles (no_handles pid ∷ []) c.home) refl in

@@ -7,21 +7,22 @@ use Rattle.lpc_model.proofs.Steps.Sweep.{stepped}
 use Rattle.lpc_model.proofs.Calls.Holding.{bind_holds, directed_holds, holds_ok, not_refused, settled_holds}
 use Rattle.lpc_model.proofs.Calls.Outcomes.{Outcomes, service-does}
 use Rattle.lpc_model.proofs.Calls.Usable.{CanCall, can-call, live-number}
-use Rattle.lpc_model.specs.Basics.{AddsProcess, AddsThread, Basic, Binds, Tells, world_after}
-use Rattle.lpc_model.specs.Found.{is_live, live_thread, wait_of, was_process, was_thread}
-use Rattle.lpc_model.specs.Lines.{ScriptCall, ScriptLine, boot, dir, link, run, thread}
-use Rattle.lpc_model.specs.Machine.{bare_steps, boot_line, dir_line, directive_birth, link_line, name_of_call, new_process, new_thread, ready_steps, service_of, step, thread_line, thread_steps, thread_test, unused_test}
+use Rattle.lpc_model.specs.Basics.{AddsProcess, AddsThread, Basic, Binds, NamesToken, Tells, world_after}
+use Rattle.lpc_model.specs.Found.{is_live, live_thread, named_token, wait_of, was_process, was_thread}
+use Rattle.lpc_model.specs.Lines.{ScriptCall, ScriptLine, boot, dir, link, run, thread, token}
+use Rattle.lpc_model.specs.Machine.{bare_steps, boot_line, boot_steps, boot_token, token_line, dir_line, directive_birth, link_line, name_of_call, new_process, new_thread, ready_steps, service_of, step, thread_line, thread_steps, thread_test, unused_test}
 use Rattle.lpc_model.specs.Named.{free_name, spelled_name}
+use Rattle.lpc_model.specs.Refusal.{refuse_if}
 use Rattle.lpc_model.specs.SoundWaits.{HasShutConnects, IsSoundWorld}
 use Rattle.lpc_model.specs.Sweep.{sweep}
-use Rattle.lpc_model.specs.World.{Birth, Node, Path, ProcessRow, ThreadRow, WaitRow, World}
+use Rattle.lpc_model.specs.World.{Birth, Node, Path, ProcessRow, ThreadRow, Token, TokenName, WaitRow, World}
 use Rattle.lpc_model.specs.declared.entry.Entry.{Entry}
 use Rattle.lpc_model.specs.declared.entry.Entry.TheVariants as entry
 use Rattle.lpc_model.specs.declared.entry.Word.TheVariants as word
 use Rattle.lpc_names.specs.Walk.{LinkTo, Stands}
 use Rattle.lpc_names.specs.declared.names.Found.TheVariants.{Directory}
 use Rattle.std.proofs.Common.{Bool, List, None, Option, Some, [], false, refl, subst, sym, true, ℕ, ◌∷◌, ◌≡◌}
-use Rattle.std.specs.Prelude.{Ok, ◌||◌}
+use Rattle.std.specs.Prelude.{Ok, is_some, ◌||◌}
 
 -- an entry that shows nothing but a status
 abbrev pub shows_status : Entry → Bool
@@ -50,8 +51,9 @@ pub record LineLaw (C : World → Type 0) (P : ScriptLine → World → List Bas
   -- a line that is refused, or can't be run
   pub tells : (line : ScriptLine) (w : World) (e : Entry) → shows_status e ≡ true → P line w (Tells e ∷ [])
   pub calls : (by : ThreadRow) (w : World) → IsCalled C w by → Outcomes w by (λ call. P (run by.number call) w)
-  pub boots : (w : World) (pid tid : ℕ) → was_process w pid ≡ false → was_thread w tid ≡ false → IsSoundWorld w → C w → P (boot pid tid) w (Tells (entry.Directive word.Boot SUCCESS) ∷ AddsProcess (new_process pid None (directive_birth pid pid)) ∷ AddsThread (new_thread tid pid (directive_birth tid pid)) ∷ [])
+  pub boots : (w : World) (pid tid : ℕ) (name : Option (List ℕ)) (content : Token) → was_process w pid ≡ false → was_thread w tid ≡ false → IsSoundWorld w → C w → P (boot pid tid name) w (Tells (entry.Directive word.Boot SUCCESS) ∷ boot_steps pid tid content)
   pub threads : (w : World) (tid pid : ℕ) → is_live w pid ≡ true → was_thread w tid ≡ false → IsSoundWorld w → C w → P (thread tid pid) w (Tells (entry.Directive word.Thread SUCCESS) ∷ AddsThread (new_thread tid pid (directive_birth tid pid)) ∷ [])
+  pub names : (w : World) (name : List ℕ) (content : Token) → C w → P (token name content) w (Tells (entry.Directive word.Token SUCCESS) ∷ NamesToken (record { name = name; token = content }) ∷ [])
   pub dirs : (w : World) (text : List ℕ) (path : Path) → free_name w text ≡ Ok path → C w → P (dir text) w (Tells (entry.Directive word.Dir SUCCESS) ∷ Binds path (Stands Directory) ∷ [])
   pub links : (w : World) (text target : List ℕ) (path to : Path) → free_name w text ≡ Ok path → C w → P (link text target) w (Tells (entry.Directive word.Link SUCCESS) ∷ Binds path (LinkTo to) ∷ [])
 
@@ -72,14 +74,20 @@ module _ (C : World → Type 0) (P : ScriptLine → World → List Basic → Typ
 
   -- what a law says of the lines, before rows go
   pub line-does : (line : ScriptLine) → P line w (bare_steps line w)
-  unfolding bare_steps boot_line thread_line dir_line link_line
-  line-does (boot pid tid) =
-      let Q : List Basic → Type 0 = P (boot pid tid) w in
-      directed_holds Q word.Boot (boot_line w pid tid)
-      (bind_holds (unused_test w pid tid) _ (λ bs. Q (Tells (entry.Directive word.Boot SUCCESS) ∷ bs)) (λ u is.
+  unfolding bare_steps boot_line token_line thread_line dir_line link_line
+  line-does (boot pid tid name) =
+      let Q : List Basic → Type 0 = P (boot pid tid name) w in
+      directed_holds Q word.Boot (boot_line w pid tid name)
+      (bind_holds (boot_token w name) _ (λ bs. Q (Tells (entry.Directive word.Boot SUCCESS) ∷ bs)) (λ content _.
+      bind_holds (unused_test w pid tid) _ (λ bs. Q (Tells (entry.Directive word.Boot SUCCESS) ∷ bs)) (λ u is.
       let neither = not_refused (was_process w pid || was_thread w tid) OBJECT_NAME_COLLISION u is in
-      k.boots w pid tid (first-off (was_process w pid) (was_thread w tid) neither) (second-off (was_process w pid) (was_thread w tid) neither) s more))
-      (λ e. k.tells (boot pid tid) w _ refl)
+      k.boots w pid tid name content (first-off (was_process w pid) (was_thread w tid) neither) (second-off (was_process w pid) (was_thread w tid) neither) s more)))
+      (λ e. k.tells (boot pid tid name) w _ refl)
+  line-does (token name content) =
+      let Q : List Basic → Type 0 = P (token name content) w in
+      directed_holds Q word.Token (token_line w name content)
+      (bind_holds (refuse_if (is_some (named_token w name)) OBJECT_NAME_COLLISION) _ (λ bs. Q (Tells (entry.Directive word.Token SUCCESS) ∷ bs)) (λ _ _. k.names w name content more))
+      (λ e. k.tells (token name content) w _ refl)
   line-does (thread tid pid) =
       let Q : List Basic → Type 0 = P (thread tid pid) w in
       directed_holds Q word.Thread (thread_line w tid pid)
@@ -107,13 +115,15 @@ pub record PassDirectives (p : Basic → Bool) : Type 0 where
   pub processes : (r : ProcessRow) → p (AddsProcess r) ≡ true
   pub threads : (tid pid : ℕ) (birth : Birth) → p (AddsThread (new_thread tid pid birth)) ≡ true
   pub binds : (path : Path) (node : Node Birth) → p (Binds path node) ≡ true
+  pub names : (n : TokenName) → p (NamesToken n) ≡ true
 
 pub passing-lines : (C : World → Type 0) (P : World → List Basic → Type 0) (p : World → Basic → Bool) → ((w : World) (bs : List Basic) → every (p w) bs ≡ true → P w bs) → ((w : World) → PassDirectives (p w)) → ((by : ThreadRow) (w : World) → IsCalled C w by → Outcomes w by (λ _. P w)) → LineLaw C (λ _. P)
 passing-lines C P p holds passes calls = record {
   tells = λ line w e _. holds w _ (let d = passes w in let one = d.tells e in rw one refl);
   calls = calls;
-  boots = λ w pid tid new unused s more. holds w _ (let d = passes w in rw (d.tells (entry.Directive word.Boot SUCCESS), d.processes (new_process pid None (directive_birth pid pid)), d.threads tid pid (directive_birth tid pid)) refl);
+  boots = λ w pid tid name content new unused s more. holds w _ (let d = passes w in rw (d.tells (entry.Directive word.Boot SUCCESS), d.processes (new_process pid None (directive_birth pid pid) content), d.threads tid pid (directive_birth tid pid)) refl);
   threads = λ w tid pid live unused s more. holds w _ (let d = passes w in rw (d.tells (entry.Directive word.Thread SUCCESS), d.threads tid pid (directive_birth tid pid)) refl);
+  names = λ w name content more. holds w _ (let d = passes w in rw (d.tells (entry.Directive word.Token SUCCESS), d.names (record { name = name; token = content })) refl);
   dirs = λ w text path free more. holds w _ (let d = passes w in rw (d.tells (entry.Directive word.Dir SUCCESS), d.binds path (Stands Directory)) refl);
   links = λ w text target path to free more. holds w _ (let d = passes w in rw (d.tells (entry.Directive word.Link SUCCESS), d.binds path (LinkTo to)) refl);
 }

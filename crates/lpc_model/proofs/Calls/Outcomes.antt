@@ -2,36 +2,39 @@
 -- and nowhere else; what holds of each outcome holds of each call.
 use Rattle.lpc_base.specs.Rows.{first, when}
 use Rattle.lpc_base.specs.declared.status.Status.{Status}
-use Rattle.lpc_base.specs.declared.status.TheConstants.{INVALID_CID, INVALID_HANDLE, INVALID_PORT_HANDLE, SUCCESS, ACCESS_VIOLATION, INVALID_PARAMETER_4, MAPPED_ALIGNMENT, NOT_MAPPED_VIEW, SECTION_PROTECTION, SECTION_TOO_BIG}
+use Rattle.lpc_base.specs.declared.status.TheConstants.{INVALID_CID, INVALID_HANDLE, INVALID_PARAMETER, INVALID_PORT_HANDLE, REPLY_MESSAGE_MISMATCH, SUCCESS, ACCESS_VIOLATION, INVALID_PARAMETER_4, MAPPED_ALIGNMENT, NOT_MAPPED_VIEW, SECTION_PROTECTION, SECTION_TOO_BIG}
 use Rattle.lpc_message.specs.declared.kind.TheConstants.{DATAGRAM, REQUEST}
 use Rattle.lpc_model.proofs.Calls.Creating.{process-made, tested-further}
 use Rattle.lpc_model.proofs.Steps.Ending.{answered_end}
 use Rattle.lpc_model.proofs.Calls.Holding.{Holds, bind_holds, found_ok, holds_ok, not_refused}
 use Rattle.lpc_model.specs.Basics.{Basic, Registers, Tells}
 use Rattle.lpc_model.specs.Close.{close_steps, nt_close}
-use Rattle.lpc_model.specs.Connect.{Completable, ConnectAnswer, accept_steps, answer_test, answered_steps, complete_steps, complete_test, connect_steps, connection_request, create_steps, info_test, listen_steps, making, named_steps, nt_accept_connect_port, nt_complete_connect_port, nt_connect_port, nt_create_port, nt_listen_port, refuse_steps, unnamed_steps}
+use Rattle.lpc_model.specs.Impersonation.{THREAD_IMPERSONATION_TOKEN, allowed_by, held_content, impersonate_steps, is_served_by, nt_impersonate_client_of_port, nt_open_process_token, nt_open_thread_token, nt_query_information_token, nt_set_information_thread, own_test, process_content, revert_steps, told_of, told_steps, token_steps, token_test}
+use Rattle.lpc_model.specs.Connect.{Completable, ConnectAnswer, accept_steps, access_test, allow_steps, guard_steps, answer_test, complete_steps, complete_test, connect_steps, connection_request, create_steps, info_test, listen_steps, making, named_steps, nt_accept_connect_port, nt_complete_connect_port, nt_connect_port, nt_create_port, nt_listen_port, refuse_steps, unnamed_steps}
 use Rattle.lpc_model.specs.Counts.{asked, counts_of, duplicate_steps, nt_duplicate_object, nt_query_object, rights_test}
 use Rattle.lpc_model.specs.Creation.{making_process, making_thread, nt_create_thread, thread_test}
 use Rattle.lpc_model.specs.Death.{code_status, nt_terminate_process, nt_terminate_thread}
-use Rattle.lpc_model.specs.Found.{free_handle, handle_at, is_connection_port, is_live, is_queued, is_queued_connect, live_threads, was_process, was_thread, view_holding}
-use Rattle.lpc_model.specs.Lines.{ProcArg, ScriptCall, accept_connect_port, close, complete_connect_port, connect_port, create_port, create_process, create_thread, duplicate_object, listen_port, query_object, register_thread_terminate_port, reply_port, reply_wait_receive_port, request_port, request_wait_reply_port, terminate_process, terminate_thread, create_section, map_view_of_section, unmap_view_of_section, read_virtual_memory, write_virtual_memory, read_request_data, write_request_data}
+use Rattle.lpc_model.specs.Found.{free_handle, handle_at, is_connection_port, is_live, is_queued, is_queued_connect, is_server_port, live_threads, was_process, was_thread, view_holding}
+use Rattle.lpc_model.specs.Lines.{ProcArg, ScriptCall, accept_connect_port, close, complete_connect_port, connect_port, create_port, create_process, create_thread, duplicate_object, listen_port, query_object, register_thread_terminate_port, reply_port, reply_wait_receive_port, request_port, request_wait_reply_port, terminate_process, terminate_thread, create_section, map_view_of_section, unmap_view_of_section, read_virtual_memory, write_virtual_memory, read_request_data, write_request_data, impersonate_client_of_port, set_information_thread, open_thread_token, open_process_token, query_information_token, ViewWord}
 use Rattle.lpc_model.specs.Machine.{service_of}
 use Rattle.lpc_base.specs.Views.{whole_pages}
 use Rattle.lpc_base.specs.declared.limits.TheConstants.{PAGE_SIZE, SECTION_LIMIT}
 use Rattle.lpc_model.specs.Memory.{PAGE_READWRITE, base_test, map_steps, mapped_view, mapping_right, memory_test, nt_create_section, nt_map_view_of_section, nt_read_virtual_memory, nt_unmap_view_of_section, nt_write_virtual_memory, protection_test, read_steps, section_load_test, section_steps, section_test, size_test, unmap_steps, write_steps}
 use Rattle.lpc_model.specs.Message.{message_test}
+use Rattle.lpc_model.specs.Offers.{SharedViews, Wanted, if_given, offer_test, shared_test, view_test, wanted_test}
 use Rattle.lpc_model.specs.Named.{free_name, named_port}
 use Rattle.lpc_model.specs.Ranges.{Described, described_test, nt_read_request_data, nt_write_request_data, read_range_steps, write_range_steps}
 use Rattle.lpc_model.specs.Refusal.{refuse_if, found_or}
 use Rattle.lpc_model.specs.Register.{is_registered, nt_register_thread_terminate_port, registration_test}
 use Rattle.lpc_model.specs.Request.{Sendable, datagram_send_test, datagram_steps, given_reply, nt_reply_port, nt_reply_wait_receive_port, nt_request_port, nt_request_wait_reply_port, optional_message, receive_steps, receive_test, reply_steps, reply_test, request_steps, send_test, sent_by}
 use Rattle.lpc_model.specs.Targets.{process_target, thread_target}
-use Rattle.lpc_model.specs.Tests.{handles_test, live_test, next_birth, own_handle, port_test}
-use Rattle.lpc_model.specs.World.{Birth, HandleRow, Message, MessageRow, Path, PortRow, ThreadRow, WaitRow, World, SectionRow, ViewRow}
+use Rattle.lpc_model.specs.Tests.{client_test, handles_test, live_test, next_birth, own_handle, port_test}
+use Rattle.lpc_model.specs.World.{Birth, Dacl, HandleRow, Impersonation, Qos, TokenRow, Message, MessageRow, Offer, Path, PortRow, ThreadRow, WaitRow, World, SectionRow, ViewRow}
 use Rattle.lpc_model.specs.declared.entry.CallName.{CallName}
-use Rattle.lpc_model.specs.declared.entry.CallName.TheVariants.{NtQueryObject, NtRegisterThreadTerminatePort, NtTerminateProcess, NtTerminateThread}
+use Rattle.lpc_model.specs.declared.entry.CallName.TheVariants.{NtOpenProcessToken, NtOpenThreadToken, NtQueryObject, NtRegisterThreadTerminatePort, NtTerminateProcess, NtTerminateThread}
 use Rattle.lpc_model.specs.declared.entry.Entry.TheVariants.{Answer}
-use Rattle.std.proofs.Common.{Bool, List, None, Option, Some, [], false, not, refl, true, ℕ, ◌∷◌, ◌≡◌}
+use Rattle.lpc_model.specs.declared.entry.Field.{Field}
+use Rattle.std.proofs.Common.{Bool, List, None, Option, Some, [], false, not, refl, true, ℕ, ◌++◌, ◌∷◌, ◌≡◌}
 use Rattle.std.proofs.lemmas.Bool.{eqb-true, not-false}
 use Rattle.std.specs.Prelude.{Ok, ◌%◌, ◌&&◌, ◌==◌, length, nat_lt}
 
@@ -46,6 +49,32 @@ pub record IsReceiving (w : World) (by : ThreadRow) (handle : ℕ) (bytes : Opti
   pub message_read : optional_message bytes ≡ Ok o
   pub queue_found : receive_test w port ≡ Ok queue
   pub reply_made : given_reply w port o ≡ Ok replied
+
+-- the tests of a connect find what it offers, the view of that, and the connection port
+pub record IsConnecting (w : World) (by : ThreadRow) (name : List ℕ) (view : Option ViewWord) (offer : Option Offer) (own : Option ViewRow) (connection : Birth) : Type 0 where
+  pub wanted : Option Wanted
+  pub wanted_found : if_given (wanted_test w by) view ≡ Ok wanted
+  pub offer_made : if_given offer_test wanted ≡ Ok offer
+  pub port_named : named_port w name ≡ Ok connection
+  pub view_placed : if_given (view_test w by.process (next_birth by)) offer ≡ Ok own
+
+-- the tests of an accept find what it offers, the connect that it answers, and the views of the connection
+pub record IsAccepting (w : World) (by : ThreadRow) (bytes : List ℕ) (view : Option ViewWord) (offer : Option Offer) (a : ConnectAnswer) (views : SharedViews) : Type 0 where
+  pub wanted : Option Wanted
+  pub wanted_found : if_given (wanted_test w by) view ≡ Ok wanted
+  pub answered : answer_test w by bytes ≡ Ok a
+  pub offer_made : if_given offer_test wanted ≡ Ok offer
+  pub views_placed : shared_test w by a.wait offer ≡ Ok views
+
+-- the tests of an impersonation find the port, the message, and the request that it names, whose port allows a token
+pub record IsAllowed (w : World) (by : ThreadRow) (handle : ℕ) (bytes : List ℕ) (own : Impersonation) : Type 0 where
+  pub port : PortRow
+  pub message : Message
+  pub wait : WaitRow
+  pub port_found : port_test w by handle ≡ Ok port
+  pub message_read : message_test bytes ≡ Ok message
+  pub wait_found : first (is_served_by port message) w.waits ≡ Some wait
+  pub token_found : allowed_by w wait ≡ Some own
 
 -- the tests of a creation find a protection, and a size that a section may have
 pub record IsBuilding (size prot : ℕ) : Type 0 where
@@ -80,14 +109,14 @@ end_call (of_process target code) = terminate_process target code
 -- What calls of a thread come to in a world, each with its steps
 pub record Outcomes (w : World) (by : ThreadRow) (P : ScriptCall → List Basic → Type 0) : Type 0 where
   -- a port is made, without a name and with one
-  pub creates : P (create_port None) (create_steps by (unnamed_steps (next_birth by)) (free_handle w by.process))
-  pub founds : (name : List ℕ) (path : Path) → free_name w name ≡ Ok path → P (create_port (Some name)) (create_steps by (named_steps (next_birth by) path) (free_handle w by.process))
+  pub creates : (dacl : Option Dacl) → P (create_port None dacl) (create_steps by (unnamed_steps (next_birth by)) (free_handle w by.process))
+  pub founds : (name : List ℕ) (dacl : Option Dacl) (path : Path) → free_name w name ≡ Ok path → P (create_port (Some name) dacl) (create_steps by (named_steps (next_birth by) path) (free_handle w by.process) ++ guard_steps (next_birth by) (Some name) dacl)
   -- a connect is made, listened for, refused, accepted, completed
-  pub connects : (name bytes : List ℕ) (connection : Birth) → named_port w name ≡ Ok connection → P (connect_port name bytes) (connect_steps by connection (connection_request by bytes) w)
+  pub connects : (name : List ℕ) (quality : Qos) (view : Option ViewWord) (bytes : List ℕ) (offer : Option Offer) (own : Option ViewRow) (connection : Birth) → IsConnecting w by name view offer own connection → P (connect_port name quality view bytes) (connect_steps by connection offer own (connection_request by offer bytes) w ++ allow_steps w by quality)
   pub listens : (handle : ℕ) (port : PortRow) (m : MessageRow) → IsListening w by handle port → first (is_queued_connect port.birth) w.messages ≡ Some m → P (listen_port handle) (listen_steps by port.birth (Some m))
   pub awaits_connect : (handle : ℕ) (port : PortRow) → IsListening w by handle port → first (is_queued_connect port.birth) w.messages ≡ None → P (listen_port handle) (listen_steps by port.birth None)
-  pub refuses : (context : ℕ) (bytes : List ℕ) (a : ConnectAnswer) → answer_test w by bytes ≡ Ok a → P (accept_connect_port context bytes false) (refuse_steps by a)
-  pub accepts : (context : ℕ) (bytes : List ℕ) (a : ConnectAnswer) → answer_test w by bytes ≡ Ok a → P (accept_connect_port context bytes true) (accept_steps by context (free_handle w by.process) a)
+  pub refuses : (context : ℕ) (bytes : List ℕ) (view : Option ViewWord) (a : ConnectAnswer) → answer_test w by bytes ≡ Ok a → P (accept_connect_port context bytes false view) (refuse_steps by a)
+  pub accepts : (context : ℕ) (bytes : List ℕ) (view : Option ViewWord) (offer : Option Offer) (a : ConnectAnswer) (views : SharedViews) → IsAccepting w by bytes view offer a views → P (accept_connect_port context bytes true view) (accept_steps by context (free_handle w by.process) a views)
   pub completes : (handle : ℕ) (c : Completable) → complete_test w by handle ≡ Ok c → P (complete_connect_port handle) (complete_steps by (free_handle w c.wait.process) c)
   -- a message is sent, and its sender goes on or waits
   pub sends : (handle : ℕ) (bytes : List ℕ) (s : Sendable) → datagram_send_test w by handle bytes ≡ Ok s → P (request_port handle bytes) (datagram_steps by s.port s.queue (sent_by by DATAGRAM s.message) w)
@@ -115,29 +144,40 @@ pub record Outcomes (w : World) (by : ThreadRow) (P : ScriptCall → List Basic 
   -- and so are ranges that a request describes
   pub reads_range : (handle : ℕ) (bytes : List ℕ) (index n : ℕ) (d : Described) → described_test w by handle bytes index n ≡ Ok d → P (read_request_data handle bytes index n) (read_range_steps w.contents by n d)
   pub writes_range : (handle : ℕ) (bytes : List ℕ) (index : ℕ) (new : List ℕ) (d : Described) → described_test w by handle bytes index (length new) ≡ Ok d → d.view.writable ≡ true → P (write_request_data handle bytes index new) (write_range_steps by new d)
+  -- a thread acts as its client, and as itself again; a token is made as an object, and asked
+  pub impersonates : (handle : ℕ) (bytes : List ℕ) (own : Impersonation) → IsAllowed w by handle bytes own → P (impersonate_client_of_port handle bytes) (impersonate_steps by own)
+  pub reverts : (class : ℕ) → P (set_information_thread class) (revert_steps by)
+  pub opens_own : (own : Impersonation) → own_test by ≡ Ok own → P open_thread_token (token_steps by NtOpenThreadToken (held_content own) (free_handle w by.process))
+  pub opens_primary : P open_process_token (token_steps by NtOpenProcessToken (process_content w by) (free_handle w by.process))
+  pub asks_token : (handle class : ℕ) (t : TokenRow) (field : Field) → token_test w by handle ≡ Ok t → told_of t class ≡ Some field → P (query_information_token handle class) (told_steps by field)
   -- threads end, the caller itself (own) or others
   pub ends : (call : EndCall) (name : CallName) (own : Bool) (pid : ℕ) (code : Status) (ts : List ThreadRow) → AreDoomed w by own pid ts → P (end_call call) (answered_end by name own pid code ts w)
 
 -- The calls
 module _ (w : World) (by : ThreadRow) (P : ScriptCall → List Basic → Type 0) (o : Outcomes w by P) where
-  making-does : (name : Option (List ℕ)) → Holds (λ made. P (create_port name) (create_steps by made (free_handle w by.process))) (making w (next_birth by) name)
-  making-does None = o.creates
-  making-does (Some name) = bind_holds (free_name w name) _ (λ made. P (create_port (Some name)) (create_steps by made (free_handle w by.process))) (λ path free. o.founds name path free)
+  making-does : (name : Option (List ℕ)) (dacl : Option Dacl) → Holds (λ made. P (create_port name dacl) (create_steps by made (free_handle w by.process) ++ guard_steps (next_birth by) name dacl)) (making w (next_birth by) name)
+  making-does None dacl = o.creates dacl
+  making-does (Some name) dacl = bind_holds (free_name w name) _ (λ made. P (create_port (Some name) dacl) (create_steps by made (free_handle w by.process) ++ guard_steps (next_birth by) (Some name) dacl)) (λ path free. o.founds name dacl path free)
 
-  create-does : (name : Option (List ℕ)) → Holds (P (create_port name)) (nt_create_port w by name)
+  create-does : (name : Option (List ℕ)) (dacl : Option Dacl) → Holds (P (create_port name dacl)) (nt_create_port w by name dacl)
   unfolding nt_create_port
-  create-does name =
-      bind_holds (making w (next_birth by) name) _ (P (create_port name)) (λ made at.
-      bind_holds (handles_test w by.process 1) _ (P (create_port name)) (λ _ _.
-      holds_ok (λ made. P (create_port name) (create_steps by made (free_handle w by.process))) (making w (next_birth by) name) made (making-does name) at))
+  create-does name dacl =
+      bind_holds (making w (next_birth by) name) _ (P (create_port name dacl)) (λ made at.
+      bind_holds (handles_test w by.process 1) _ (P (create_port name dacl)) (λ _ _.
+      holds_ok (λ made. P (create_port name dacl) (create_steps by made (free_handle w by.process) ++ guard_steps (next_birth by) name dacl)) (making w (next_birth by) name) made (making-does name dacl) at))
 
-  connect-does : (name bytes : List ℕ) → Holds (P (connect_port name bytes)) (nt_connect_port w by name bytes)
+  connect-does : (name : List ℕ) (quality : Qos) (view : Option ViewWord) (bytes : List ℕ) → Holds (P (connect_port name quality view bytes)) (nt_connect_port w by name quality view bytes)
   unfolding nt_connect_port
-  connect-does name bytes =
-      let Q = P (connect_port name bytes) in
+  connect-does name quality view bytes =
+      let Q = P (connect_port name quality view bytes) in
+      bind_holds (if_given (wanted_test w by) view) _ Q (λ wanted found.
       bind_holds (info_test bytes) _ Q (λ _ _.
+      bind_holds (if_given offer_test wanted) _ Q (λ offer made.
       bind_holds (named_port w name) _ Q (λ connection at.
-      bind_holds (handles_test w by.process 1) _ Q (λ _ _. o.connects name bytes connection at)))
+      bind_holds (access_test w by connection) _ Q (λ _ _.
+      bind_holds (handles_test w by.process 1) _ Q (λ _ _.
+      bind_holds (if_given (view_test w by.process (next_birth by)) offer) _ Q (λ own placed.
+      o.connects name quality view bytes offer own connection (record { wanted = wanted; wanted_found = found; offer_made = made; port_named = at; view_placed = placed }))))))))
 
   listened-does : (handle : ℕ) (port : PortRow) (m : Option MessageRow) → IsListening w by handle port → first (is_queued_connect port.birth) w.messages ≡ m → P (listen_port handle) (listen_steps by port.birth m)
   listened-does handle port (Some m) l at = o.listens handle port m l at
@@ -151,13 +191,17 @@ module _ (w : World) (by : ThreadRow) (P : ScriptCall → List Basic → Type 0)
       bind_holds (refuse_if (not (is_connection_port port)) INVALID_PORT_HANDLE) _ Q (λ u off.
       listened-does handle port (first (is_queued_connect port.birth) w.messages) (record { port_found = at; kind = not-false (is_connection_port port) (not_refused _ INVALID_PORT_HANDLE u off) }) refl))
 
-  accept-does : (context : ℕ) (bytes : List ℕ) (accept : Bool) → Holds (P (accept_connect_port context bytes accept)) (nt_accept_connect_port w by context bytes accept)
+  accept-does : (context : ℕ) (bytes : List ℕ) (accept : Bool) (view : Option ViewWord) → Holds (P (accept_connect_port context bytes accept view)) (nt_accept_connect_port w by context bytes accept view)
   unfolding nt_accept_connect_port
-  accept-does context bytes accept = bind_holds (answer_test w by bytes) _ (P (accept_connect_port context bytes accept)) (λ a at. answered accept a at)
-    where
-      answered : (accept : Bool) (a : ConnectAnswer) → answer_test w by bytes ≡ Ok a → Holds (P (accept_connect_port context bytes accept)) (answered_steps w by context accept a)
-      answered false a at = o.refuses context bytes a at
-      answered true a at = bind_holds (handles_test w by.process 1) _ (P (accept_connect_port context bytes true)) (λ _ _. o.accepts context bytes a at)
+  accept-does context bytes false view = bind_holds (answer_test w by bytes) _ (P (accept_connect_port context bytes false view)) (λ a at. o.refuses context bytes view a at)
+  accept-does context bytes true view =
+      let Q = P (accept_connect_port context bytes true view) in
+      bind_holds (if_given (wanted_test w by) view) _ Q (λ wanted found.
+      bind_holds (answer_test w by bytes) _ Q (λ a at.
+      bind_holds (if_given offer_test wanted) _ Q (λ offer made.
+      bind_holds (handles_test w by.process 1) _ Q (λ _ _.
+      bind_holds (shared_test w by a.wait offer) _ Q (λ views placed.
+      o.accepts context bytes view offer a views (record { wanted = wanted; wanted_found = found; answered = at; offer_made = made; views_placed = placed }))))))
 
   complete-does : (handle : ℕ) → Holds (P (complete_connect_port handle)) (nt_complete_connect_port w by handle)
   unfolding nt_complete_connect_port
@@ -303,11 +347,51 @@ module _ (w : World) (by : ThreadRow) (P : ScriptCall → List Basic → Type 0)
       bind_holds (described_test w by handle bytes index (length new)) _ Q (λ d at.
       bind_holds (refuse_if (not d.view.writable) ACCESS_VIOLATION) _ Q (λ u off. o.writes_range handle bytes index new d at (not-false d.view.writable (not_refused (not d.view.writable) ACCESS_VIOLATION u off))))
 
+  impersonate-does : (handle : ℕ) (bytes : List ℕ) → Holds (P (impersonate_client_of_port handle bytes)) (nt_impersonate_client_of_port w by handle bytes)
+  unfolding nt_impersonate_client_of_port
+  impersonate-does handle bytes =
+      let Q = P (impersonate_client_of_port handle bytes) in
+      bind_holds (port_test w by handle) _ Q (λ port at.
+      bind_holds (message_test bytes) _ Q (λ m read.
+      bind_holds (refuse_if (not (is_server_port port)) INVALID_PORT_HANDLE) _ Q (λ _ _.
+      bind_holds (client_test w m.header.client) _ Q (λ _ _.
+      bind_holds (found_or (first (is_served_by port m) w.waits) REPLY_MESSAGE_MISMATCH) _ Q (λ x wait.
+      bind_holds (found_or (allowed_by w x) REPLY_MESSAGE_MISMATCH) _ Q (λ own found. o.impersonates handle bytes own (record {
+        port = port;
+        message = m;
+        wait = x;
+        port_found = at;
+        message_read = read;
+        wait_found = found_ok (first (is_served_by port m) w.waits) REPLY_MESSAGE_MISMATCH x wait;
+        token_found = found_ok (allowed_by w x) REPLY_MESSAGE_MISMATCH own found;
+      })))))))
+
+  revert-does : (class : ℕ) → Holds (P (set_information_thread class)) (nt_set_information_thread w by class)
+  unfolding nt_set_information_thread
+  revert-does class = bind_holds (refuse_if (not (class == THREAD_IMPERSONATION_TOKEN)) INVALID_PARAMETER) _ (P (set_information_thread class)) (λ _ _. o.reverts class)
+
+  own-token-does : Holds (P open_thread_token) (nt_open_thread_token w by)
+  unfolding nt_open_thread_token
+  own-token-does =
+      bind_holds (own_test by) _ (P open_thread_token) (λ own at.
+      bind_holds (handles_test w by.process 1) _ (P open_thread_token) (λ _ _. o.opens_own own at))
+
+  process-token-does : Holds (P open_process_token) (nt_open_process_token w by)
+  unfolding nt_open_process_token
+  process-token-does = bind_holds (handles_test w by.process 1) _ (P open_process_token) (λ _ _. o.opens_primary)
+
+  query-token-does : (handle class : ℕ) → Holds (P (query_information_token handle class)) (nt_query_information_token w by handle class)
+  unfolding nt_query_information_token
+  query-token-does handle class =
+      let Q = P (query_information_token handle class) in
+      bind_holds (token_test w by handle) _ Q (λ t at.
+      bind_holds (found_or (told_of t class) INVALID_PARAMETER) _ Q (λ field found. o.asks_token handle class t field at (found_ok (told_of t class) INVALID_PARAMETER field found)))
+
   pub service-does : (call : ScriptCall) → Holds (P call) (service_of w by call)
-  service-does (create_port name) = create-does name
-  service-does (connect_port name bytes) = connect-does name bytes
+  service-does (create_port name dacl) = create-does name dacl
+  service-does (connect_port name quality view bytes) = connect-does name quality view bytes
   service-does (listen_port handle) = listen-does handle
-  service-does (accept_connect_port context bytes accept) = accept-does context bytes accept
+  service-does (accept_connect_port context bytes accept view) = accept-does context bytes accept view
   service-does (complete_connect_port handle) = complete-does handle
   service-does (request_port handle bytes) = datagram-does handle bytes
   service-does (request_wait_reply_port handle bytes) = request-does handle bytes
@@ -328,3 +412,8 @@ module _ (w : World) (by : ThreadRow) (P : ScriptCall → List Basic → Type 0)
   service-does (write_virtual_memory address new) = write-does address new
   service-does (read_request_data handle bytes index n) = read-range-does handle bytes index n
   service-does (write_request_data handle bytes index new) = write-range-does handle bytes index new
+  service-does (impersonate_client_of_port handle bytes) = impersonate-does handle bytes
+  service-does (set_information_thread class) = revert-does class
+  service-does open_thread_token = own-token-does
+  service-does open_process_token = process-token-does
+  service-does (query_information_token handle class) = query-token-does handle class

@@ -8,9 +8,9 @@ use Rattle.lpc_base.proofs.Bools.{same-number}
 use Rattle.lpc_model.specs.declared.entry.ObjectKind.TheVariants as kind
 use Rattle.lpc_model.specs.World.{Birth, ObjectKind, PortRow, ThreadRow, World}
 use Rattle.lpc_model.specs.Found.{is_port}
-use Rattle.lpc_model.specs.Basics.{Awaits, Basic, Completes, Cuts, Frees, Joins, Makes, basic, completed, cut, freed, is_end_of, joined, paired, world_after}
+use Rattle.lpc_model.specs.Basics.{Awaits, Basic, Completes, Cuts, Frees, Joins, Makes, basic, completed, cut, freed, is_end_of, joined, paired, world_after, Secures, secured}
 use Rattle.lpc_model.specs.Entering.{enter, received_steps, row_of}
-use Rattle.lpc_model.specs.Connect.{client_port, connect_start, connection_request}
+use Rattle.lpc_model.specs.Connect.{client_port, connection_request}
 use Rattle.lpc_model.specs.Close.{close_handle}
 use Rattle.lpc_model.specs.Creators.{KeepsConnects, keeps_connect}
 use Rattle.lpc_model.specs.Death.{die}
@@ -23,6 +23,7 @@ use Rattle.lpc_model.proofs.Steps.Ending.{AreEnding, die-ending, ending-enter, e
 use Rattle.lpc_model.proofs.Calls.Lines.{AnyWorld, Shut, LineLaw, line-does, passing-lines}
 use Rattle.lpc_model.proofs.Sound.Terminate.{IsSafe}
 use Rattle.lpc_model.proofs.Steps.InTurn.{steps-keep}
+use Rattle.lpc_model.proofs.Calls.Sharing.{connect_begun}
 
 -- Basic steps
 -- a step makes no client port without them
@@ -52,6 +53,7 @@ keeping-step w (Joins client server context) is k =
     (every-more keeps_connect (λ p. keeps_connect (joined client server context p)) (λ p is. rw (joined-keeps client server context p) is) w.ports k)
 keeping-step w (Completes b) is k = every-change keeps_connect (is_port b) completed (λ p is. is) w.ports k
 keeping-step w (Cuts b) is k = every-change keeps_connect (is_end_of b) cut (λ p is. is) w.ports k
+keeping-step w (Secures b s) is k = every-change keeps_connect (is_port b) (secured s) (λ p is. is) w.ports k
 keeping-step w (Frees o) is k = freed-keeps w o.kind o.birth k
 keeping-step w b is k = k
 
@@ -81,30 +83,34 @@ keeping-law by = record {
   asks = λ w x m off wait post. let v = basic w (Awaits x) in ended-keeps (enter m v) (ending-enter m v);
   creates = λ w is. refl;
   founds = λ w name path free is. refl;
-  connects = λ w connection bytes opens is.
-      let m = connection_request by bytes in
+  connects = λ w connection offer bytes opens offers is.
+      let m = connection_request by offer bytes in
       let row = row_of connection (client_port by connection) m in
-      let v = world_after w (connect_start by connection m) in
+      let v = world_after w (connect_begun by connection offer m) in
       and_from (keeps_connect (client_port by connection)) _ (rw (same-number by.number) refl) (ended-keeps (enter row v) (ending-enter row v));
   gives = λ w pid o access is. refl;
-  accepts = λ w context m x at is. refl;
+  accepts = λ w context m x a at is. refl;
   completes = λ w c is. refl;
   registers = λ w b stands. refl;
-  spawns = λ w pid tid new unused s. refl;
+  spawns = λ w pid tid token new unused s. refl;
   starts = λ w tid pid live unused s. refl;
   closes = λ w pid r at s _. ended-keeps (close_handle pid r w) (handle-ending pid r w);
   dies = λ w code t is. ended-keeps (die code t w) (die-ending code t w);
   leaves = λ w n b. refl;
   vacates = λ w pid. refl;
+  disowns = λ w b. refl;
+  secures = λ w b s. refl;
+  acts = λ w own. refl;
+  holds_token = λ w content. refl;
   builds = λ w size prot is. refl;
-  maps = λ w handle offset size prot s rounded base m. refl;
+  maps = λ w pid v m. refl;
   unmaps = λ w pid base. refl;
   writes = λ w b place new. refl;
 }
 
 -- Lines
 keeping-lines : LineLaw (Shut AnyWorld) (λ _ _. AreKeeping)
-keeping-lines = passing-lines (Shut AnyWorld) (λ _. AreKeeping) (λ _. is_keeping) (λ w bs all. all) (λ w. record { tells = λ _. refl; processes = λ _. refl; threads = λ _ _ _. refl; binds = λ _ _. refl }) (λ by. outcomes by (Shut AnyWorld) AnyWorld (λ _. AreKeeping) (keeping-law by) (λ w c. c))
+keeping-lines = passing-lines (Shut AnyWorld) (λ _. AreKeeping) (λ _. is_keeping) (λ w bs all. all) (λ w. record { tells = λ _. refl; processes = λ _. refl; threads = λ _ _ _. refl; binds = λ _ _. refl; names = λ _. refl }) (λ by. outcomes by (Shut AnyWorld) AnyWorld (λ _. AreKeeping) (keeping-law by) (λ w c. c))
 
 pub keeps_step : (w : World) (line : ScriptLine) → IsSafe w → KeepsConnects w → KeepsConnects (step w line).world
 keeps_step w line is k =

@@ -8,7 +8,7 @@ use Rattle.lpc_base.proofs.RowMaps.{every-both, every-first, every-without_first
 use Rattle.lpc_base.proofs.Births.{birth-same, births-apart}
 use Rattle.lpc_base.proofs.Bools.{apart-second}
 use Rattle.lpc_model.specs.declared.entry.ObjectKind.TheVariants as kind
-use Rattle.lpc_model.specs.World.{Birth, HandleRow, HandleTable, MessageRow, ObjectKind, WaitRow, World}
+use Rattle.lpc_model.specs.World.{Acceptance, Birth, HandleRow, HandleTable, MessageRow, ObjectKind, WaitRow, World}
 use Rattle.lpc_model.specs.Found.{has_handle_to, has_value, is_connect, is_open, is_own_of, is_port, is_queued, is_queued_connect, is_sent_on, is_table, names_port, port_name, same_birth, same_kind, waits_as, waits_at}
 use Rattle.lpc_model.specs.Basics.{Accepts, AddsHandle, AddsProcess, Awaits, Basic, Dies, DropsHandle, Empties, Enters, Frees, Receives, Takes, TakesConnect, Tells, Wakes, Withdraws, accepted, basic, freed, no_handles, put_handle, received, with_handle, without_handle, world_after}
 use Rattle.lpc_model.specs.Tests.{handle_row}
@@ -83,17 +83,17 @@ mute-once b ms m off few = sum (count (is_closing_of b) ms) _ (is_sent_on b m) (
 other-connect : (b : Birth) (x : WaitRow) → not (is_connect x) ≡ true → is_connect_on b x ≡ false
 other-connect b x off = grind arith
 
-accepted-connect : (b : Birth) (reply : List ℕ) (x : WaitRow) → is_connect_on b (accepted reply x) ≡ is_connect_on b x
-accepted-connect b reply = by_kind (λ x. is_connect_on b (accepted reply x) ≡ is_connect_on b x) (λ x m. refl) (λ x. refl) (λ x. refl) (λ x m. refl) (λ x m r. refl)
+accepted-connect : (b : Birth) (reply : Acceptance) (x : WaitRow) → is_connect_on b (accepted reply x) ≡ is_connect_on b x
+accepted-connect b reply = by_kind (λ x. is_connect_on b (accepted reply x) ≡ is_connect_on b x) (λ x m. refl) (λ x. refl) (λ x. refl) (λ x m offer. refl) (λ x m r. refl)
 
-accepted-shut : (w : World) (reply : List ℕ) (x : WaitRow) → waits_shut w x ≡ true → waits_shut w (accepted reply x) ≡ true
-accepted-shut w reply = by_kind (λ x. waits_shut w x ≡ true → waits_shut w (accepted reply x) ≡ true) (λ x m is. is) (λ x is. is) (λ x is. is) (λ x m is. is) (λ x m r is. is)
+accepted-shut : (w : World) (reply : Acceptance) (x : WaitRow) → waits_shut w x ≡ true → waits_shut w (accepted reply x) ≡ true
+accepted-shut w reply = by_kind (λ x. waits_shut w x ≡ true → waits_shut w (accepted reply x) ≡ true) (λ x m is. is) (λ x is. is) (λ x is. is) (λ x m offer is. is) (λ x m r is. is)
 
 not-both : (a b : Bool) → not a ≡ true → not (a && b) ≡ true
 not-both a b is = grind arith
 
 freed-untold : (w : World) (k : ObjectKind) (b : Birth) → HasSingleClosings w → HasSingleClosings (freed w k b)
-freed-untold w kind.Token b u = u
+freed-untold w kind.Token b u = record { closed = u.closed; once = u.once; connects = u.connects }
 freed-untold w e b u = record { closed = u.closed; once = u.once; connects = u.connects }
 
 hushed-step : (w : World) (b : Basic) → is_hushed b ≡ true → HasSingleClosings w → HasSingleClosings (basic w b)

@@ -103,5 +103,6 @@ handle-untold w pid r at s u = by_last (is_last r w) refl
         let b = r.object.birth in
         let bs = close_port b w in
         let same : world_after w (bs ++ DropsHandle pid r.value ∷ []) ≡ basic (world_after w bs) (DropsHandle pid r.value) = after-append w bs (DropsHandle pid r.value ∷ []) in
-        subst HasSingleClosings (sym same) (subst (λ (v : World). HasSingleClosings (basic v (DropsHandle pid r.value))) (sym (closed-is w b)) (last-untold w pid r at is s u))
+        let last = last-untold w pid r at is s u in
+        subst HasSingleClosings (sym same) (subst (λ (v : World). HasSingleClosings (basic v (DropsHandle pid r.value))) (sym (closed-is w b)) (record { closed = last.closed; once = last.once; connects = last.connects }))
     by_last false more = dropped-untold w pid r.value u

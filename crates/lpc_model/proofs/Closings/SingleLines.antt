@@ -4,7 +4,6 @@ use Rattle.lpc_base.proofs.Bools.{first-true, second-true}
 use Rattle.lpc_base.proofs.RowMaps.{every-first, every-kept}
 use Rattle.lpc_base.proofs.RowWords.{every-more, every-not, first-passes}
 use Rattle.lpc_base.specs.Rows.{every, first, has, without}
-use Rattle.lpc_base.specs.declared.limits.TheConstants.{MESSAGE_LIMIT}
 use Rattle.lpc_base.specs.declared.status.TheConstants.{SUCCESS}
 use Rattle.lpc_model.proofs.Calls.Acts.{IsGift, Law, accept_act, complete_act, connect_act, create_act, keeps_on, outcomes}
 use Rattle.lpc_model.proofs.Calls.Lines.{AnyWorld, IsCalled, Shut, Keep, LineLaw, line-does, passing-lines}
@@ -19,26 +18,28 @@ use Rattle.lpc_model.proofs.Steps.InTurn.{after-append}
 use Rattle.lpc_model.proofs.Closings.Told.{AreHushed, hushed-enter, hushed-receipt, is_hushed}
 use Rattle.lpc_model.proofs.Closings.ToldLines.{die-hushed}
 use Rattle.lpc_model.proofs.Calls.Usable.{CanCall}
-use Rattle.lpc_model.specs.Basics.{Accepts, AddsHandle, AddsProcess, AddsThread, Awaits, Basic, Completes, DrawsIdentifier, DrawsOrdinal, DropsViewsOf, Joins, Makes, Registers, Unregisters, basic, world_after, AddsSection, Maps, Unmaps, Writes}
+use Rattle.lpc_model.specs.Basics.{Accepts, AddsHandle, AddsProcess, AddsThread, Awaits, Basic, Completes, DrawsIdentifier, DrawsOrdinal, DropsOwned, DropsViewsOf, Joins, Makes, Registers, Unregisters, basic, world_after, AddsSection, Maps, Unmaps, Writes, Secures, Acts, AddsToken}
 use Rattle.lpc_model.specs.Closings.{is_closed_post}
-use Rattle.lpc_model.specs.Connect.{Completable, answer_of, client_port, connect_start, connect_wait, connection_request, is_accepted_on, named_steps, server_port, unnamed_steps}
+use Rattle.lpc_model.specs.Connect.{Completable, acceptance_of, client_port, connect_wait, connection_request, is_accepted_on, named_steps, server_port, unnamed_steps}
 use Rattle.lpc_model.specs.Creation.{new_process, new_thread, second_birth}
 use Rattle.lpc_model.specs.Death.{die}
 use Rattle.lpc_model.specs.Entering.{enter, take_connect_steps, take_steps, row_of, woken}
-use Rattle.lpc_model.specs.Fields.{h, info, max}
+use Rattle.lpc_model.specs.Fields.{h, completion_fields}
 use Rattle.lpc_model.specs.Found.{free_handle, is_accepted, is_open, is_port, port_name, same_birth, waits_as}
 use Rattle.lpc_model.specs.Lines.{ScriptLine}
-use Rattle.lpc_model.specs.Memory.{mapped_view, new_section}
+use Rattle.lpc_model.specs.Memory.{new_section}
 use Rattle.lpc_model.specs.Machine.{bare_steps}
 use Rattle.lpc_model.specs.Message.{made}
 use Rattle.lpc_model.specs.SingleClosings.{HasSingleClosings, StepsKeepSingleClosings, is_closing_of}
 use Rattle.lpc_model.specs.SoundWaits.{IsSoundWorld, can_stay_sound, is_connect_on}
 use Rattle.lpc_model.specs.Standing.{NamesWhatStands}
 use Rattle.lpc_model.specs.Tests.{PORT_ACCESS, handle_row, next_birth}
-use Rattle.lpc_model.specs.World.{Birth, Message, MessageRow, ObjectName, ThreadRow, WaitRow, World, no_rows}
-use Rattle.std.proofs.Common.{Bool, List, Some, [], arith, false, not, refl, subst, sym, true, ℕ, ◌∷◌, ◌≡◌}
+use Rattle.lpc_model.specs.World.{Birth, Message, MessageRow, ObjectName, ThreadRow, WaitRow, World, no_rows, Acceptance, Offer}
+use Rattle.std.proofs.Common.{Bool, List, Some, [], arith, false, not, refl, subst, sym, true, ℕ, ◌∷◌, ◌≡◌, Option}
 use Rattle.std.proofs.lemmas.Bool.{and_from, eqb-true, false_from_ne_true}
 use Rattle.std.specs.Prelude.{◌&&◌, ◌==◌, ◌||◌}
+use Rattle.lpc_model.proofs.Calls.Sharing.{connect_begun}
+use Rattle.lpc_model.specs.Impersonation.{new_token}
 
 -- the steps leave a world that tells of no open port
 abbrev KeepUntold : World → List Basic → Type 0
@@ -71,21 +72,21 @@ created-untold w by made ms ws all is u =
     let h = handle_row (free_handle w by.process) (port_name (next_birth by)) PORT_ACCESS in
     rw (after-append w bs (AddsHandle by.process h ∷ [])) (added-untold v by.process (free_handle w by.process) PORT_ACCESS (next_birth by) (rw ms (next-untold w by is.can is.sound is.known.1)) (rw ws (next-alone w by is.can is.sound)) (hushed-all w bs all u))
 
-connected-untold : (w : World) (by : ThreadRow) (connection : Birth) (bytes : List ℕ) → IsCalled (Shut NamesWhatStands) w by → KeepUntold w (connect_act w by connection (connection_request by bytes))
-connected-untold w by connection bytes is u =
-    let m = connection_request by bytes in
-    let x = connect_wait by connection m in
+connected-untold : (w : World) (by : ThreadRow) (connection : Birth) (offer : Option Offer) (bytes : List ℕ) → IsCalled (Shut NamesWhatStands) w by → KeepUntold w (connect_act w by connection offer (connection_request by offer bytes))
+connected-untold w by connection offer bytes is u =
+    let m = connection_request by offer bytes in
+    let x = connect_wait by connection offer m in
     let bs = DrawsIdentifier by.number ∷ DrawsOrdinal by.number ∷ Makes (client_port by connection) ∷ [] in
-    let waiting = world_after w (connect_start by connection m) in
+    let waiting = world_after w (connect_begun by connection offer m) in
     hushed-all waiting (enter (row_of connection (client_port by connection) m) waiting) (hushed-enter (row_of connection (client_port by connection) m) waiting refl)
     (offered-untold (world_after w bs) x (next-shut w by is.can is.sound is.known.1) (next-untold w by is.can is.sound is.known.1) (hushed-all w bs refl u))
 
-accepted-untold : (w : World) (by : ThreadRow) (context : ℕ) (m : Message) (x : WaitRow) → IsCalled (Shut NamesWhatStands) w by → KeepUntold w (accept_act w by context m x)
-accepted-untold w by context m x is u =
+accepted-untold : (w : World) (by : ThreadRow) (context : ℕ) (m : Message) (x : WaitRow) (a : Acceptance) → IsCalled (Shut NamesWhatStands) w by → KeepUntold w (accept_act w by context x a)
+accepted-untold w by context m x a is u =
     let server = next_birth by in
     let bs = DrawsOrdinal by.number ∷ Makes (server_port server x.queue) ∷ [] in
     let held = basic (world_after w bs) (AddsHandle by.process (handle_row (free_handle w by.process) (port_name server) PORT_ACCESS)) in
-    hushed-all held (Accepts x.thread m.body ∷ Joins x.port server context ∷ []) refl
+    hushed-all held (Accepts x.thread a ∷ Joins x.port server context ∷ []) refl
     (added-untold (world_after w bs) by.process (free_handle w by.process) PORT_ACCESS server (next-untold w by is.can is.sound is.known.1) (next-alone w by is.can is.sound) (hushed-all w bs refl u))
 
 -- of the port of a connect that is completed no message tells
@@ -100,7 +101,7 @@ waited-untold w b u waited = every-more (tells_shut w) (λ m. not (is_closing_of
 
 -- and no other connect waits there: each is of the thread that made the port
 pub its-maker : (w : World) (x : WaitRow) → is_accepted x ≡ true → can_stay_sound w x ≡ true → (x.port.maker == x.thread) ≡ true
-its-maker w = by_kind (λ x. is_accepted x ≡ true → can_stay_sound w x ≡ true → (x.port.maker == x.thread) ≡ true) (λ x m of is. absurd (cc)) (λ x of is. absurd (cc)) (λ x of is. absurd (cc)) (λ x m of is. absurd (cc)) (λ x m r of is. grind arith)
+its-maker w = by_kind (λ x. is_accepted x ≡ true → can_stay_sound w x ≡ true → (x.port.maker == x.thread) ≡ true) (λ x m of is. absurd (cc)) (λ x of is. absurd (cc)) (λ x of is. absurd (cc)) (λ x m offer of is. absurd (cc)) (λ x m r of is. grind arith)
 
 completed-untold : (w : World) (c : Completable) → first (is_accepted_on c.client) w.waits ≡ Some c.wait → IsSoundWorld w → KeepUntold w (complete_act w c)
 completed-untold w c found s u =
@@ -112,7 +113,7 @@ completed-untold w c found s u =
     let maker : c.client.maker ≡ c.wait.thread = subst (λ (b : Birth). b.maker ≡ c.wait.thread) on own in
     let waited : has (is_connect_on c.client) w.waits ≡ true = has-found (is_connect_on c.client) (is_accepted_on c.client) w.waits c.wait found (connects (is_accepted c.wait) (same_birth c.wait.port c.client) _ accepted its) in
     let alone : every (λ x. not (is_connect_on c.client x)) (without (waits_as c.wait.thread) w.waits) ≡ true = every-kept (can_stay_sound w) (waits_as c.wait.thread) (λ x. not (is_connect_on c.client x)) (λ x stay off. foreign-connect w c.client x stay (subst (λ n. not (waits_as n x) ≡ true) (sym maker) (not-off _ off))) w.waits s.stay in
-    let waking = woken SUCCESS (h (free_handle w pid) ∷ max MESSAGE_LIMIT ∷ info (answer_of c.wait) ∷ []) c.wait in
+    let waking = woken SUCCESS (completion_fields (free_handle w pid) (acceptance_of c.wait)) c.wait in
     let ended = world_after w (Completes c.server ∷ Completes c.client ∷ waking ∷ []) in
     added-untold ended pid (free_handle w pid) PORT_ACCESS c.client (waited-untold w c.client u waited) alone (hushed-all w (Completes c.server ∷ Completes c.client ∷ waking ∷ []) refl u)
   where
@@ -143,26 +144,30 @@ untold-law by = record {
   asks = λ w x m off wait post u. entered-untold (basic w (Awaits x)) m post.other (hushed-all w (Awaits x ∷ []) (and_from _ true off refl) u);
   creates = λ w is. created-untold w by (unnamed_steps (next_birth by)) refl refl refl is;
   founds = λ w name path free is. created-untold w by (named_steps (next_birth by) path) refl refl refl is;
-  connects = λ w connection bytes opens is. connected-untold w by connection bytes is;
+  connects = λ w connection offer bytes opens offers is. connected-untold w by connection offer bytes is;
   gives = λ w pid o access is. further-gift w pid o access is;
-  accepts = λ w context m x at is. accepted-untold w by context m x is;
+  accepts = λ w context m x a at is. accepted-untold w by context m x a is;
   completes = λ w c is. completed-untold w c is.found is.sound;
   registers = λ w b stands. hushed-all w (Registers by.number b ∷ []) refl;
-  spawns = λ w pid tid new unused s. hushed-all w (DrawsOrdinal by.number ∷ DrawsOrdinal by.number ∷ AddsProcess (new_process pid (Some by.process) (next_birth by)) ∷ AddsThread (new_thread tid pid (second_birth by)) ∷ []) refl;
+  spawns = λ w pid tid token new unused s. hushed-all w (DrawsOrdinal by.number ∷ DrawsOrdinal by.number ∷ AddsProcess (new_process pid (Some by.process) (next_birth by) token) ∷ AddsThread (new_thread tid pid (second_birth by)) ∷ []) refl;
   starts = λ w tid pid live unused s. hushed-all w (DrawsOrdinal by.number ∷ AddsThread (new_thread tid pid (next_birth by)) ∷ []) refl;
   closes = λ w pid r at s _. handle-untold w pid r at s;
   dies = λ w code t is. hushed-all w (die code t w) (die-hushed code t w);
   leaves = λ w n b. hushed-all w (Unregisters n b ∷ []) refl;
   vacates = λ w pid. hushed-all w (DropsViewsOf pid ∷ []) refl;
+  disowns = λ w b. hushed-all w (DropsOwned b ∷ []) refl;
+  secures = λ w b s. hushed-all w (Secures b s ∷ []) refl;
+  acts = λ w own. hushed-all w (Acts by.number own ∷ []) refl;
+  holds_token = λ w content. hushed-all w (DrawsOrdinal by.number ∷ AddsToken (new_token by content) ∷ []) refl;
   builds = λ w size prot is. hushed-all w (DrawsOrdinal by.number ∷ AddsSection (new_section by size prot) ∷ []) refl;
-  maps = λ w handle offset size prot s rounded base m. hushed-all w (Maps by.process (mapped_view s offset rounded prot base) ∷ []) refl;
+  maps = λ w pid v m. hushed-all w (Maps pid v ∷ []) refl;
   unmaps = λ w pid base. hushed-all w (Unmaps pid base ∷ []) refl;
   writes = λ w b place new. hushed-all w (Writes b place new ∷ []) refl;
 }
 
 -- Lines
 pub untold-lines : LineLaw (Shut NamesWhatStands) (λ _. KeepUntold)
-untold-lines = passing-lines (Shut NamesWhatStands) KeepUntold (λ w. is_hushed) hushed-all (λ w. record { tells = λ _. refl; processes = λ _. refl; threads = λ _ _ _. refl; binds = λ _ _. refl }) (λ by. outcomes by (Shut NamesWhatStands) AnyWorld KeepUntold (untold-law by) (λ w c. (c.0, tt)))
+untold-lines = passing-lines (Shut NamesWhatStands) KeepUntold (λ w. is_hushed) hushed-all (λ w. record { tells = λ _. refl; processes = λ _. refl; threads = λ _ _ _. refl; binds = λ _ _. refl; names = λ _. refl }) (λ by. outcomes by (Shut NamesWhatStands) AnyWorld KeepUntold (untold-law by) (λ w c. (c.0, tt)))
 
 -- before rows go
 pub untold_line : (w : World) (line : ScriptLine) → IsSoundWorld w → NamesWhatStands w → HasSingleClosings w → HasSingleClosings (world_after w (bare_steps line w))

@@ -8,7 +8,7 @@ use Rattle.lpc_base.proofs.Bools.{first-true, second-true}
 use Rattle.lpc_base.specs.declared.status.TheConstants.{PORT_DISCONNECTED}
 use Rattle.lpc_model.specs.World.{Birth, Creator, HandleRow, MessageRow, PortRow, World}
 use Rattle.lpc_model.specs.Found.{handle_at, if_open, is_client_port, is_connect, is_port, port_row}
-use Rattle.lpc_model.specs.Basics.{AddsHandle, Awaits, Basic, Cuts, DropsHandle, Empties, Enters, Receives, Takes, TakesConnect, Unbinds, Wakes, Withdraws, basic, cut, is_end_of, posted, posts_of, world_after}
+use Rattle.lpc_model.specs.Basics.{AddsHandle, Awaits, Basic, Cuts, DropsHandle, DropsOwned, Empties, Enters, Receives, Takes, TakesConnect, Unbinds, Wakes, Withdraws, basic, cut, is_end_of, posted, posts_of, world_after}
 use Rattle.lpc_model.specs.Entering.{enter, received_steps}
 use Rattle.lpc_model.specs.Sweep.{sweep}
 use Rattle.lpc_model.specs.Closings.{closes, is_closed_post, closing_posts, closings_posted}
@@ -129,12 +129,17 @@ posts-append (x ∷ xs) ys = rw (posts-append xs ys) (sym (assoc (posted x) (pos
 posts-behind : (xs ys : List Basic) → AreCalm xs → which is_closed_post (posts_of (xs ++ ys)) ≡ which is_closed_post (posts_of ys)
 posts-behind xs ys calm = rw (posts-append xs ys, which-append is_closed_post (posts_of xs) (posts_of ys), calm-posts xs calm) refl
 
+-- and before steps that post nothing
+posts-before : (xs ys : List Basic) → posts_of ys ≡ [] → which is_closed_post (posts_of (xs ++ ys)) ≡ which is_closed_post (posts_of xs)
+posts-before xs ys none = rw (posts-append xs ys, none) (ap (which is_closed_post) (append-nil (posts_of xs)))
+
 -- what takes rows away is calm
 away-calm : (x : Basic) → takes_away x ≡ true → is_calm x ≡ true
 away-calm (Wakes who call status fields) is = refl
 away-calm (Withdraws who) is = refl
 away-calm (Empties q) is = refl
 away-calm (Unbinds b) is = refl
+away-calm (DropsOwned b) is = refl
 away-calm x is = absurd (cc)
 
 -- what is posted at last, in the world behind the cut
@@ -180,7 +185,8 @@ close-told : (w : World) (b : Birth) → IsSoundWorld w → which is_closed_post
 unfolding close_port
 close-told w b s =
     let t = five-shut w b s in
-    let six = post_closed b (stage_five w b) in
+    let seven : List Basic = DropsOwned b ∷ [] in
+    let six = post_closed b (stage_five w b) ++ seven in
     let five = cut_pair b (stage_four w b) ++ six in
     let four = empty_queue b (stage_three w b) ++ five in
     let three = end_requests b (stage_two w b) ++ four in
@@ -190,6 +196,7 @@ close-told w b s =
     ∙ posts-behind (end_requests b (stage_two w b)) four (ends-pass is_calm away-calm (λ w. is_request_on b) (end_request PORT_DISCONNECTED) (λ x. refl) (stage_two w b))
     ∙ posts-behind (empty_queue b (stage_three w b)) five (queue-pass is_calm away-calm b (stage_three w b))
     ∙ posts-behind (cut_pair b (stage_four w b)) six (pair-pass is_calm away-calm b (stage_four w b) refl)
+    ∙ posts-before (post_closed b (stage_five w b)) seven refl
     ∙ posted-told w (stage_five w b) b t.handles t.ports
 
 -- and no handle goes on the way

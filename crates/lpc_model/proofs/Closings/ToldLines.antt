@@ -7,9 +7,9 @@ use Rattle.lpc_model.proofs.Calls.Lines.{AnyWorld, Shut, LineLaw, line-does, pas
 use Rattle.lpc_model.proofs.Steps.Ending.{die-pass}
 use Rattle.lpc_model.proofs.Held.FreedPort.{step_swept}
 use Rattle.lpc_model.proofs.Closings.Told.{AreHushed, TellsClosings, calm-all, calm-tells, handle-tells, hushed-enter, hushed-receipt, is_hushed, sweep-dropless, tells-append, told-before}
-use Rattle.lpc_model.specs.Basics.{Awaits, Basic, Empties, Unbinds, Wakes, Withdraws, basic, world_after}
+use Rattle.lpc_model.specs.Basics.{Awaits, Basic, DropsOwned, Empties, Unbinds, Wakes, Withdraws, basic, world_after}
 use Rattle.lpc_model.specs.Closings.{ClosingsAreTold, is_closed_post}
-use Rattle.lpc_model.specs.Connect.{client_port, connect_start, connection_request}
+use Rattle.lpc_model.specs.Connect.{client_port, connection_request}
 use Rattle.lpc_model.specs.Death.{die}
 use Rattle.lpc_model.specs.Entering.{enter, row_of, take_connect_steps, take_steps}
 use Rattle.lpc_model.specs.Lines.{ScriptLine}
@@ -18,6 +18,7 @@ use Rattle.lpc_model.specs.SoundWaits.{HasShutConnects, IsSoundWorld}
 use Rattle.lpc_model.specs.Sweep.{sweep}
 use Rattle.lpc_model.specs.World.{ThreadRow, World}
 use Rattle.std.proofs.Common.{List, ap, refl, sym, true, ◌∙◌, ◌∷◌, ◌≡◌}
+use Rattle.lpc_model.proofs.Calls.Sharing.{connect_begun}
 
 -- Steps of threads that end
 away-hushed : (x : Basic) → takes_away x ≡ true → is_hushed x ≡ true
@@ -25,6 +26,7 @@ away-hushed (Wakes who call status fields) is = refl
 away-hushed (Withdraws who) is = refl
 away-hushed (Empties q) is = refl
 away-hushed (Unbinds b) is = refl
+away-hushed (DropsOwned b) is = refl
 away-hushed x is = absurd (cc)
 
 pub die-hushed : (code : Status) (t : ThreadRow) (w : World) → AreHushed (die code t w)
@@ -49,29 +51,33 @@ told-law by = record {
   asks = λ w x m off wait post. let v = basic w (Awaits x) in calm-tells w (Awaits x ∷ enter m v) (calm-all (enter m v) (hushed-enter m v post.other));
   creates = λ w is. refl;
   founds = λ w name path free is. refl;
-  connects = λ w connection bytes opens is.
-      let row = row_of connection (client_port by connection) (connection_request by bytes) in
-      let v = world_after w (connect_start by connection (connection_request by bytes)) in
-      calm-tells w (connect_act w by connection (connection_request by bytes)) (calm-all (enter row v) (hushed-enter row v refl));
+  connects = λ w connection offer bytes opens offers is.
+      let row = row_of connection (client_port by connection) (connection_request by offer bytes) in
+      let v = world_after w (connect_begun by connection offer (connection_request by offer bytes)) in
+      calm-tells w (connect_act w by connection offer (connection_request by offer bytes)) (calm-all (enter row v) (hushed-enter row v refl));
   gives = λ w pid o access is. refl;
-  accepts = λ w context m x at is. refl;
+  accepts = λ w context m x a at is. refl;
   completes = λ w c is. refl;
   registers = λ w b stands. refl;
-  spawns = λ w pid tid new unused s. refl;
+  spawns = λ w pid tid token new unused s. refl;
   starts = λ w tid pid live unused s. refl;
   closes = λ w pid r at s _. handle-tells w pid r at s;
   dies = λ w code t is. hushed-tells w (die code t w) (die-hushed code t w);
   leaves = λ w n b. refl;
   vacates = λ w pid. refl;
+  disowns = λ w b. refl;
+  secures = λ w b s. refl;
+  acts = λ w own. refl;
+  holds_token = λ w content. refl;
   builds = λ w size prot is. refl;
-  maps = λ w handle offset size prot s rounded base m. refl;
+  maps = λ w pid v m. refl;
   unmaps = λ w pid base. refl;
   writes = λ w b place new. refl;
 }
 
 -- Lines
 told-lines : LineLaw (Shut AnyWorld) (λ _. TellsClosings)
-told-lines = passing-lines (Shut AnyWorld) TellsClosings (λ _. is_hushed) hushed-tells (λ w. record { tells = λ _. refl; processes = λ _. refl; threads = λ _ _ _. refl; binds = λ _ _. refl }) (λ by. outcomes by (Shut AnyWorld) AnyWorld TellsClosings (told-law by) (λ w c. c))
+told-lines = passing-lines (Shut AnyWorld) TellsClosings (λ _. is_hushed) hushed-tells (λ w. record { tells = λ _. refl; processes = λ _. refl; threads = λ _ _ _. refl; binds = λ _ _. refl; names = λ _. refl }) (λ by. outcomes by (Shut AnyWorld) AnyWorld TellsClosings (told-law by) (λ w c. c))
 
 -- before rows go
 line-told : (w : World) (line : ScriptLine) → IsSoundWorld w → HasShutConnects w → TellsClosings w (bare_steps line w)

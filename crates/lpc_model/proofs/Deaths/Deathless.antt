@@ -16,12 +16,12 @@ use Rattle.lpc_model.proofs.Calls.Outcomes.{AreDoomed, Outcomes}
 use Rattle.lpc_model.proofs.Steps.Rows.{has-found}
 use Rattle.lpc_model.proofs.Calls.Taking.{is_taking, taken_at_once, taking-entered, taking-receipt}
 use Rattle.lpc_model.proofs.Calls.Usable.{CanCall}
-use Rattle.lpc_model.specs.Basics.{AddsHandle, AddsThread, Basic, Dies, DropsHandle, Empties, Enters, Frees, Maps, Receives, Registers, Takes, TakesConnect, Tells, Unbinds, Unregisters, Wakes, Withdraws, world_after}
+use Rattle.lpc_model.specs.Basics.{AddsHandle, AddsThread, Basic, Dies, DropsHandle, DropsOwned, Empties, Enters, Frees, Maps, Receives, Registers, Takes, TakesConnect, Tells, Unbinds, Unregisters, Wakes, Withdraws, world_after}
 use Rattle.lpc_model.specs.Close.{close_handle, close_port, closed_row, closing_post, is_last, post_closed, server_of}
-use Rattle.lpc_model.specs.Connect.{Completable, client_port, complete_test, connect_start, connection_request, is_accepted_on}
+use Rattle.lpc_model.specs.Connect.{Completable, client_port, complete_test, connection_request, is_accepted_on, connect_start, ConnectAnswer, names_connect, answer_test, accept_start, allow_steps, connect_steps, create_steps, guard_steps, named_steps}
 use Rattle.lpc_model.specs.Deaths.{is_died_post}
 use Rattle.lpc_model.specs.Entering.{enter, received_steps, row_of, take_steps}
-use Rattle.lpc_model.specs.Found.{is_live, is_live_thread, live_thread, lives_in, port_row}
+use Rattle.lpc_model.specs.Found.{is_live, is_live_thread, live_thread, lives_in, port_row, free_handle}
 use Rattle.lpc_model.specs.Register.{is_registered}
 use Rattle.lpc_model.specs.Request.{datagram_start, given_reply, reply_test, request_start, sent_by}
 use Rattle.lpc_model.specs.SoundWaits.{IsSoundWorld, is_sound_as, is_sound_wait}
@@ -33,6 +33,10 @@ use Rattle.std.proofs.Common.{Bool, List, None, Option, Some, [], arith, false, 
 use Rattle.std.proofs.lemmas.Bool.Decides.{nat_tests}
 use Rattle.std.proofs.lemmas.Bool.{and_from}
 use Rattle.std.specs.Prelude.{Ok, option_and_then, option_map, ◌&&◌, ◌==◌}
+use Rattle.lpc_model.proofs.Calls.Sharing.{mapped-pass, shared-pass, guard-pass}
+use Rattle.lpc_model.specs.Offers.{mapped, shared_steps}
+use Rattle.lpc_model.proofs.Calls.Tested.{named-wait}
+use Rattle.lpc_model.specs.Tests.{next_birth}
 
 -- Steps
 abbrev pub is_deathless : Basic → Bool
@@ -67,6 +71,7 @@ away-deathless (Wakes who call status fields) is = refl
 away-deathless (Withdraws who) is = refl
 away-deathless (Empties q) is = refl
 away-deathless (Unbinds b) is = refl
+away-deathless (DropsOwned b) is = refl
 away-deathless x is = absurd (cc)
 
 posted-deathless : (b : Birth) (w : World) → AreDeathless (post_closed b w)
@@ -173,13 +178,20 @@ module _ (by : ThreadRow) (C : World → Type 0) (P : World → List Basic → T
 
   pub life-outcomes : (w : World) → IsCalled C w by → Outcomes w by (λ _. P w)
   life-outcomes w is = record {
-    creates = k.mild w _ (rw (caller-lives w by is.can) refl);
-    founds = λ name path free. k.mild w _ (rw (caller-lives w by is.can) refl);
-    connects = λ name bytes connection at. sending w (connect_start by connection (connection_request by bytes)) (row_of connection (client_port by connection) (connection_request by bytes)) refl refl;
+    creates = λ dacl. k.mild w _ (rw (caller-lives w by is.can) refl);
+    founds = λ name dacl path free. k.mild w _ (every-append (is_mild w) (create_steps by (named_steps (next_birth by) path) (free_handle w by.process)) (guard_steps (next_birth by) (Some name) dacl) (rw (caller-lives w by is.can) refl) (guard-pass (is_mild w) (λ _ _. refl) (next_birth by) dacl));
+    connects = λ name quality view bytes offer own connection c.
+        let m = connection_request by offer bytes in
+        let start = connect_start by connection offer own m in
+        let row = row_of connection (client_port by connection) m in
+        k.mild w _ (every-append (is_mild w) (connect_steps by connection offer own m w) (allow_steps w by quality) (every-append (is_mild w) start (enter row (world_after w start) ++ mapped by.process own) refl (every-append (is_mild w) (enter row (world_after w start)) (mapped by.process own) (mild-enter w (world_after w start) row refl) (mapped-pass (is_mild w) by.process (λ _. caller-lives w by is.can) own))) refl);
     listens = λ handle port m l at. k.mild w _ (mild-receipt w m);
     awaits_connect = λ handle port l at. k.mild w _ refl;
-    refuses = λ context bytes a at. k.mild w _ refl;
-    accepts = λ context bytes a at. k.mild w _ (rw (caller-lives w by is.can) refl);
+    refuses = λ context bytes view a at. k.mild w _ refl;
+    accepts = λ context bytes view offer a views c.
+        let found = holds_ok (λ (a : ConnectAnswer). first (names_connect w by a.message) w.waits ≡ Some a.wait) (answer_test w by bytes) a (named-wait w by bytes) c.answered in
+        let client = waiter-lives w a.wait (every-first (is_sound_wait w) (names_connect w by a.message) w.waits a.wait (let s = is.sound in s.waits) found) in
+        k.mild w _ (every-append (is_mild w) (accept_start by context (free_handle w by.process) a views) (shared_steps by a.wait views) (rw (caller-lives w by is.can) refl) (shared-pass (is_mild w) by a.wait (λ _. caller-lives w by is.can) (λ _. client) views));
     completes = λ handle c at. k.mild w _ (rw (waiter-live w handle c at is.sound) refl);
     sends = λ handle bytes s at. sending w (datagram_start by) (row_of s.queue s.port (sent_by by DATAGRAM s.message)) refl refl;
     asks = λ handle bytes s at. sending w (request_start by s.port.birth s.queue (sent_by by REQUEST s.message)) (row_of s.queue s.port (sent_by by REQUEST s.message)) refl refl;
@@ -200,5 +212,10 @@ module _ (by : ThreadRow) (C : World → Type 0) (P : World → List Basic → T
     writes_memory = λ address new v at may. k.mild w _ refl;
     reads_range = λ handle bytes index n d at. k.mild w _ refl;
     writes_range = λ handle bytes index new d at may. k.mild w _ refl;
+    impersonates = λ handle bytes own allowed. k.mild w _ refl;
+    reverts = λ class. k.mild w _ refl;
+    opens_own = λ own at. k.mild w _ (rw (caller-lives w by is.can) refl);
+    opens_primary = k.mild w _ (rw (caller-lives w by is.can) refl);
+    asks_token = λ handle class t field at told. k.mild w _ refl;
     ends = λ call name own pid code ts doomed. k.ends w name own pid code ts doomed is;
   }

@@ -7,10 +7,10 @@ use Rattle.lpc_base.specs.declared.status.Status.{Status}
 use Rattle.lpc_model.specs.declared.entry.CallName.{CallName}
 use Rattle.lpc_model.specs.World.{Birth, MessageRow, ThreadRow, World}
 use Rattle.lpc_model.specs.Found.{handles_of, is_live, is_thread, live_thread, wait_of}
-use Rattle.lpc_model.specs.Basics.{AddsThread, Basic, Cuts, Dies, DrawsIdentifier, DrawsOrdinal, Empties, Enters, Frees, Registers, Unbinds, Unregisters, Wakes, Withdraws, basic, ended, in_turn, posted, posts_of, unregistering, world_after}
+use Rattle.lpc_model.specs.Basics.{AddsThread, Basic, Cuts, Dies, DrawsIdentifier, DrawsOrdinal, DropsOwned, Empties, Enters, Frees, Registers, Unbinds, Unregisters, Wakes, Withdraws, basic, ended, in_turn, posted, posts_of, unregistering, world_after, Acts}
 use Rattle.lpc_model.specs.Entering.{enter}
 use Rattle.lpc_model.specs.Close.{close_handle}
-use Rattle.lpc_model.specs.Death.{answer_unless, cut_accepted, die, end_process, end_threads, post_death, post_deaths, death_post}
+use Rattle.lpc_model.specs.Death.{answer_unless, end_client, die, end_process, end_threads, post_death, post_deaths, death_post}
 use Rattle.lpc_model.specs.Deaths.{DeathsAreTold, TellsDeaths, ended_registrations, ending_registrations, is_died_post, leaves, rank_of, registration, registrations_of, rises, death_posts, deaths_posted}
 use Rattle.lpc_model.specs.Lawful.{HasThreadsOnce}
 use Rattle.lpc_model.specs.Lines.{ScriptLine}
@@ -160,6 +160,7 @@ row-step w t (Unregisters who b) is r =
 row-step w t (DrawsIdentifier who) is r = absurd (cc)
 row-step w t (DrawsOrdinal who) is r = absurd (cc)
 row-step w t (Registers who b) is r = absurd (cc)
+row-step w t (Acts who own) is r = absurd (cc)
 row-step w t (AddsThread u) is r = absurd (cc)
 row-step w t (Frees o) is r = absurd (cc)
 row-step w t b is r = record { row = r.row; at = r.at; number = r.number; process = r.process; birth = r.birth }
@@ -255,6 +256,7 @@ keeps_threads (Wakes who call status fields) = true
 keeps_threads (Withdraws who) = true
 keeps_threads (Empties q) = true
 keeps_threads (Unbinds b) = true
+keeps_threads (DropsOwned b) = true
 keeps_threads (Cuts b) = true
 keeps_threads b = false
 
@@ -263,6 +265,7 @@ threads-step w (Wakes who call status fields) is = refl
 threads-step w (Withdraws who) is = refl
 threads-step w (Empties q) is = refl
 threads-step w (Unbinds b) is = refl
+threads-step w (DropsOwned b) is = refl
 threads-step w (Cuts b) is = refl
 threads-step w b is = absurd (cc)
 
@@ -275,6 +278,7 @@ away-threads (Wakes who call status fields) is = refl
 away-threads (Withdraws who) is = refl
 away-threads (Empties q) is = refl
 away-threads (Unbinds b) is = refl
+away-threads (DropsOwned b) is = refl
 away-threads x is = absurd (cc)
 
 pub away-still : (x : Basic) → takes_away x ≡ true → is_still x ≡ true
@@ -294,7 +298,7 @@ module _ (code : Status) (t : ThreadRow) (w : World) where
   withdrawn = basic dead (Withdraws t.number)
 
   rest-of : List Basic
-  rest-of = cut_accepted (wait_of w t.number) withdrawn
+  rest-of = end_client (wait_of w t.number) withdrawn
 
   pub die-threads : (behind (die code t) w).threads ≡ change (is_thread t.number) ended w.threads
   unfolding rest-of
@@ -374,7 +378,7 @@ deaths-law by = record {
 
 -- Lines
 deaths-lines : LineLaw HasThreadsOnce (λ _. TellsDeaths)
-deaths-lines = passing-lines HasThreadsOnce TellsDeaths (λ _. is_deathless) deathless-tells (λ w. record { tells = λ _. refl; processes = λ _. refl; threads = λ _ _ _. refl; binds = λ _ _. refl }) (λ by. life-outcomes by HasThreadsOnce TellsDeaths (deaths-law by))
+deaths-lines = passing-lines HasThreadsOnce TellsDeaths (λ _. is_deathless) deathless-tells (λ w. record { tells = λ _. refl; processes = λ _. refl; threads = λ _ _ _. refl; binds = λ _ _. refl; names = λ _. refl }) (λ by. life-outcomes by HasThreadsOnce TellsDeaths (deaths-law by))
 
 -- the steps of a line tell of the threads that end by it
 pub deaths_told : (w : World) (line : ScriptLine) → IsSoundWorld w → HasThreadsOnce w → DeathsAreTold w line

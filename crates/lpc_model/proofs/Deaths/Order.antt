@@ -8,11 +8,11 @@ use Rattle.lpc_base.specs.declared.status.Status.{Status}
 use Rattle.lpc_base.specs.declared.status.TheConstants.{LPC_REPLY_LOST, PORT_DISCONNECTED}
 use Rattle.lpc_base.proofs.RowWords.{every-append, every-more}
 use Rattle.lpc_model.specs.World.{Birth, MessageRow, ThreadRow, WaitRow, World}
-use Rattle.lpc_model.specs.Found.{is_accepted, wait_of}
-use Rattle.lpc_model.specs.Basics.{Basic, Cuts, Dies, DropsHandle, DropsViewsOf, Enters, Receives, Steps, Takes, TakesConnect, Unbinds, Unregisters, Wakes, Withdraws, basic, end_each, in_turn, world_after}
+use Rattle.lpc_model.specs.Found.{is_accepted, is_connect, wait_of}
+use Rattle.lpc_model.specs.Basics.{Basic, Cuts, Dies, DropsHandle, DropsOwned, DropsViewsOf, Enters, Receives, Steps, Takes, TakesConnect, Unbinds, Unregisters, Wakes, Withdraws, basic, end_each, in_turn, world_after}
 use Rattle.lpc_model.specs.Entering.{enter}
 use Rattle.lpc_model.specs.Close.{cut_pair, end_accepted, end_request, is_accepted_across, is_receive_across, is_request_across, wake}
-use Rattle.lpc_model.specs.Death.{cut_accepted, die, post_death, post_deaths, death_post}
+use Rattle.lpc_model.specs.Death.{end_client, die, post_death, post_deaths, death_post}
 use Rattle.lpc_model.specs.Deaths.{is_died_post, rank_of, rises}
 use Rattle.lpc_model.proofs.Steps.Closing.{behind}
 use Rattle.lpc_model.proofs.Steps.Ending.{turn-pass}
@@ -119,18 +119,22 @@ cut-rank b w =
     (every-append (has_rank 0) (receives v) _ (ends-rank (wake PORT_DISCONNECTED) (λ x. refl) (which (is_receive_across b v) v.waits))
     (every-append (has_rank 0) (accepts u) (Cuts b ∷ []) (ends-rank end_accepted (λ x. refl) (which (is_accepted_across b u) u.waits)) refl))
 
-accepted-rank : (o : Option WaitRow) (w : World) → every (has_rank 0) (cut_accepted o w) ≡ true
+accepted-rank : (o : Option WaitRow) (w : World) → every (has_rank 0) (end_client o w) ≡ true
 accepted-rank None w = refl
-accepted-rank (Some x) w = at (is_accepted x)
+accepted-rank (Some x) w = every-append (has_rank 0) (when (is_accepted x) (cut_pair x.port w)) _ (at (is_accepted x)) (own (is_connect x))
   where
     at : (a : Bool) → every (has_rank 0) (when a (cut_pair x.port w)) ≡ true
     at true = cut-rank x.port w
     at false = refl
 
+    own : (c : Bool) → every (has_rank 0) (when c (DropsOwned x.port ∷ [])) ≡ true
+    own true = refl
+    own false = refl
+
 die-rank : (code : Status) (t : ThreadRow) (w : World) → every (has_rank 0) (die code t w) ≡ true
 die-rank code t w =
     let first = Dies t.number code ∷ Withdraws t.number ∷ [] in
-    every-append (has_rank 0) first (cut_accepted (wait_of w t.number) (world_after w first)) refl (accepted-rank (wait_of w t.number) (world_after w first))
+    every-append (has_rank 0) first (end_client (wait_of w t.number) (world_after w first)) refl (accepted-rank (wait_of w t.number) (world_after w first))
 
 -- Registrations that go
 taking-rank : (b : Basic) → is_taking b ≡ true → has_rank 1 b ≡ true

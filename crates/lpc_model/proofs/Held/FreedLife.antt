@@ -3,8 +3,8 @@ use Rattle.std.proofs.Common.{◌≡◌, ◌+◌, ◌∙◌, Bool, true, false, 
 use Rattle.std.specs.Prelude.{◌==◌, ◌&&◌, ◌||◌}
 use Rattle.lpc_base.specs.Rows.{count, has, without}
 use Rattle.lpc_base.proofs.Births.{birth-same}
-use Rattle.lpc_model.specs.World.{Birth, ObjectName, PortRow, ProcessRow, SectionRow, ThreadRow, World}
-use Rattle.lpc_model.specs.Found.{handle_count, is_connected_to, is_content, is_made_on, is_paired_to, is_section, is_sent_on, port_name, process_name, same_birth, section_name, thread_name}
+use Rattle.lpc_model.specs.World.{Birth, ObjectName, PortRow, ProcessRow, SectionRow, ThreadRow, World, TokenRow}
+use Rattle.lpc_model.specs.Found.{all_views, handle_count, is_connected_to, is_content, is_made_on, is_owned_by, is_paired_to, is_section, is_sent_on, port_name, process_name, same_birth, section_name, thread_name, is_token, token_name}
 use Rattle.lpc_model.specs.Basics.{Frees, basic, world_after}
 use Rattle.lpc_model.specs.Sweep.{is_unheld, sweep}
 use Rattle.lpc_model.proofs.Sound.Frees.{freed-registrations}
@@ -26,7 +26,7 @@ module _ (w : World) (o : ObjectName) (none : is_unheld w o ≡ true) where
 -- and for each port, where that is a thread or a process
 port-aside : (w : World) (b c : Birth) → is_unheld w (thread_name c) ≡ true → is_unheld w (port_name b) ≡ is_unheld (basic w (Frees (thread_name c))) (port_name b)
 port-aside w b c none =
-    ap (λ rs. (handle_count w (port_name b) + (count (is_paired_to b) w.ports + (count (is_connected_to b) w.ports + (count (is_sent_on b) w.messages + (count (is_made_on b) w.waits + count (same_birth b) rs))))) == 0)
+    ap (λ rs. (handle_count w (port_name b) + (count (is_paired_to b) w.ports + (count (is_connected_to b) w.ports + (count (is_sent_on b) w.messages + (count (is_made_on b) w.waits + (count (same_birth b) rs + count (is_owned_by b) (all_views w))))))) == 0)
     (sym (freed-registrations w (thread_name c) none))
 
 module _ (w : World) (b : Birth) where
@@ -35,10 +35,11 @@ module _ (w : World) (b : Birth) where
       let once = basic w (Frees (thread_name b)) in
       let goes = λ (t : ThreadRow). is_unheld w (thread_name t.birth) in
       sweep-passes once
-      ∙ ap passed (rows-same w _ _ _ _ _ _ _ _ _ _
+      ∙ ap passed (rows-same w _ _ _ _ _ _ _ _ _ _ _ _
       (without-same (λ (p : ProcessRow). is_unheld once (process_name p.birth)) (λ p. is_unheld w (process_name p.birth)) (λ p. process-alike w (thread_name b) none p.birth) w.processes)
       (without-same (λ (t : ThreadRow). is_unheld once (thread_name t.birth)) goes (λ t. thread-alike w (thread_name b) none t.birth) once.threads ∙ without-after (λ (t : ThreadRow). same_birth t.birth b) goes (λ t is. subst (λ c. is_unheld w (thread_name c) ≡ true) (sym (birth-same t.birth b is)) none) w.threads)
       (without-same (λ (p : PortRow). is_unheld once (port_name p.birth)) (λ p. is_unheld w (port_name p.birth)) (λ p. port-aside w p.birth b none) w.ports)
+      refl
       refl
       refl)
       ∙ sym (sweep-passes w)
@@ -48,12 +49,22 @@ module _ (w : World) (b : Birth) where
       let once = basic w (Frees (process_name b)) in
       let goes = λ (p : ProcessRow). is_unheld w (process_name p.birth) in
       sweep-passes once
-      ∙ ap passed (rows-same w _ _ _ _ _ _ _ _ _ _
+      ∙ ap passed (rows-same w _ _ _ _ _ _ _ _ _ _ _ _
       (without-same (λ (p : ProcessRow). is_unheld once (process_name p.birth)) goes (λ p. process-alike w (process_name b) none p.birth) once.processes ∙ without-after (λ (p : ProcessRow). same_birth p.birth b) goes (λ p is. subst (λ c. is_unheld w (process_name c) ≡ true) (sym (birth-same p.birth b is)) none) w.processes)
       (without-same (λ (t : ThreadRow). is_unheld once (thread_name t.birth)) (λ t. is_unheld w (thread_name t.birth)) (λ t. thread-alike w (process_name b) none t.birth) w.threads)
       refl
       refl
+      refl
       refl)
+      ∙ sym (sweep-passes w)
+
+  -- so with a token
+  pub token_first : is_unheld w (token_name b) ≡ true → world_after (basic w (Frees (token_name b))) (sweep (basic w (Frees (token_name b)))) ≡ world_after w (sweep w)
+  token_first none =
+      let once = basic w (Frees (token_name b)) in
+      sweep-passes once
+      ∙ ap passed (rows-same w _ _ _ _ _ _ _ _ _ _ _ _ refl refl refl refl refl
+      (without-after (is_token b) (λ (t : TokenRow). is_unheld w (token_name t.birth)) (λ t is. subst (λ c. is_unheld w (token_name c) ≡ true) (sym (birth-same t.birth b is)) none) w.tokens))
       ∙ sym (sweep-passes w)
 
   -- so with a section, whose bytes go with it
@@ -61,9 +72,9 @@ module _ (w : World) (b : Birth) where
   section_first stands none =
       let once = basic w (Frees (section_name b)) in
       sweep-passes once
-      ∙ ap passed (rows-same w _ _ _ _ _ _ _ _ _ _ refl refl refl
+      ∙ ap passed (rows-same w _ _ _ _ _ _ _ _ _ _ _ _ refl refl refl
       (without-after (is_section b) (λ (s : SectionRow). is_unheld w (section_name s.birth)) (λ s is. its-own s.birth is) w.sections)
-      (known-twice (without (is_content b)) (without (λ c. goes_section once c.section)) (without (λ c. goes_section w c.section)) (without-twice (is_content b) (λ c. goes_section once c.section) (λ c. goes_section w c.section) (λ c. goes c.section)) w.contents))
+      (known-twice (without (is_content b)) (without (λ c. goes_section once c.section)) (without (λ c. goes_section w c.section)) (without-twice (is_content b) (λ c. goes_section once c.section) (λ c. goes_section w c.section) (λ c. goes c.section)) w.contents) refl)
       ∙ sym (sweep-passes w)
     where
       its-own : (c : Birth) → same_birth c b ≡ true → is_unheld w (section_name c) ≡ true

@@ -8,14 +8,14 @@ use Rattle.lpc_base.proofs.RowMaps.{every-map}
 use Rattle.lpc_base.proofs.Births.{birth-same, birth-self, birth-turned}
 use Rattle.lpc_base.proofs.Bools.{or-last}
 use Rattle.lpc_model.specs.declared.entry.ObjectKind.TheVariants as kind
-use Rattle.lpc_model.specs.World.{Birth, ContentRow, Contents, Known, MessageRow, ObjectKind, ObjectName, PortRow, ProcessRow, SectionRow, ThreadRow, Unknown, World}
-use Rattle.lpc_model.specs.Found.{all_registrations, is_connected_to, is_content, is_paired_to, is_port, is_section, is_the, kind_rank, object_names, port_name, process_name, same_birth, same_kind, same_object, section_name, thread_name}
+use Rattle.lpc_model.specs.World.{Birth, ContentRow, Contents, Known, MessageRow, ObjectKind, ObjectName, PortRow, ProcessRow, SectionRow, ThreadRow, Unknown, World, TokenRow}
+use Rattle.lpc_model.specs.Found.{all_registrations, is_connected_to, is_content, is_paired_to, is_port, is_section, is_the, kind_rank, object_names, port_name, process_name, same_birth, same_kind, same_object, section_name, thread_name, token_name, is_token}
 use Rattle.lpc_model.specs.declared.entry.Entry.{Entry}
 use Rattle.lpc_model.specs.Lines.{ScriptLine}
 use Rattle.lpc_model.specs.Machine.{Stepped, bare_step, bare_steps, step}
 use Rattle.lpc_model.specs.Basics.{Basic, Frees, basic, entries_of, freed, in_known, posted, posts_of, told, world_after}
 use Rattle.lpc_model.specs.Sweep.{free_unheld, is_unheld, sweep, unheld}
-use Rattle.lpc_model.specs.Linked.{AreLivesHeld, HasHeldPorts, HasHeldRows, HasHeldSections, IsLinked, names_nothing}
+use Rattle.lpc_model.specs.Linked.{AreLivesHeld, HasHeldPorts, HasHeldRows, HasHeldSections, IsLinked, names_nothing, HasHeldTokens}
 use Rattle.lpc_model.proofs.Steps.Rows.{has-append, has-less, has-without}
 use Rattle.lpc_model.proofs.Sound.Frees.{frees-registrations, less-held, which-all}
 use Rattle.lpc_model.proofs.Held.Ports.{connected-end, found-self, is_held_aside, lonely, unheld-parts, without-same, without-twice}
@@ -79,12 +79,13 @@ without_named goes w = record w {
   threads = without (λ t. goes (thread_name t.birth)) w.threads;
   ports = without (λ p. goes (port_name p.birth)) w.ports;
   sections = without (λ s. goes (section_name s.birth)) w.sections;
+  tokens = without (λ t. goes (token_name t.birth)) w.tokens;
   contents = in_known (without (λ c. goes (section_name c.section))) w.contents;
 }
 
-pub rows-same : (w : World) (ps qs : List ProcessRow) (ts us : List ThreadRow) (xs ys : List PortRow) (ss rs : List SectionRow) (cs ds : Contents) → ps ≡ qs → ts ≡ us → xs ≡ ys → ss ≡ rs → cs ≡ ds
-    → let v : World = record w { processes = ps; threads = ts; ports = xs; sections = ss; contents = cs } in let u : World = record w { processes = qs; threads = us; ports = ys; sections = rs; contents = ds } in v ≡ u
-rows-same w ps qs ts us xs ys ss rs cs ds one two three four five = rw (one, two, three, four, five) refl
+pub rows-same : (w : World) (ps qs : List ProcessRow) (ts us : List ThreadRow) (xs ys : List PortRow) (ss rs : List SectionRow) (cs ds : Contents) (os ns : List TokenRow) → ps ≡ qs → ts ≡ us → xs ≡ ys → ss ≡ rs → cs ≡ ds → os ≡ ns
+    → let v : World = record w { processes = ps; threads = ts; ports = xs; sections = ss; contents = cs; tokens = os } in let u : World = record w { processes = qs; threads = us; ports = ys; sections = rs; contents = ds; tokens = ns } in v ≡ u
+rows-same w ps qs ts us xs ys ss rs cs ds os ns one two three four five six = rw (one, two, three, four, five, six) refl
 
 -- bytes that go by a test
 known-same : (f g : List ContentRow → List ContentRow) → ((rows : List ContentRow) → f rows ≡ g rows) → (k : Contents) → in_known f k ≡ in_known g k
@@ -112,30 +113,30 @@ module _ {X : Type 0} (name : X → ObjectName) (o : ObjectName) (os : List Obje
 
 -- a list of frees leaves the rows that it doesn't name
 freed-named : (os : List ObjectName) (w : World) → world_after w (map Frees os) ≡ without_named (is_among os) w
-freed-named [] w = sym (rows-same w _ w.processes _ w.threads _ w.ports _ w.sections _ w.contents (all-stay w.processes) (all-stay w.threads) (all-stay w.ports) (all-stay w.sections) (known-none w.contents))
+freed-named [] w = sym (rows-same w _ w.processes _ w.threads _ w.ports _ w.sections _ w.contents _ w.tokens (all-stay w.processes) (all-stay w.threads) (all-stay w.ports) (all-stay w.sections) (known-none w.contents) (all-stay w.tokens))
 freed-named (o ∷ os) w = at o.kind o.birth (freed-named os)
   where
     at : (k : ObjectKind) (b : Birth) → ((v : World) → world_after v (map Frees os) ≡ without_named (is_among os) v) → let o : ObjectName = record { kind = k; birth = b } in world_after w (map Frees (o ∷ os)) ≡ without_named (is_among (o ∷ os)) w
     at kind.Port b later =
         let o : ObjectName = port_name b in
-        later (freed w kind.Port b) ∙ rows-same w _ _ _ _ _ _ _ _ _ _ (not-also (λ p. process_name p.birth) o os (λ p. refl) w.processes) (not-also (λ t. thread_name t.birth) o os (λ t. refl) w.threads) (gone-also (λ p. port_name p.birth) o os w.ports)
-        (not-also (λ s. section_name s.birth) o os (λ s. refl) w.sections) (known-same (without (λ c. is_among os (section_name c.section))) (without (λ c. is_among (o ∷ os) (section_name c.section))) (not-also (λ c. section_name c.section) o os (λ c. refl)) w.contents)
+        later (freed w kind.Port b) ∙ rows-same w _ _ _ _ _ _ _ _ _ _ _ _ (not-also (λ p. process_name p.birth) o os (λ p. refl) w.processes) (not-also (λ t. thread_name t.birth) o os (λ t. refl) w.threads) (gone-also (λ p. port_name p.birth) o os w.ports)
+        (not-also (λ s. section_name s.birth) o os (λ s. refl) w.sections) (known-same (without (λ c. is_among os (section_name c.section))) (without (λ c. is_among (o ∷ os) (section_name c.section))) (not-also (λ c. section_name c.section) o os (λ c. refl)) w.contents) (not-also (λ t. token_name t.birth) o os (λ t. refl) w.tokens)
     at kind.Section b later =
         let o : ObjectName = section_name b in
-        later (freed w kind.Section b) ∙ rows-same w _ _ _ _ _ _ _ _ _ _ (not-also (λ p. process_name p.birth) o os (λ p. refl) w.processes) (not-also (λ t. thread_name t.birth) o os (λ t. refl) w.threads) (not-also (λ p. port_name p.birth) o os (λ p. refl) w.ports)
-        (gone-also (λ s. section_name s.birth) o os w.sections) (known-twice (without (is_content b)) (without (λ c. is_among os (section_name c.section))) (without (λ c. is_among (o ∷ os) (section_name c.section))) (gone-also (λ c. section_name c.section) o os) w.contents)
+        later (freed w kind.Section b) ∙ rows-same w _ _ _ _ _ _ _ _ _ _ _ _ (not-also (λ p. process_name p.birth) o os (λ p. refl) w.processes) (not-also (λ t. thread_name t.birth) o os (λ t. refl) w.threads) (not-also (λ p. port_name p.birth) o os (λ p. refl) w.ports)
+        (gone-also (λ s. section_name s.birth) o os w.sections) (known-twice (without (is_content b)) (without (λ c. is_among os (section_name c.section))) (without (λ c. is_among (o ∷ os) (section_name c.section))) (gone-also (λ c. section_name c.section) o os) w.contents) (not-also (λ t. token_name t.birth) o os (λ t. refl) w.tokens)
     at kind.Token b later =
         let o : ObjectName = record { kind = kind.Token; birth = b } in
-        later w ∙ rows-same w _ _ _ _ _ _ _ _ _ _ (not-also (λ p. process_name p.birth) o os (λ p. refl) w.processes) (not-also (λ t. thread_name t.birth) o os (λ t. refl) w.threads) (not-also (λ p. port_name p.birth) o os (λ p. refl) w.ports)
-        (not-also (λ s. section_name s.birth) o os (λ s. refl) w.sections) (known-same (without (λ c. is_among os (section_name c.section))) (without (λ c. is_among (o ∷ os) (section_name c.section))) (not-also (λ c. section_name c.section) o os (λ c. refl)) w.contents)
+        later (freed w kind.Token b) ∙ rows-same w _ _ _ _ _ _ _ _ _ _ _ _ (not-also (λ p. process_name p.birth) o os (λ p. refl) w.processes) (not-also (λ t. thread_name t.birth) o os (λ t. refl) w.threads) (not-also (λ p. port_name p.birth) o os (λ p. refl) w.ports)
+        (not-also (λ s. section_name s.birth) o os (λ s. refl) w.sections) (known-same (without (λ c. is_among os (section_name c.section))) (without (λ c. is_among (o ∷ os) (section_name c.section))) (not-also (λ c. section_name c.section) o os (λ c. refl)) w.contents) (gone-also (λ t. token_name t.birth) o os w.tokens)
     at kind.Process b later =
         let o : ObjectName = process_name b in
-        later (freed w kind.Process b) ∙ rows-same w _ _ _ _ _ _ _ _ _ _ (gone-also (λ p. process_name p.birth) o os w.processes) (not-also (λ t. thread_name t.birth) o os (λ t. refl) w.threads) (not-also (λ p. port_name p.birth) o os (λ p. refl) w.ports)
-        (not-also (λ s. section_name s.birth) o os (λ s. refl) w.sections) (known-same (without (λ c. is_among os (section_name c.section))) (without (λ c. is_among (o ∷ os) (section_name c.section))) (not-also (λ c. section_name c.section) o os (λ c. refl)) w.contents)
+        later (freed w kind.Process b) ∙ rows-same w _ _ _ _ _ _ _ _ _ _ _ _ (gone-also (λ p. process_name p.birth) o os w.processes) (not-also (λ t. thread_name t.birth) o os (λ t. refl) w.threads) (not-also (λ p. port_name p.birth) o os (λ p. refl) w.ports)
+        (not-also (λ s. section_name s.birth) o os (λ s. refl) w.sections) (known-same (without (λ c. is_among os (section_name c.section))) (without (λ c. is_among (o ∷ os) (section_name c.section))) (not-also (λ c. section_name c.section) o os (λ c. refl)) w.contents) (not-also (λ t. token_name t.birth) o os (λ t. refl) w.tokens)
     at kind.Thread b later =
         let o : ObjectName = thread_name b in
-        later (freed w kind.Thread b) ∙ rows-same w _ _ _ _ _ _ _ _ _ _ (not-also (λ p. process_name p.birth) o os (λ p. refl) w.processes) (gone-also (λ t. thread_name t.birth) o os w.threads) (not-also (λ p. port_name p.birth) o os (λ p. refl) w.ports)
-        (not-also (λ s. section_name s.birth) o os (λ s. refl) w.sections) (known-same (without (λ c. is_among os (section_name c.section))) (without (λ c. is_among (o ∷ os) (section_name c.section))) (not-also (λ c. section_name c.section) o os (λ c. refl)) w.contents)
+        later (freed w kind.Thread b) ∙ rows-same w _ _ _ _ _ _ _ _ _ _ _ _ (not-also (λ p. process_name p.birth) o os (λ p. refl) w.processes) (gone-also (λ t. thread_name t.birth) o os w.threads) (not-also (λ p. port_name p.birth) o os (λ p. refl) w.ports)
+        (not-also (λ s. section_name s.birth) o os (λ s. refl) w.sections) (known-same (without (λ c. is_among os (section_name c.section))) (without (λ c. is_among (o ∷ os) (section_name c.section))) (not-also (λ c. section_name c.section) o os (λ c. refl)) w.contents) (not-also (λ t. token_name t.birth) o os (λ t. refl) w.tokens)
 
 -- A pass
 self-among : {X : Type 0} (name : X → ObjectName) → ((x : X) → same_object (name x) (name x) ≡ true) → (xs : List X) → every (λ x. is_among (map name xs) (name x)) xs ≡ true
@@ -166,11 +167,15 @@ passed w = record (without_named (is_unheld w) w) { contents = in_known (without
 -- a section's name stands among those of sections alone
 section-among : (w : World) (b : Birth) → is_among (object_names w) (section_name b) ≡ has (is_section b) w.sections
 section-among w b =
-    has-append (λ o. same_object (section_name b) o) (map (λ s. section_name s.birth) w.sections) _
+    has-append (λ o. same_object (section_name b) o) (map (λ t. token_name t.birth) w.tokens) _
+    ∙ later _ _ (others (λ t. token_name t.birth) (λ t. refl) w.tokens) (has-append (λ o. same_object (section_name b) o) (map (λ s. section_name s.birth) w.sections) _
     ∙ parts _ _ _ (own w.sections) (has-append (λ o. same_object (section_name b) o) (map (λ p. process_name p.birth) w.processes) _
     ∙ parts _ _ false (others (λ p. process_name p.birth) (λ p. refl) w.processes) (has-append (λ o. same_object (section_name b) o) (map (λ t. thread_name t.birth) w.threads) _
-    ∙ parts _ _ false (others (λ t. thread_name t.birth) (λ t. refl) w.threads) (others (λ p. port_name p.birth) (λ p. refl) w.ports)))
+    ∙ parts _ _ false (others (λ t. thread_name t.birth) (λ t. refl) w.threads) (others (λ p. port_name p.birth) (λ p. refl) w.ports))))
   where
+    later : (x y : Bool) {z : Bool} → x ≡ false → y ≡ z → (x || y) ≡ z
+    later x y one two = grind arith
+
     parts : (x y z : Bool) → x ≡ z → y ≡ false → (x || y) ≡ z
     parts x y z one two = grind arith
 
@@ -184,20 +189,23 @@ section-among w b =
 
 pass-frees : (w : World) → world_after w (free_unheld w) ≡ passed w
 pass-frees w =
+    let ks = map (λ (t : TokenRow). token_name t.birth) w.tokens in
     let ss = map (λ (s : SectionRow). section_name s.birth) w.sections in
     let ps = map (λ (p : ProcessRow). process_name p.birth) w.processes in
     let ts = map (λ (t : ThreadRow). thread_name t.birth) w.threads in
     let xs = map (λ (p : PortRow). port_name p.birth) w.ports in
-    freed-named (unheld w) w ∙ rows-same w _ _ _ _ _ _ _ _ _ _
+    freed-named (unheld w) w ∙ rows-same w _ _ _ _ _ _ _ _ _ _ _ _
     (without-on (λ p. is_among (unheld w) (process_name p.birth)) (λ p. is_unheld w (process_name p.birth)) (λ p. is_among (object_names w) (process_name p.birth)) (λ p is. goes (process_name p.birth) is) w.processes
-    (every-more (λ p. is_among ps (process_name p.birth)) _ (λ p is. among-back (process_name p.birth) ss (ps ++ (ts ++ xs)) (among-front (process_name p.birth) ps (ts ++ xs) is)) w.processes (self-among (λ p. process_name p.birth) (λ p. birth-self p.birth) w.processes)))
+    (every-more (λ p. is_among ps (process_name p.birth)) _ (λ p is. among-back (process_name p.birth) ks (ss ++ (ps ++ (ts ++ xs))) (among-back (process_name p.birth) ss (ps ++ (ts ++ xs)) (among-front (process_name p.birth) ps (ts ++ xs) is))) w.processes (self-among (λ p. process_name p.birth) (λ p. birth-self p.birth) w.processes)))
     (without-on (λ t. is_among (unheld w) (thread_name t.birth)) (λ t. is_unheld w (thread_name t.birth)) (λ t. is_among (object_names w) (thread_name t.birth)) (λ t is. goes (thread_name t.birth) is) w.threads
-    (every-more (λ t. is_among ts (thread_name t.birth)) _ (λ t is. among-back (thread_name t.birth) ss (ps ++ (ts ++ xs)) (among-back (thread_name t.birth) ps (ts ++ xs) (among-front (thread_name t.birth) ts xs is))) w.threads (self-among (λ t. thread_name t.birth) (λ t. birth-self t.birth) w.threads)))
+    (every-more (λ t. is_among ts (thread_name t.birth)) _ (λ t is. among-back (thread_name t.birth) ks (ss ++ (ps ++ (ts ++ xs))) (among-back (thread_name t.birth) ss (ps ++ (ts ++ xs)) (among-back (thread_name t.birth) ps (ts ++ xs) (among-front (thread_name t.birth) ts xs is)))) w.threads (self-among (λ t. thread_name t.birth) (λ t. birth-self t.birth) w.threads)))
     (without-on (λ p. is_among (unheld w) (port_name p.birth)) (λ p. is_unheld w (port_name p.birth)) (λ p. is_among (object_names w) (port_name p.birth)) (λ p is. goes (port_name p.birth) is) w.ports
-    (every-more (λ p. is_among xs (port_name p.birth)) _ (λ p is. among-back (port_name p.birth) ss (ps ++ (ts ++ xs)) (among-back (port_name p.birth) ps (ts ++ xs) (among-back (port_name p.birth) ts xs is))) w.ports (self-among (λ p. port_name p.birth) (λ p. birth-self p.birth) w.ports)))
+    (every-more (λ p. is_among xs (port_name p.birth)) _ (λ p is. among-back (port_name p.birth) ks (ss ++ (ps ++ (ts ++ xs))) (among-back (port_name p.birth) ss (ps ++ (ts ++ xs)) (among-back (port_name p.birth) ps (ts ++ xs) (among-back (port_name p.birth) ts xs is)))) w.ports (self-among (λ p. port_name p.birth) (λ p. birth-self p.birth) w.ports)))
     (without-on (λ s. is_among (unheld w) (section_name s.birth)) (λ s. is_unheld w (section_name s.birth)) (λ s. is_among (object_names w) (section_name s.birth)) (λ s is. goes (section_name s.birth) is) w.sections
-    (every-more (λ s. is_among ss (section_name s.birth)) _ (λ s is. among-front (section_name s.birth) ss (ps ++ (ts ++ xs)) is) w.sections (self-among (λ s. section_name s.birth) (λ s. birth-self s.birth) w.sections)))
+    (every-more (λ s. is_among ss (section_name s.birth)) _ (λ s is. among-back (section_name s.birth) ks (ss ++ (ps ++ (ts ++ xs))) (among-front (section_name s.birth) ss (ps ++ (ts ++ xs)) is)) w.sections (self-among (λ s. section_name s.birth) (λ s. birth-self s.birth) w.sections)))
     (known-same (without (λ c. is_among (unheld w) (section_name c.section))) (without (λ c. goes_section w c.section)) (without-same (λ c. is_among (unheld w) (section_name c.section)) (λ c. goes_section w c.section) (λ c. sym (among-which (is_unheld w) (section_name c.section) (object_names w) ∙ ap (λ k. k && is_unheld w (section_name c.section)) (section-among w c.section)))) w.contents)
+    (without-on (λ t. is_among (unheld w) (token_name t.birth)) (λ t. is_unheld w (token_name t.birth)) (λ t. is_among (object_names w) (token_name t.birth)) (λ t is. goes (token_name t.birth) is) w.tokens
+    (every-more (λ t. is_among ks (token_name t.birth)) _ (λ t is. among-front (token_name t.birth) ks (ss ++ (ps ++ (ts ++ xs))) is) w.tokens (self-among (λ t. token_name t.birth) (λ t. birth-self t.birth) w.tokens)))
   where
     goes : (n : ObjectName) → is_among (object_names w) n ≡ true → is_among (unheld w) n ≡ is_unheld w n
     goes n is = among-which (is_unheld w) n (object_names w) ∙ (rw is refl)
@@ -333,7 +341,7 @@ module _ (w : World) (b : Birth) (l : IsLinked w) (none : is_unheld w (port_name
       ∙ (without-same last-once last (λ p. last-alike p) w.ports ∙ sym (without-after goes last (λ p. pass-unheld w p.birth) w.ports)))
 
   swept-alike : world_after once (sweep once) ≡ world_after w (sweep w)
-  swept-alike = sweep-passes once ∙ (rows-same (passed (passed w)) _ _ _ _ _ _ _ _ _ _ refl refl last-ports refl refl ∙ sym (sweep-passes w))
+  swept-alike = sweep-passes once ∙ (rows-same (passed (passed w)) _ _ _ _ _ _ _ _ _ _ _ _ refl refl last-ports refl refl refl ∙ sym (sweep-passes w))
 
 -- a port that no row names may go first: the sweep leaves the same world
 pub free_one : (w : World) (b : Birth) → IsLinked w → is_unheld w (port_name b) ≡ true → world_after (basic w (Frees (port_name b))) (sweep (basic w (Frees (port_name b)))) ≡ world_after w (sweep w)
@@ -358,19 +366,20 @@ which-off : {X : Type 0} (p : X → Bool) (xs : List X) → every (λ x. not (p 
 which-off p [] off = refl
 which-off p (x ∷ xs) off = grind (arith, which-off p xs)
 
-pub unheld_ports : (w : World) → AreLivesHeld w → HasHeldPorts w → HasHeldSections w → unheld w ≡ []
-unheld_ports w lives ports sections =
+pub unheld_ports : (w : World) → AreLivesHeld w → HasHeldPorts w → HasHeldSections w → HasHeldTokens w → unheld w ≡ []
+unheld_ports w lives ports sections tokens =
     let held = λ (o : ObjectName). not (is_unheld w o) in
+    let ks = map (λ (t : TokenRow). token_name t.birth) w.tokens in
     let ss = map (λ (s : SectionRow). section_name s.birth) w.sections in
     let ps = map (λ (p : ProcessRow). process_name p.birth) w.processes in
     let ts = map (λ (t : ThreadRow). thread_name t.birth) w.threads in
     let xs = map (λ (p : PortRow). port_name p.birth) w.ports in
     which-off (is_unheld w) (object_names w)
-    (every-append held ss (ps ++ (ts ++ xs)) (every-map held (λ s. section_name s.birth) w.sections ∙ sections) (every-append held ps (ts ++ xs) (every-map held (λ p. process_name p.birth) w.processes ∙ lives.processes)
-    (every-append held ts xs (every-map held (λ t. thread_name t.birth) w.threads ∙ lives.threads) (every-map held (λ p. port_name p.birth) w.ports ∙ ports))))
+    (every-append held ks (ss ++ (ps ++ (ts ++ xs))) (every-map held (λ t. token_name t.birth) w.tokens ∙ tokens) (every-append held ss (ps ++ (ts ++ xs)) (every-map held (λ s. section_name s.birth) w.sections ∙ sections) (every-append held ps (ts ++ xs) (every-map held (λ p. process_name p.birth) w.processes ∙ lives.processes)
+    (every-append held ts xs (every-map held (λ t. thread_name t.birth) w.threads ∙ lives.threads) (every-map held (λ p. port_name p.birth) w.ports ∙ ports)))))
 
 pub unheld_none : (w : World) → HasHeldRows w → unheld w ≡ []
-unheld_none w held = unheld_ports w held.lives held.ports held.sections
+unheld_none w held = unheld_ports w held.lives held.ports held.sections held.tokens
 
 -- The step of a line
 -- rows that go are told of nowhere, and post nothing

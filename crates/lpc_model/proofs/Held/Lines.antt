@@ -1,17 +1,18 @@
 -- A line that lets no name go leaves no row of an object that no row names.
 use Rattle.lpc_base.proofs.Births.{birth-self}
-use Rattle.lpc_base.proofs.RowWords.{count-has, every-more, every-push, has-kept, has-push}
+use Rattle.lpc_base.proofs.RowWords.{count-has, every-more, every-push, has-kept, has-push, every-append}
 use Rattle.lpc_base.specs.Rows.{count, has, when, which}
 use Rattle.lpc_base.specs.declared.port_kind.PortKind.{PortKind}
 use Rattle.lpc_base.specs.declared.port_kind.PortKind.TheVariants.{Connection, Unnamed}
 use Rattle.lpc_base.specs.declared.status.Status.{Status}
 use Rattle.lpc_base.specs.declared.status.TheConstants.{SUCCESS}
+use Rattle.lpc_model.specs.declared.entry.Word.TheVariants as word
 use Rattle.lpc_message.specs.declared.kind.TheConstants.{DATAGRAM, REQUEST}
 use Rattle.lpc_model.proofs.Steps.Closing.{behind}
 use Rattle.lpc_model.proofs.Calls.Creating.{process-keeps, threaded}
 use Rattle.lpc_model.proofs.Steps.Ending.{answered_end}
 use Rattle.lpc_model.proofs.Steps.Handles.{named-new, open-count, open-new}
-use Rattle.lpc_model.proofs.Held.Steps.{counts-more, handle-count, handle-sections, handles-push, held-some, holds-port, keeps_lives, lives-all, lives-handle, lives-more, loosened-on, not-less, ports-more, push-more, quiet-all, quiet-sections, sections-all, sections-more, steady-keeps, holds-section, more-handles}
+use Rattle.lpc_model.proofs.Held.Steps.{claims, claims-more, counts-more, handle-count, handle-sections, handles-push, held-some, holds-port, keeps_lives, lives-all, lives-handle, lives-more, loosened-on, not-less, ports-more, push-more, quiet-all, quiet-sections, sections-all, sections-more, steady-keeps, holds-section, more-handles, handle-tokens, holds-token, quiet-tokens, tokens-all, tokens-more}
 use Rattle.lpc_model.proofs.Calls.Lines.{AnyWorld, IsCalled, LineLaw, line-does}
 use Rattle.lpc_model.proofs.Linked.Steps.{is_steady}
 use Rattle.lpc_model.proofs.Calls.Outcomes.{AreDoomed, Outcomes, all, one}
@@ -22,16 +23,16 @@ use Rattle.lpc_model.proofs.Sound.Frees.{fewer-pass}
 use Rattle.lpc_model.proofs.Steps.Steady.{AreSteady, steady-ask, steady-await, steady-enter, steady-receipt, steady-receive, steady-send}
 use Rattle.lpc_model.proofs.Held.FreedPort.{unheld_ports}
 use Rattle.lpc_model.proofs.Calls.Usable.{CanCall}
-use Rattle.lpc_model.specs.Basics.{AddsHandle, AddsProcess, AddsThread, Basic, Binds, Dies, DrawsIdentifier, DrawsOrdinal, DropsHandle, Makes, Registers, Tells, Withdraws, basic, in_turn, no_handles, no_views, past_identifier, past_ordinal, with_handle, world_after, AddsSection}
+use Rattle.lpc_model.specs.Basics.{AddsHandle, AddsProcess, AddsThread, Basic, Binds, Dies, DrawsIdentifier, DrawsOrdinal, DropsHandle, Makes, Registers, Tells, Withdraws, basic, in_turn, no_handles, no_views, past_identifier, past_ordinal, with_handle, world_after, AddsSection, AddsToken, NamesToken, Secures}
 use Rattle.lpc_model.specs.Close.{close_port, close_steps, is_last}
-use Rattle.lpc_model.specs.Connect.{client_port, connect_start, connect_wait, connection_request, create_steps, listen_steps, new_port}
+use Rattle.lpc_model.specs.Connect.{client_port, connect_wait, connection_request, create_steps, listen_steps, new_port, allow_steps, named_steps}
 use Rattle.lpc_model.specs.Counts.{asked}
 use Rattle.lpc_model.specs.Creation.{gives_life, making_process, making_thread, second_birth}
-use Rattle.lpc_model.specs.Death.{cut_accepted, die, end_threads}
+use Rattle.lpc_model.specs.Death.{end_client, die, end_threads}
 use Rattle.lpc_model.specs.Entering.{enter, row_of}
-use Rattle.lpc_model.specs.Found.{all_registrations, all_views, free_handle, handle_count, is_connected_to, is_life, is_made_on, is_paired_to, is_sent_on, is_table, is_thread, live_threads, lives_by, lives_in, port_name, process_name, registered_by, same_birth, same_object, section_name, shows_section, thread_name, wait_of, was_process}
+use Rattle.lpc_model.specs.Found.{all_registrations, all_views, free_handle, handle_count, is_connected_to, is_life, is_made_on, is_owned_by, is_paired_to, is_sent_on, is_table, is_thread, live_threads, lives_by, lives_in, port_name, process_name, registered_by, same_birth, same_object, section_name, shows_section, thread_name, wait_of, was_process, offers_section, token_name, token_of}
 use Rattle.lpc_model.specs.Lines.{ScriptLine}
-use Rattle.lpc_model.specs.Linked.{AreLivesHeld, HasHeldPorts, HasHeldRows, HasHeldSections}
+use Rattle.lpc_model.specs.Linked.{AreLivesHeld, HasHeldPorts, HasHeldRows, HasHeldSections, HasHeldTokens}
 use Rattle.lpc_model.specs.Memory.{SECTION_ACCESS, map_steps, mapped_view, new_section, section_steps, write_steps}
 use Rattle.lpc_model.specs.Ranges.{write_range_steps}
 use Rattle.lpc_model.specs.Machine.{bare_steps, directive_birth, new_process, new_thread}
@@ -40,15 +41,18 @@ use Rattle.lpc_model.specs.SoundWaits.{IsSoundWorld}
 use Rattle.lpc_model.specs.Sweep.{loosened, loosens, unheld}
 use Rattle.lpc_model.specs.Targets.{LIFE_ACCESS}
 use Rattle.lpc_model.specs.Tests.{PORT_ACCESS, handle_row, next_birth}
-use Rattle.lpc_model.specs.World.{Birth, HandleRow, Message, Node, ObjectName, Path, ProcessRow, ThreadRow, ViewTable, World}
+use Rattle.lpc_model.specs.World.{Birth, HandleRow, Message, Node, ObjectName, Path, ProcessRow, ThreadRow, ViewTable, World, Offer, CallName, Effective, Security, Token}
 use Rattle.lpc_model.specs.declared.entry.CallName.{CallName}
-use Rattle.lpc_model.specs.declared.entry.CallName.TheVariants.{NtRegisterThreadTerminatePort}
-use Rattle.lpc_model.specs.declared.entry.Entry.TheVariants.{Answer}
+use Rattle.lpc_model.specs.declared.entry.CallName.TheVariants.{NtRegisterThreadTerminatePort, NtOpenProcessToken, NtOpenThreadToken}
+use Rattle.lpc_model.specs.declared.entry.Entry.TheVariants.{Answer, Directive}
 use Rattle.lpc_names.specs.Walk.{LinkTo, Stands}
 use Rattle.lpc_names.specs.declared.names.Found.TheVariants.{Directory, Item}
 use Rattle.std.proofs.Common.{Bool, List, None, Option, Some, [], ap, arith, false, refl, true, ℕ, ◌++◌, ◌+◌, ◌∙◌, ◌∷◌, ◌≡◌, ◌≤◌}
 use Rattle.std.proofs.lemmas.Bool.Decides.{nat_tests}
 use Rattle.std.specs.Prelude.{◌&&◌, ◌==◌, ◌||◌}
+use Rattle.lpc_model.proofs.Calls.Sharing.{connect_begun, mapped-pass, guarded-keeps}
+use Rattle.lpc_model.specs.Offers.{mapped, shared_steps}
+use Rattle.lpc_model.specs.Impersonation.{TOKEN_ACCESS, held_content, impersonate_steps, new_token, process_content, revert_steps, token_steps}
 
 -- What lets a name go
 -- the last step lets a handle go
@@ -68,7 +72,7 @@ loosened-front (x ∷ xs) ys before is = loosened-front xs ys (loosens x || befo
 die-loosens : (code : Status) (t : ThreadRow) (w : World) → loosened false (die code t w) ≡ true
 die-loosens code t w =
     let first = Dies t.number code ∷ Withdraws t.number ∷ [] in
-    loosened-front first (cut_accepted (wait_of w t.number) (world_after w first)) false refl
+    loosened-front first (end_client (wait_of w t.number) (world_after w first)) false refl
 
 end-loosens : (pid : ℕ) (code : Status) (t : ThreadRow) (ts : List ThreadRow) (w : World) → loosened false (end_threads pid code (t ∷ ts) w) ≡ true
 unfolding end_threads
@@ -98,7 +102,7 @@ doomed-loosens w by call own pid code ts (all target number found live) = at (li
 handle-quiet : (w : World) (pid : ℕ) (object : ObjectName) (access : ℕ) → count (is_table pid) w.handles ≤ 1 → HasHeldPorts w → HasHeldPorts (basic w (AddsHandle pid (handle_row (free_handle w pid) object access)))
 handle-quiet w pid object access few held =
     ports-more w (basic w (AddsHandle pid (handle_row (free_handle w pid) object access)))
-    (λ b. counts-more _ (count (is_paired_to b) w.ports) (count (is_connected_to b) w.ports) (count (is_sent_on b) w.messages) (count (is_made_on b) w.waits) (count (same_birth b) (all_registrations w)) _ _ _ _ _ _ (handle-count w pid object access (port_name b) few) (omega arith) (omega arith) (omega arith) (omega arith) (omega arith)) held
+    (λ b. counts-more _ (count (is_paired_to b) w.ports) (count (is_connected_to b) w.ports) (count (is_sent_on b) w.messages) (count (is_made_on b) w.waits) (claims w b) _ _ _ _ _ _ (handle-count w pid object access (port_name b) few) (omega arith) (omega arith) (omega arith) (omega arith) (not-less _ _ refl)) held
 
 -- Ports that are made
 -- the new port has a handle
@@ -111,7 +115,7 @@ created-quiet w by kind c s held =
     let port = new_port own kind in
     let made = basic (basic w (DrawsOrdinal by.number)) (Makes port) in
     let v = basic made (AddsHandle by.process (handle_row (free_handle w by.process) (port_name own) PORT_ACCESS)) in
-    let old = ports-more w v (λ b. counts-more _ _ _ (count (is_sent_on b) w.messages) (count (is_made_on b) w.waits) _ _ _ _ _ _ _ (handle-count w by.process (port_name own) PORT_ACCESS (port_name b) (s.tables by.process)) (push-more (is_paired_to b) w.ports port) (push-more (is_connected_to b) w.ports port) (omega arith) (omega arith) (not-less _ _ (ap (count (same_birth b)) (same-each registered_by (is_thread by.number) past_ordinal (λ t. refl) w.threads)))) held in
+    let old = ports-more w v (λ b. counts-more _ _ _ (count (is_sent_on b) w.messages) (count (is_made_on b) w.waits) _ _ _ _ _ _ _ (handle-count w by.process (port_name own) PORT_ACCESS (port_name b) (s.tables by.process)) (push-more (is_paired_to b) w.ports port) (push-more (is_connected_to b) w.ports port) (omega arith) (omega arith) (claims-more w b _ _ (not-less _ _ (ap (count (same_birth b)) (same-each registered_by (is_thread by.number) past_ordinal (λ t. refl) w.threads))))) held in
     let some = open-count v own (open-new made by.process (free_handle w by.process) PORT_ACCESS own c.home) in
     every-push (holds-port v) w.ports port old (held-some _ (some-sum (handle_count v (port_name own)) _ some))
 
@@ -131,9 +135,24 @@ built-sections w by size prot c s held =
     let own = next_birth by in
     let made = basic (basic w (DrawsOrdinal by.number)) (AddsSection (new_section by size prot)) in
     let v = basic made (AddsHandle by.process (handle_row (free_handle w by.process) (section_name own) SECTION_ACCESS)) in
-    let old = sections-more w v (λ b. more-handles (handle_count w (section_name b)) _ (count (shows_section b) (all_views w)) (handle-count w by.process (section_name own) SECTION_ACCESS (section_name b) (s.tables by.process))) held in
+    let old = sections-more w v (λ b. more-handles (handle_count w (section_name b)) _ (count (shows_section b) (all_views w) + count (offers_section b) w.waits) (handle-count w by.process (section_name own) SECTION_ACCESS (section_name b) (s.tables by.process))) held in
     let some = named-new made by.process (free_handle w by.process) SECTION_ACCESS (section_name own) (birth-self own) c.home in
     every-push (holds-section v) w.sections (new_section by size prot) old (held-some _ (some-sum (handle_count v (section_name own)) _ some))
+
+created-tokens : (w : World) (by : ThreadRow) (kind : PortKind) → CanCall w by → IsSoundWorld w → HasHeldTokens w → HasHeldTokens (world_after w (create_steps by (Makes (new_port (next_birth by) kind) ∷ []) (free_handle w by.process)))
+created-tokens w by kind c s held =
+    let made = basic (basic w (DrawsOrdinal by.number)) (Makes (new_port (next_birth by) kind)) in
+    handle-tokens made by.process (port_name (next_birth by)) PORT_ACCESS (s.tables by.process) (tokens-all w (DrawsOrdinal by.number ∷ Makes (new_port (next_birth by) kind) ∷ []) refl held)
+
+-- a token that is made has a handle
+made-tokens : (w : World) (by : ThreadRow) (name : CallName) (content : Effective) → CanCall w by → IsSoundWorld w → HasHeldTokens w → HasHeldTokens (world_after w (token_steps by name content (free_handle w by.process)))
+made-tokens w by name content c s held =
+    let own = next_birth by in
+    let made = basic (basic w (DrawsOrdinal by.number)) (AddsToken (new_token by content)) in
+    let v = basic made (AddsHandle by.process (handle_row (free_handle w by.process) (token_name own) TOKEN_ACCESS)) in
+    let old = tokens-more w v (λ b. more-handles (handle_count w (token_name b)) _ 0 (handle-count w by.process (token_name own) TOKEN_ACCESS (token_name b) (s.tables by.process))) held in
+    let some = named-new made by.process (free_handle w by.process) TOKEN_ACCESS (token_name own) (birth-self own) c.home in
+    every-push (holds-token v) w.tokens (new_token by content) old (held-some _ (some-sum (handle_count v (token_name own)) _ some))
 
 -- the client port of a connect has a wait
 last-some : (a b c d e f : ℕ) → 1 ≤ e → 1 ≤ a + (b + (c + (d + (e + f))))
@@ -145,14 +164,14 @@ drawn-twice w by =
     let v = basic w (DrawsIdentifier by.number) in
     same-each registered_by (is_thread by.number) past_ordinal (λ t. refl) v.threads ∙ same-each registered_by (is_thread by.number) past_identifier (λ t. refl) w.threads
 
-started-quiet : (w : World) (by : ThreadRow) (connection : Birth) (m : Message) → HasHeldPorts w → HasHeldPorts (world_after w (connect_start by connection m))
-started-quiet w by connection m held =
+started-quiet : (w : World) (by : ThreadRow) (connection : Birth) (offer : Option Offer) (m : Message) → HasHeldPorts w → HasHeldPorts (world_after w (connect_begun by connection offer m))
+started-quiet w by connection offer m held =
     let own = next_birth by in
     let port = client_port by connection in
-    let x = connect_wait by connection m in
-    let v = world_after w (connect_start by connection m) in
-    let old = ports-more w v (λ b. counts-more (handle_count w (port_name b)) _ _ (count (is_sent_on b) w.messages) _ _ _ _ _ _ _ _ (omega arith) (push-more (is_paired_to b) w.ports port) (push-more (is_connected_to b) w.ports port) (omega arith) (push-more (is_made_on b) w.waits x) (not-less _ _ (ap (count (same_birth b)) (drawn-twice w by)))) held in
-    let some = count-has (is_made_on own) (world_after w (connect_start by connection m)).waits (has-push (is_made_on own) w.waits x (birth-self own)) in
+    let x = connect_wait by connection offer m in
+    let v = world_after w (connect_begun by connection offer m) in
+    let old = ports-more w v (λ b. counts-more (handle_count w (port_name b)) _ _ (count (is_sent_on b) w.messages) _ _ _ _ _ _ _ _ (omega arith) (push-more (is_paired_to b) w.ports port) (push-more (is_connected_to b) w.ports port) (omega arith) (push-more (is_made_on b) w.waits x) (claims-more w b _ _ (not-less _ _ (ap (count (same_birth b)) (drawn-twice w by))))) held in
+    let some = count-has (is_made_on own) (world_after w (connect_begun by connection offer m)).waits (has-push (is_made_on own) w.waits x (birth-self own)) in
     every-push (holds-port v) w.ports port old (held-some _ (last-some (handle_count v (port_name own)) (count (is_paired_to own) v.ports) (count (is_connected_to own) v.ports) (count (is_sent_on own) v.messages) _ _ some))
 
 -- a name that is bound holds no row
@@ -176,9 +195,9 @@ further-thread w tid pid birth held =
     }
 
 -- A process that is made with a thread
-module _ (w : World) (pid tid : ℕ) (maker : Option ℕ) (birth next : Birth) where
+module _ (w : World) (pid tid : ℕ) (maker : Option ℕ) (birth next : Birth) (content : Token) where
   abbrev booted_process : ProcessRow
-  booted_process = new_process pid maker birth
+  booted_process = new_process pid maker birth content
 
   abbrev booted_thread : ThreadRow
   booted_thread = new_thread tid pid next
@@ -216,17 +235,20 @@ module _ (w : World) (pid tid : ℕ) (maker : Option ℕ) (birth next : Birth) w
       }
 
   boot-ports : HasHeldPorts w → HasHeldPorts booted
-  boot-ports held = ports-more w booted (λ b. counts-more _ (count (is_paired_to b) w.ports) (count (is_connected_to b) w.ports) (count (is_sent_on b) w.messages) (count (is_made_on b) w.waits) _ _ _ _ _ _ _ (booted-handles (port_name b)) (omega arith) (omega arith) (omega arith) (omega arith) (not-less _ _ (ap (count (same_birth b)) (push-each registered_by booted_thread refl w.threads)))) held
+  boot-ports held = ports-more w booted (λ b. counts-more _ (count (is_paired_to b) w.ports) (count (is_connected_to b) w.ports) (count (is_sent_on b) w.messages) (count (is_made_on b) w.waits) _ _ _ _ _ _ _ (booted-handles (port_name b)) (omega arith) (omega arith) (omega arith) (omega arith) (both-more _ _ (count (is_owned_by b) (all_views w)) _ (not-less _ _ (ap (count (same_birth b)) (push-each registered_by booted_thread refl w.threads))) (not-less _ _ (ap (count (is_owned_by b)) (push-each (λ (t : ViewTable). t.rows) (no_views booted_process.number) refl w.views))))) held
 
   boot-sections : HasHeldSections w → HasHeldSections booted
-  boot-sections held = sections-more w booted (λ b. both-more _ _ (count (shows_section b) (all_views w)) _ (booted-handles (section_name b)) (not-less _ _ (ap (count (shows_section b)) (push-each (λ (t : ViewTable). t.rows) (no_views booted_process.number) refl w.views)))) held
+  boot-sections held = sections-more w booted (λ b. both-more _ _ _ _ (booted-handles (section_name b)) (both-more _ _ (count (offers_section b) w.waits) _ (not-less _ _ (ap (count (shows_section b)) (push-each (λ (t : ViewTable). t.rows) (no_views booted_process.number) refl w.views))) (omega arith))) held
+
+  boot-tokens : HasHeldTokens w → HasHeldTokens booted
+  boot-tokens held = tokens-more w booted (λ b. both-more _ _ 0 0 (booted-handles (token_name b)) (omega arith)) held
 
 -- a thread that is made has registered no port
 further-ports : (w : World) (tid pid : ℕ) (birth : Birth) → HasHeldPorts w → HasHeldPorts (basic w (AddsThread (new_thread tid pid birth)))
 further-ports w tid pid birth held =
     let t = new_thread tid pid birth in
     ports-more w (basic w (AddsThread t)) (λ b. counts-more (handle_count w (port_name b)) (count (is_paired_to b) w.ports) (count (is_connected_to b) w.ports) (count (is_sent_on b) w.messages) (count (is_made_on b) w.waits) _ _ _ _ _ _ _
-    (omega arith) (omega arith) (omega arith) (omega arith) (omega arith) (not-less _ _ (ap (count (same_birth b)) (push-each registered_by t refl w.threads)))) held
+    (omega arith) (omega arith) (omega arith) (omega arith) (omega arith) (claims-more w b _ _ (not-less _ _ (ap (count (same_birth b)) (push-each registered_by t refl w.threads))))) held
 
 -- Calls
 -- a thread that gets handles has one table of them
@@ -250,9 +272,10 @@ record KeepsRows (Q : World → Type 0) : Type 0 where
   gives : (w : World) (pid : ℕ) (o : ObjectName) (access : ℕ) → count (is_table pid) w.handles ≤ 1 → Q w → Q (basic w (AddsHandle pid (handle_row (free_handle w pid) o access)))
   binds : (w : World) (path : Path) (node : Node Birth) → Q w → Q (basic w (Binds path node))
   creates : (w : World) (by : ThreadRow) (kind : PortKind) → CanCall w by → IsSoundWorld w → Q w → Q (world_after w (create_steps by (Makes (new_port (next_birth by) kind) ∷ []) (free_handle w by.process)))
-  connects : (w : World) (by : ThreadRow) (connection : Birth) (m : Message) → Q w → Q (world_after w (connect_start by connection m))
+  connects : (w : World) (by : ThreadRow) (connection : Birth) (offer : Option Offer) (m : Message) → Q w → Q (world_after w (connect_begun by connection offer m))
   builds : (w : World) (by : ThreadRow) (size prot : ℕ) → CanCall w by → IsSoundWorld w → Q w → Q (world_after w (section_steps by size prot (free_handle w by.process)))
-  boots : (w : World) (pid tid : ℕ) (maker : Option ℕ) (birth next : Birth) → Q w → Q (booted w pid tid maker birth next)
+  holds : (w : World) (by : ThreadRow) (name : CallName) (content : Effective) → CanCall w by → IsSoundWorld w → Q w → Q (world_after w (token_steps by name content (free_handle w by.process)))
+  boots : (w : World) (pid tid : ℕ) (maker : Option ℕ) (birth next : Birth) (content : Token) → Q w → Q (booted w pid tid maker birth next content)
   threads : (w : World) (tid pid : ℕ) (birth : Birth) → Q w → Q (basic w (AddsThread (new_thread tid pid birth)))
 
 abbrev KeepQuiet : (World → Type 0) → World → List Basic → Type 0
@@ -262,9 +285,9 @@ module _ (Q : World → Type 0) (k : KeepsRows Q) where
   spawned : (w : World) (by : ThreadRow) (pid tid : ℕ) → was_process w pid ≡ false → CanCall w by → IsSoundWorld w → Q w → Q (world_after w (making_process w by pid tid))
   spawned w by pid tid new c s held =
       let v : World = basic (basic w (DrawsOrdinal by.number)) (DrawsOrdinal by.number) in
-      let t = sound-process v (new_process pid (Some by.process) (next_birth by)) new (sound-ordinal (basic w (DrawsOrdinal by.number)) by.number (sound-ordinal w by.number s)) in
+      let t = sound-process v (new_process pid (Some by.process) (next_birth by) (token_of w by.process)) new (sound-ordinal (basic w (DrawsOrdinal by.number)) by.number (sound-ordinal w by.number s)) in
       (process-keeps (IsTabledWorld Q by) w by c (drawn-held Q draws by) (given-held Q (λ w pid o. k.gives w pid o LIFE_ACCESS) by) pid tid
-      (λ is. record { tables = t.tables by.process; held = k.boots v pid tid (Some by.process) (next_birth by) (second_birth by) is.held })
+      (λ is. record { tables = t.tables by.process; held = k.boots v pid tid (Some by.process) (next_birth by) (second_birth by) (token_of w by.process) is.held })
       (record { tables = s.tables by.process; held = held })).held
     where
       draws : (w : World) (n : ℕ) → Q w → Q (basic w (DrawsOrdinal n))
@@ -277,17 +300,17 @@ module _ (Q : World → Type 0) (k : KeepsRows Q) where
 
   quiet-calls : (by : ThreadRow) (w : World) → IsCalled AnyWorld w by → Outcomes w by (λ _. KeepQuiet Q w)
   quiet-calls by w is = record {
-    creates = λ quiet held. k.creates w by Unnamed is.can is.sound held;
-    founds = λ name path free quiet held. k.binds _ path (Stands (Item (next_birth by))) (k.creates w by Connection is.can is.sound held);
-    connects = λ name bytes connection at quiet held.
-        let m = connection_request by bytes in
-        let v = world_after w (connect_start by connection m) in
+    creates = λ dacl quiet held. k.creates w by Unnamed is.can is.sound held;
+    founds = λ name dacl path free quiet. guarded-keeps Q secures w (create_steps by (named_steps (next_birth by) path) (free_handle w by.process)) (next_birth by) dacl (λ held. k.binds _ path (Stands (Item (next_birth by))) (k.creates w by Connection is.can is.sound held));
+    connects = λ name quality view bytes offer own connection c quiet held.
+        let m = connection_request by offer bytes in
+        let v = world_after w (connect_begun by connection offer m) in
         let row = row_of connection (client_port by connection) m in
-        k.steady v (enter row v) (steady-enter row v) quiet (k.connects w by connection m held);
+        k.steady v ((enter row v ++ mapped by.process own) ++ allow_steps w by quality) (every-append is_steady (enter row v ++ mapped by.process own) (allow_steps w by quality) (every-append is_steady (enter row v) (mapped by.process own) (steady-enter row v) (mapped-pass is_steady by.process (λ _. refl) own)) refl) quiet (k.connects w by connection offer m held);
     listens = λ handle port m found at. k.steady w (listen_steps by port.birth (Some m)) (steady-receipt m);
     awaits_connect = λ handle port found at. k.steady w (listen_steps by port.birth None) refl;
-    refuses = λ context bytes a at quiet. absurd (cc);
-    accepts = λ context bytes a at quiet. absurd (cc);
+    refuses = λ context bytes view a at quiet. absurd (cc);
+    accepts = λ context bytes view offer a views c quiet. let loose = loosened-on (shared_steps by a.wait views) in absurd (cc);
     completes = λ handle c at quiet. absurd (cc);
     sends = λ handle bytes s at. k.steady w (datagram_steps by s.port s.queue (sent_by by DATAGRAM s.message) w) (steady-send w by s);
     asks = λ handle bytes s at. k.steady w (request_steps by s.port s.queue (sent_by by REQUEST s.message) w) (steady-ask w by s);
@@ -308,15 +331,24 @@ module _ (Q : World → Type 0) (k : KeepsRows Q) where
     writes_memory = λ address new v at may. k.steady w (write_steps by address new v) refl;
     reads_range = λ handle bytes index n d at quiet held. held;
     writes_range = λ handle bytes index new d at may. k.steady w (write_range_steps by new d) refl;
+    impersonates = λ handle bytes own allowed. k.steady w (impersonate_steps by own) refl;
+    reverts = λ class. k.steady w (revert_steps by) refl;
+    opens_own = λ own at quiet. k.holds w by NtOpenThreadToken (held_content own) is.can is.sound;
+    opens_primary = λ quiet. k.holds w by NtOpenProcessToken (process_content w by) is.can is.sound;
+    asks_token = λ handle class t field at told quiet held. held;
     ends = λ call name own pid code ts doomed quiet. let loose = doomed-loosens w by name own pid code ts doomed in absurd (cc);
   }
+    where
+      secures : (v : World) (b : Birth) (s : Security) → Q v → Q (basic v (Secures b s))
+      secures v b s = k.steady v (Secures b s ∷ []) refl refl
 
   -- Lines
   quiet-lines : LineLaw AnyWorld (λ _. KeepQuiet Q)
   quiet-lines = record {
     tells = λ line w e _ quiet held. k.steady w (Tells e ∷ []) refl refl held;
     calls = quiet-calls;
-    boots = λ w pid tid _ _ s _ quiet. k.boots w pid tid None (directive_birth pid pid) (directive_birth tid pid);
+    names = λ w name content _. k.steady w (Tells (Directive word.Token SUCCESS) ∷ NamesToken (record { name = name; token = content }) ∷ []) refl;
+    boots = λ w pid tid name content _ _ s _ quiet. k.boots w pid tid None (directive_birth pid pid) (directive_birth tid pid) content;
     threads = λ w tid pid _ _ s _ quiet. k.threads w tid pid (directive_birth tid pid);
     dirs = λ w text path free _ quiet. k.binds w path (Stands Directory);
     links = λ w text target path to free _ quiet. k.binds w path (LinkTo to);
@@ -332,8 +364,9 @@ lives_kept w line s held quiet = line-quiet AreLivesHeld (record {
   gives = lives-handle;
   binds = bound-lives;
   creates = λ w by kind _ s. created-lives w by kind s;
-  connects = λ w by connection m. lives-all w (connect_start by connection m) refl;
+  connects = λ w by connection offer m. lives-all w (connect_begun by connection offer m) refl;
   builds = λ w by size prot _ s held. let bs = DrawsOrdinal by.number ∷ AddsSection (new_section by size prot) ∷ [] in lives-handle (world_after w bs) by.process (section_name (next_birth by)) SECTION_ACCESS (s.tables by.process) (lives-all w bs refl held);
+  holds = λ w by name content _ s held. let bs = DrawsOrdinal by.number ∷ AddsToken (new_token by content) ∷ [] in lives-handle (world_after w bs) by.process (token_name (next_birth by)) TOKEN_ACCESS (s.tables by.process) (lives-all w bs refl held);
   boots = boot-held;
   threads = further-thread;
 }) w line s quiet held
@@ -347,6 +380,7 @@ ports_kept w line s held quiet = line-quiet HasHeldPorts (record {
   creates = created-quiet;
   connects = started-quiet;
   builds = λ w by size prot _ s held. let drawn = basic w (DrawsOrdinal by.number) in handle-quiet (basic drawn (AddsSection (new_section by size prot))) by.process (section_name (next_birth by)) SECTION_ACCESS (s.tables by.process) (quiet-all w (DrawsOrdinal by.number ∷ []) refl refl held);
+  holds = λ w by name content _ s held. let drawn = basic w (DrawsOrdinal by.number) in handle-quiet (basic drawn (AddsToken (new_token by content))) by.process (token_name (next_birth by)) TOKEN_ACCESS (s.tables by.process) (quiet-all w (DrawsOrdinal by.number ∷ []) refl refl held);
   boots = boot-ports;
   threads = further-ports;
 }) w line s quiet held
@@ -358,12 +392,27 @@ sections_kept w line s held quiet = line-quiet HasHeldSections (record {
   gives = handle-sections;
   binds = λ w path node held. held;
   creates = created-sections;
-  connects = λ w by connection m. sections-all w (connect_start by connection m) refl;
+  connects = λ w by connection offer m. sections-all w (connect_begun by connection offer m) refl;
   builds = built-sections;
+  holds = λ w by name content _ s held. let bs = DrawsOrdinal by.number ∷ AddsToken (new_token by content) ∷ [] in handle-sections (world_after w bs) by.process (token_name (next_birth by)) TOKEN_ACCESS (s.tables by.process) (sections-all w bs refl held);
   boots = boot-sections;
   threads = λ w tid pid birth. sections-all w (AddsThread (new_thread tid pid birth) ∷ []) refl;
 }) w line s quiet held
 
+-- and each token row, where the line lets no name go
+pub tokens_kept : (w : World) (line : ScriptLine) → IsSoundWorld w → HasHeldTokens w → loosened false (bare_steps line w) ≡ false → HasHeldTokens (world_after w (bare_steps line w))
+tokens_kept w line s held quiet = line-quiet HasHeldTokens (record {
+  steady = quiet-tokens;
+  gives = handle-tokens;
+  binds = λ w path node held. held;
+  creates = created-tokens;
+  connects = λ w by connection offer m. tokens-all w (connect_begun by connection offer m) refl;
+  builds = λ w by size prot _ s held. let bs = DrawsOrdinal by.number ∷ AddsSection (new_section by size prot) ∷ [] in handle-tokens (world_after w bs) by.process (section_name (next_birth by)) SECTION_ACCESS (s.tables by.process) (tokens-all w bs refl held);
+  holds = made-tokens;
+  boots = boot-tokens;
+  threads = λ w tid pid birth. tokens-all w (AddsThread (new_thread tid pid birth) ∷ []) refl;
+}) w line s quiet held
+
 -- so such a line leaves no row that no row names
 pub quiet_line : (w : World) (line : ScriptLine) → IsSoundWorld w → HasHeldRows w → loosened false (bare_steps line w) ≡ false → unheld (world_after w (bare_steps line w)) ≡ []
-quiet_line w line s held quiet = unheld_ports (world_after w (bare_steps line w)) (lives_kept w line s held.lives quiet) (ports_kept w line s held.ports quiet) (sections_kept w line s held.sections quiet)
+quiet_line w line s held quiet = unheld_ports (world_after w (bare_steps line w)) (lives_kept w line s held.lives quiet) (ports_kept w line s held.ports quiet) (sections_kept w line s held.sections quiet) (tokens_kept w line s held.tokens quiet)

@@ -7,8 +7,8 @@ use Rattle.lpc_base.proofs.RowMaps.{every-both}
 use Rattle.lpc_base.proofs.Births.{birth-same, birth-self}
 use Rattle.lpc_base.proofs.Bools.{first-true, unless-more}
 use Rattle.lpc_model.specs.declared.entry.ObjectKind.TheVariants as kind
-use Rattle.lpc_model.specs.World.{Birth, ObjectKind, ObjectName, PortRow, ProcessRow, SectionRow, ThreadRow, World}
-use Rattle.lpc_model.specs.Found.{handle_count, is_life, is_section, lives_by, pointer_count, port_name, process_name, same_birth, same_object, section_name, thread_name}
+use Rattle.lpc_model.specs.World.{Birth, ObjectKind, ObjectName, PortRow, ProcessRow, SectionRow, ThreadRow, World, TokenRow}
+use Rattle.lpc_model.specs.Found.{handle_count, is_life, is_section, lives_by, pointer_count, port_name, process_name, same_birth, same_object, section_name, thread_name, is_token, token_name}
 use Rattle.lpc_model.specs.Basics.{Frees, basic, freed, world_after}
 use Rattle.lpc_model.specs.Sweep.{free_unheld, is_unheld, unheld}
 use Rattle.lpc_model.proofs.Steps.Rows.{every-left}
@@ -141,7 +141,7 @@ threads-freed (o ∷ os) w = at o.kind o.birth (threads-freed os)
     at : (k : ObjectKind) (b : Birth) → ((v : World) → IsThinned (λ t. thread_name t.birth) os v.threads (world_after v (map Frees os)).threads) → IsThinned (λ t. thread_name t.birth) (record { kind = k; birth = b } ∷ os) w.threads (world_after (freed w k b) (map Frees os)).threads
     at kind.Port b later = thinned _ (record { kind = kind.Port; birth = b }) os w.threads w.threads _ (λ f all. all) (every-any _ (λ t. refl) w.threads) (later (freed w kind.Port b))
     at kind.Section b later = thinned _ (record { kind = kind.Section; birth = b }) os w.threads w.threads _ (λ f all. all) (every-any _ (λ t. refl) w.threads) (later (freed w kind.Section b))
-    at kind.Token b later = thinned _ (record { kind = kind.Token; birth = b }) os w.threads w.threads _ (λ f all. all) (every-any _ (λ t. refl) w.threads) (later w)
+    at kind.Token b later = thinned _ (record { kind = kind.Token; birth = b }) os w.threads w.threads _ (λ f all. all) (every-any _ (λ t. refl) w.threads) (later (freed w kind.Token b))
     at kind.Process b later = thinned _ (record { kind = kind.Process; birth = b }) os w.threads w.threads _ (λ f all. all) (every-any _ (λ t. refl) w.threads) (later (freed w kind.Process b))
     at kind.Thread b later = thinned _ (record { kind = kind.Thread; birth = b }) os w.threads (freed w kind.Thread b).threads _ (λ f all. every-without f (λ t. same_birth t.birth b) w.threads all) (every-left (λ t. same_birth t.birth b) w.threads) (later (freed w kind.Thread b))
 
@@ -152,7 +152,7 @@ processes-freed (o ∷ os) w = at o.kind o.birth (processes-freed os)
     at : (k : ObjectKind) (b : Birth) → ((v : World) → IsThinned (λ p. process_name p.birth) os v.processes (world_after v (map Frees os)).processes) → IsThinned (λ p. process_name p.birth) (record { kind = k; birth = b } ∷ os) w.processes (world_after (freed w k b) (map Frees os)).processes
     at kind.Port b later = thinned _ (record { kind = kind.Port; birth = b }) os w.processes w.processes _ (λ f all. all) (every-any _ (λ t. refl) w.processes) (later (freed w kind.Port b))
     at kind.Section b later = thinned _ (record { kind = kind.Section; birth = b }) os w.processes w.processes _ (λ f all. all) (every-any _ (λ t. refl) w.processes) (later (freed w kind.Section b))
-    at kind.Token b later = thinned _ (record { kind = kind.Token; birth = b }) os w.processes w.processes _ (λ f all. all) (every-any _ (λ t. refl) w.processes) (later w)
+    at kind.Token b later = thinned _ (record { kind = kind.Token; birth = b }) os w.processes w.processes _ (λ f all. all) (every-any _ (λ t. refl) w.processes) (later (freed w kind.Token b))
     at kind.Process b later = thinned _ (record { kind = kind.Process; birth = b }) os w.processes (freed w kind.Process b).processes _ (λ f all. every-without f (λ p. same_birth p.birth b) w.processes all) (every-left (λ p. same_birth p.birth b) w.processes) (later (freed w kind.Process b))
     at kind.Thread b later = thinned _ (record { kind = kind.Thread; birth = b }) os w.processes w.processes _ (λ f all. all) (every-any _ (λ t. refl) w.processes) (later (freed w kind.Thread b))
 
@@ -166,9 +166,23 @@ sections-freed (o ∷ os) w = at o.kind o.birth (sections-freed os)
     at : (k : ObjectKind) (b : Birth) → ((v : World) → IsThinned (λ s. section_name s.birth) os v.sections (world_after v (map Frees os)).sections) → IsThinned (λ s. section_name s.birth) (record { kind = k; birth = b } ∷ os) w.sections (world_after (freed w k b) (map Frees os)).sections
     at kind.Port b later = stay kind.Port b (λ s. refl) _ (later (freed w kind.Port b))
     at kind.Section b later = thinned _ (section_name b) os w.sections (freed w kind.Section b).sections _ (λ f all. every-without f (is_section b) w.sections all) (every-left (is_section b) w.sections) (later (freed w kind.Section b))
-    at kind.Token b later = stay kind.Token b (λ s. refl) _ (later w)
+    at kind.Token b later = stay kind.Token b (λ s. refl) _ (later (freed w kind.Token b))
     at kind.Process b later = stay kind.Process b (λ s. refl) _ (later (freed w kind.Process b))
     at kind.Thread b later = stay kind.Thread b (λ s. refl) _ (later (freed w kind.Thread b))
+
+tokens-freed : (os : List ObjectName) (w : World) → IsThinned (λ t. token_name t.birth) os w.tokens (world_after w (map Frees os)).tokens
+tokens-freed [] w = record { keeps = λ f all. all; gone = unlisted (λ t. token_name t.birth) w.tokens }
+tokens-freed (o ∷ os) w = at o.kind o.birth (tokens-freed os)
+  where
+    stay : (k : ObjectKind) (b : Birth) → ((t : TokenRow) → same_object (token_name t.birth) (record { kind = k; birth = b }) ≡ false) → (zs : List TokenRow) → IsThinned (λ t. token_name t.birth) os w.tokens zs → IsThinned (λ t. token_name t.birth) (record { kind = k; birth = b } ∷ os) w.tokens zs
+    stay k b off zs later = thinned _ (record { kind = k; birth = b }) os w.tokens w.tokens zs (λ f all. all) (every-any (λ t. not (same_object (token_name t.birth) (record { kind = k; birth = b }))) (λ t. ap not (off t)) w.tokens) later
+
+    at : (k : ObjectKind) (b : Birth) → ((v : World) → IsThinned (λ t. token_name t.birth) os v.tokens (world_after v (map Frees os)).tokens) → IsThinned (λ t. token_name t.birth) (record { kind = k; birth = b } ∷ os) w.tokens (world_after (freed w k b) (map Frees os)).tokens
+    at kind.Port b later = stay kind.Port b (λ t. refl) _ (later (freed w kind.Port b))
+    at kind.Section b later = stay kind.Section b (λ t. refl) _ (later (freed w kind.Section b))
+    at kind.Token b later = thinned _ (token_name b) os w.tokens (freed w kind.Token b).tokens _ (λ f all. every-without f (is_token b) w.tokens all) (every-left (is_token b) w.tokens) (later (freed w kind.Token b))
+    at kind.Process b later = stay kind.Process b (λ t. refl) _ (later (freed w kind.Process b))
+    at kind.Thread b later = stay kind.Thread b (λ t. refl) _ (later (freed w kind.Thread b))
 
 -- as many rows count for a section, whatever goes
 pub same-section : (w : World) (o : ObjectName) (b : Birth) → pointer_count (basic w (Frees o)) (section_name b) ≡ pointer_count w (section_name b)
@@ -184,6 +198,21 @@ same-section w o b = at o.kind o.birth
 list-section : (os : List ObjectName) (w : World) (b : Birth) → pointer_count (world_after w (map Frees os)) (section_name b) ≡ pointer_count w (section_name b)
 list-section [] w b = refl
 list-section (o ∷ os) w b = list-section os (basic w (Frees o)) b ∙ same-section w o b
+
+-- as many rows count for a token, whatever goes
+pub same-token : (w : World) (o : ObjectName) (b : Birth) → pointer_count (basic w (Frees o)) (token_name b) ≡ pointer_count w (token_name b)
+same-token w o b = at o.kind o.birth
+  where
+    at : (k : ObjectKind) (c : Birth) → pointer_count (freed w k c) (token_name b) ≡ pointer_count w (token_name b)
+    at kind.Port c = refl
+    at kind.Section c = refl
+    at kind.Token c = refl
+    at kind.Process c = refl
+    at kind.Thread c = refl
+
+list-token : (os : List ObjectName) (w : World) (b : Birth) → pointer_count (world_after w (map Frees os)) (token_name b) ≡ pointer_count w (token_name b)
+list-token [] w b = refl
+list-token (o ∷ os) w b = list-token os (basic w (Frees o)) b ∙ same-token w o b
 
 -- Rows that no row names are listed
 members : {X : Type 0} (w : World) (name : X → ObjectName) → ((x : X) → same_object (name x) (name x) ≡ true) → (xs : List X) → every (λ x. not (is_unheld w (name x)) || is_among (which (is_unheld w) (map name xs)) (name x)) xs ≡ true
@@ -222,7 +251,7 @@ module _ (w : World) where
       let two = threads-freed (unheld once_swept) once_swept in
       let rest = map (λ (p : PortRow). port_name p.birth) w.ports in
       let listed = every-more (λ (t : ThreadRow). not (is_unheld w (thread_name t.birth)) || is_among (which (is_unheld w) (map (λ t. thread_name t.birth) w.threads)) (thread_name t.birth)) (λ (t : ThreadRow). not (is_unheld w (thread_name t.birth)) || is_among (unheld w) (thread_name t.birth))
-      (λ t is. unless-more (is_unheld w (thread_name t.birth)) _ _ (λ here. has-behind (λ o. same_object (thread_name t.birth) o) (is_unheld w) (map (λ s. section_name s.birth) w.sections) (map (λ p. process_name p.birth) w.processes ++ (map (λ t. thread_name t.birth) w.threads ++ rest)) (has-behind (λ o. same_object (thread_name t.birth) o) (is_unheld w) (map (λ p. process_name p.birth) w.processes) (map (λ t. thread_name t.birth) w.threads ++ rest) (has-front (λ o. same_object (thread_name t.birth) o) (is_unheld w) (map (λ t. thread_name t.birth) w.threads) rest here))) is) w.threads (members w (λ t. thread_name t.birth) (λ t. birth-self t.birth) w.threads) in
+      (λ t is. unless-more (is_unheld w (thread_name t.birth)) _ _ (λ here. has-behind (λ o. same_object (thread_name t.birth) o) (is_unheld w) (map (λ t. token_name t.birth) w.tokens) (map (λ s. section_name s.birth) w.sections ++ (map (λ p. process_name p.birth) w.processes ++ (map (λ t. thread_name t.birth) w.threads ++ rest))) (has-behind (λ o. same_object (thread_name t.birth) o) (is_unheld w) (map (λ s. section_name s.birth) w.sections) (map (λ p. process_name p.birth) w.processes ++ (map (λ t. thread_name t.birth) w.threads ++ rest)) (has-behind (λ o. same_object (thread_name t.birth) o) (is_unheld w) (map (λ p. process_name p.birth) w.processes) (map (λ t. thread_name t.birth) w.threads ++ rest) (has-front (λ o. same_object (thread_name t.birth) o) (is_unheld w) (map (λ t. thread_name t.birth) w.threads) rest here)))) is) w.threads (members w (λ t. thread_name t.birth) (λ t. birth-self t.birth) w.threads) in
       let held = every-both (λ (t : ThreadRow). not (is_unheld w (thread_name t.birth)) || is_among (unheld w) (thread_name t.birth)) (λ t. not (is_among (unheld w) (thread_name t.birth))) (λ t. not (is_unheld w (thread_name t.birth))) (λ t one two. not-passing _ _ one two) once_swept.threads (one.keeps _ listed) one.gone in
       every-more (λ t. not (is_unheld w (thread_name t.birth))) (λ t. not (is_unheld twice_swept (thread_name t.birth))) (λ t is. swept-same _ _ (list-thread (unheld once_swept) once_swept t.birth (which-all (is_unheld once_swept) _) ∙ list-thread (unheld w) w t.birth (which-all (is_unheld w) _)) is) twice_swept.threads (two.keeps _ held)
 
@@ -232,7 +261,7 @@ module _ (w : World) where
       let two = processes-freed (unheld once_swept) once_swept in
       let rest = map (λ (t : ThreadRow). thread_name t.birth) w.threads ++ map (λ (p : PortRow). port_name p.birth) w.ports in
       let listed = every-more (λ (p : ProcessRow). not (is_unheld w (process_name p.birth)) || is_among (which (is_unheld w) (map (λ p. process_name p.birth) w.processes)) (process_name p.birth)) (λ (p : ProcessRow). not (is_unheld w (process_name p.birth)) || is_among (unheld w) (process_name p.birth))
-      (λ p is. unless-more (is_unheld w (process_name p.birth)) _ _ (λ here. has-behind (λ o. same_object (process_name p.birth) o) (is_unheld w) (map (λ s. section_name s.birth) w.sections) (map (λ p. process_name p.birth) w.processes ++ rest) (has-front (λ o. same_object (process_name p.birth) o) (is_unheld w) (map (λ p. process_name p.birth) w.processes) rest here)) is) w.processes (members w (λ p. process_name p.birth) (λ p. birth-self p.birth) w.processes) in
+      (λ p is. unless-more (is_unheld w (process_name p.birth)) _ _ (λ here. has-behind (λ o. same_object (process_name p.birth) o) (is_unheld w) (map (λ t. token_name t.birth) w.tokens) (map (λ s. section_name s.birth) w.sections ++ (map (λ p. process_name p.birth) w.processes ++ rest)) (has-behind (λ o. same_object (process_name p.birth) o) (is_unheld w) (map (λ s. section_name s.birth) w.sections) (map (λ p. process_name p.birth) w.processes ++ rest) (has-front (λ o. same_object (process_name p.birth) o) (is_unheld w) (map (λ p. process_name p.birth) w.processes) rest here))) is) w.processes (members w (λ p. process_name p.birth) (λ p. birth-self p.birth) w.processes) in
       let held = every-both (λ (p : ProcessRow). not (is_unheld w (process_name p.birth)) || is_among (unheld w) (process_name p.birth)) (λ p. not (is_among (unheld w) (process_name p.birth))) (λ p. not (is_unheld w (process_name p.birth))) (λ p one two. not-passing _ _ one two) once_swept.processes (one.keeps _ listed) one.gone in
       every-more (λ p. not (is_unheld w (process_name p.birth))) (λ p. not (is_unheld twice_swept (process_name p.birth))) (λ p is. swept-same _ _ (list-process (unheld once_swept) once_swept p.birth (which-all (is_unheld once_swept) _) ∙ list-process (unheld w) w p.birth (which-all (is_unheld w) _)) is) twice_swept.processes (two.keeps _ held)
 
@@ -242,6 +271,16 @@ module _ (w : World) where
       let two = sections-freed (unheld once_swept) once_swept in
       let rest = map (λ (p : ProcessRow). process_name p.birth) w.processes ++ (map (λ (t : ThreadRow). thread_name t.birth) w.threads ++ map (λ (p : PortRow). port_name p.birth) w.ports) in
       let listed = every-more (λ (s : SectionRow). not (is_unheld w (section_name s.birth)) || is_among (which (is_unheld w) (map (λ s. section_name s.birth) w.sections)) (section_name s.birth)) (λ (s : SectionRow). not (is_unheld w (section_name s.birth)) || is_among (unheld w) (section_name s.birth))
-      (λ s is. unless-more (is_unheld w (section_name s.birth)) _ _ (λ here. has-front (λ o. same_object (section_name s.birth) o) (is_unheld w) (map (λ s. section_name s.birth) w.sections) rest here) is) w.sections (members w (λ s. section_name s.birth) (λ s. birth-self s.birth) w.sections) in
+      (λ s is. unless-more (is_unheld w (section_name s.birth)) _ _ (λ here. has-behind (λ o. same_object (section_name s.birth) o) (is_unheld w) (map (λ t. token_name t.birth) w.tokens) (map (λ s. section_name s.birth) w.sections ++ rest) (has-front (λ o. same_object (section_name s.birth) o) (is_unheld w) (map (λ s. section_name s.birth) w.sections) rest here)) is) w.sections (members w (λ s. section_name s.birth) (λ s. birth-self s.birth) w.sections) in
       let held = every-both (λ (s : SectionRow). not (is_unheld w (section_name s.birth)) || is_among (unheld w) (section_name s.birth)) (λ s. not (is_among (unheld w) (section_name s.birth))) (λ s. not (is_unheld w (section_name s.birth))) (λ s one two. not-passing _ _ one two) once_swept.sections (one.keeps _ listed) one.gone in
       every-more (λ s. not (is_unheld w (section_name s.birth))) (λ s. not (is_unheld twice_swept (section_name s.birth))) (λ s is. swept-same _ _ (list-section (unheld once_swept) once_swept s.birth ∙ list-section (unheld w) w s.birth) is) twice_swept.sections (two.keeps _ held)
+
+  pub tokens-held : every (λ t. not (is_unheld twice_swept (token_name t.birth))) twice_swept.tokens ≡ true
+  tokens-held =
+      let one = tokens-freed (unheld w) w in
+      let two = tokens-freed (unheld once_swept) once_swept in
+      let rest = map (λ (s : SectionRow). section_name s.birth) w.sections ++ (map (λ (p : ProcessRow). process_name p.birth) w.processes ++ (map (λ (t : ThreadRow). thread_name t.birth) w.threads ++ map (λ (p : PortRow). port_name p.birth) w.ports)) in
+      let listed = every-more (λ (t : TokenRow). not (is_unheld w (token_name t.birth)) || is_among (which (is_unheld w) (map (λ t. token_name t.birth) w.tokens)) (token_name t.birth)) (λ (t : TokenRow). not (is_unheld w (token_name t.birth)) || is_among (unheld w) (token_name t.birth))
+      (λ t is. unless-more (is_unheld w (token_name t.birth)) _ _ (λ here. has-front (λ o. same_object (token_name t.birth) o) (is_unheld w) (map (λ t. token_name t.birth) w.tokens) rest here) is) w.tokens (members w (λ t. token_name t.birth) (λ t. birth-self t.birth) w.tokens) in
+      let held = every-both (λ (t : TokenRow). not (is_unheld w (token_name t.birth)) || is_among (unheld w) (token_name t.birth)) (λ t. not (is_among (unheld w) (token_name t.birth))) (λ t. not (is_unheld w (token_name t.birth))) (λ t one two. not-passing _ _ one two) once_swept.tokens (one.keeps _ listed) one.gone in
+      every-more (λ t. not (is_unheld w (token_name t.birth))) (λ t. not (is_unheld twice_swept (token_name t.birth))) (λ t is. swept-same _ _ (list-token (unheld once_swept) once_swept t.birth ∙ list-token (unheld w) w t.birth) is) twice_swept.tokens (two.keeps _ held)

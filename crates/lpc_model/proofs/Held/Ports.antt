@@ -10,7 +10,7 @@ use Rattle.lpc_base.proofs.Births.{birth-same, birth-self, birth-turned}
 use Rattle.lpc_base.proofs.Bools.{or-last, unless-more}
 use Rattle.lpc_model.specs.declared.entry.ObjectKind.TheVariants as kind
 use Rattle.lpc_model.specs.World.{Birth, ObjectKind, ObjectName, PortRow, World}
-use Rattle.lpc_model.specs.Found.{all_registrations, handle_count, is_connected_to, is_made_on, is_paired_to, is_port, is_sent_on, is_the, pair_of, port_name, port_row, process_name, same_birth, same_kind, same_object, section_name, thread_name}
+use Rattle.lpc_model.specs.Found.{all_registrations, all_views, handle_count, is_connected_to, is_made_on, is_owned_by, is_paired_to, is_port, is_sent_on, is_the, pair_of, port_name, port_row, process_name, same_birth, same_kind, same_object, section_name, thread_name, token_name}
 use Rattle.lpc_model.specs.Basics.{Frees, basic, freed, world_after}
 use Rattle.lpc_model.specs.Sweep.{free_unheld, is_unheld, unheld}
 use Rattle.lpc_model.specs.Linked.{HasHeldPorts, IsLinked, is_root_port, is_mutual, is_rooted, names_nothing, passes_or_none}
@@ -36,6 +36,7 @@ pub record IsFreed (w v : World) (os : List ObjectName) : Type 0 where
   pub messages : v.messages ≡ w.messages
   pub waits : v.waits ≡ w.waits
   pub handles : v.handles ≡ w.handles
+  pub views : v.views ≡ w.views
 
 listed-parts : (o : ObjectName) (os : List ObjectName) (p : PortRow) → is_listed (o ∷ os) p ≡ (same_object (port_name p.birth) o || is_listed os p)
 listed-parts o os p = grind arith
@@ -54,7 +55,7 @@ port-freed b c ports os = without-twice (is_port b) (is_listed os) (is_listed (p
     same p = refl
 
 freed-list : (os : List ObjectName) (w : World) → IsFreed w (world_after w (map Frees os)) os
-freed-list [] w = record { ports = sym (unlisted w.ports); messages = refl; waits = refl; handles = refl }
+freed-list [] w = record { ports = sym (unlisted w.ports); messages = refl; waits = refl; handles = refl; views = refl }
 freed-list (o ∷ os) w = at o.kind o.birth (freed-list os)
   where
     other : (k : ObjectKind) (b : Birth) → ((p : PortRow) → same_object (port_name p.birth) (record { kind = k; birth = b }) ≡ false) → without (is_listed os) w.ports ≡ without (is_listed (record { kind = k; birth = b } ∷ os)) w.ports
@@ -66,15 +67,15 @@ freed-list (o ∷ os) w = at o.kind o.birth (freed-list os)
     at : (k : ObjectKind) (b : Birth) → ((v : World) → IsFreed v (world_after v (map Frees os)) os) → let o : ObjectName = record { kind = k; birth = b } in IsFreed w (world_after w (map Frees (o ∷ os))) (o ∷ os)
     at kind.Port b later =
         let f = later (basic w (Frees (port_name b))) in
-        record { ports = f.ports ∙ port-freed b b w.ports os; messages = f.messages; waits = f.waits; handles = f.handles }
+        record { ports = f.ports ∙ port-freed b b w.ports os; messages = f.messages; waits = f.waits; handles = f.handles; views = f.views }
     at kind.Section b later =
-        let f = later (freed w kind.Section b) in record { ports = f.ports ∙ other kind.Section b (λ p. refl); messages = f.messages; waits = f.waits; handles = f.handles }
+        let f = later (freed w kind.Section b) in record { ports = f.ports ∙ other kind.Section b (λ p. refl); messages = f.messages; waits = f.waits; handles = f.handles; views = f.views }
     at kind.Token b later =
-        let f = later w in record { ports = f.ports ∙ other kind.Token b (λ p. refl); messages = f.messages; waits = f.waits; handles = f.handles }
+        let f = later (freed w kind.Token b) in record { ports = f.ports ∙ other kind.Token b (λ p. refl); messages = f.messages; waits = f.waits; handles = f.handles; views = f.views }
     at kind.Process b later =
-        let f = later (freed w kind.Process b) in record { ports = f.ports ∙ other kind.Process b (λ p. refl); messages = f.messages; waits = f.waits; handles = f.handles }
+        let f = later (freed w kind.Process b) in record { ports = f.ports ∙ other kind.Process b (λ p. refl); messages = f.messages; waits = f.waits; handles = f.handles; views = f.views }
     at kind.Thread b later =
-        let f = later (freed w kind.Thread b) in record { ports = f.ports ∙ other kind.Thread b (λ p. refl); messages = f.messages; waits = f.waits; handles = f.handles }
+        let f = later (freed w kind.Thread b) in record { ports = f.ports ∙ other kind.Thread b (λ p. refl); messages = f.messages; waits = f.waits; handles = f.handles; views = f.views }
 
 -- What is listed
 its-name : (b : Birth) (o : ObjectName) → same_object (port_name b) o ≡ true → o ≡ port_name b
@@ -119,15 +120,16 @@ members w (z ∷ zs) = at (members w zs) (is_unheld w (port_name z.birth)) refl
 listed-ports : (w : World) → every (λ p. not (is_unheld w (port_name p.birth)) || is_listed (unheld w) p) w.ports ≡ true
 listed-ports w =
     every-more (λ p. not (is_unheld w (port_name p.birth)) || is_listed (which (is_unheld w) (port_names w.ports)) p) (λ p. not (is_unheld w (port_name p.birth)) || is_listed (unheld w) p)
-    (λ p is. unless-more (is_unheld w (port_name p.birth)) _ _ (λ one. has-behind (λ o. same_object (port_name p.birth) o) (is_unheld w) (map (λ s. section_name s.birth) w.sections) (map (λ q. process_name q.birth) w.processes ++ (map (λ t. thread_name t.birth) w.threads ++ port_names w.ports))
+    (λ p is. unless-more (is_unheld w (port_name p.birth)) _ _ (λ one. has-behind (λ o. same_object (port_name p.birth) o) (is_unheld w) (map (λ t. token_name t.birth) w.tokens) (map (λ s. section_name s.birth) w.sections ++ (map (λ q. process_name q.birth) w.processes ++ (map (λ t. thread_name t.birth) w.threads ++ port_names w.ports)))
+    (has-behind (λ o. same_object (port_name p.birth) o) (is_unheld w) (map (λ s. section_name s.birth) w.sections) (map (λ q. process_name q.birth) w.processes ++ (map (λ t. thread_name t.birth) w.threads ++ port_names w.ports))
     (has-behind (λ o. same_object (port_name p.birth) o) (is_unheld w) (map (λ q. process_name q.birth) w.processes) (map (λ t. thread_name t.birth) w.threads ++ port_names w.ports)
-    (has-behind (λ o. same_object (port_name p.birth) o) (is_unheld w) (map (λ t. thread_name t.birth) w.threads) (port_names w.ports) one))) is) w.ports (members w w.ports)
+    (has-behind (λ o. same_object (port_name p.birth) o) (is_unheld w) (map (λ t. thread_name t.birth) w.threads) (port_names w.ports) one)))) is) w.ports (members w w.ports)
 
 -- Who holds a port
 -- a row that isn't a port holds it; a port does
 abbrev pub is_held_aside : World → Birth → Bool
 is_held_aside w b =
-    not (handle_count w (port_name b) == 0) || (has (is_sent_on b) w.messages || (has (is_made_on b) w.waits || has (same_birth b) (all_registrations w)))
+    not (handle_count w (port_name b) == 0) || (has (is_sent_on b) w.messages || (has (is_made_on b) w.waits || (has (same_birth b) (all_registrations w) || has (is_owned_by b) (all_views w))))
 
 abbrev pub is_held_by : List PortRow → Birth → Bool
 is_held_by ports b = has (is_paired_to b) ports || has (is_connected_to b) ports
@@ -140,22 +142,23 @@ count-zero p (x ∷ xs) = at (p x) refl (count-zero p xs)
     at true is later = grind (arith, nat_tests)
     at false is later = grind (arith, later)
 
-sum-zero : (a b c d e f : ℕ) → ((a + (b + (c + (d + (e + f))))) == 0) ≡ ((a == 0) && ((b == 0) && ((c == 0) && ((d == 0) && ((e == 0) && (f == 0))))))
-sum-zero a b c d e f = grind (arith, nat_tests)
+sum-zero : (a b c d e f g : ℕ) → ((a + (b + (c + (d + (e + (f + g)))))) == 0) ≡ ((a == 0) && ((b == 0) && ((c == 0) && ((d == 0) && ((e == 0) && ((f == 0) && (g == 0)))))))
+sum-zero a b c d e f g = grind (arith, nat_tests)
 
 pub unheld-parts : (w : World) (b : Birth) → is_unheld w (port_name b) ≡ not (is_held_aside w b || is_held_by w.ports b)
 unheld-parts w b =
     let a = handle_count w (port_name b) in
-    let sums = sum-zero a (count (is_paired_to b) w.ports) (count (is_connected_to b) w.ports) (count (is_sent_on b) w.messages) (count (is_made_on b) w.waits) (count (same_birth b) (all_registrations w)) in
+    let sums = sum-zero a (count (is_paired_to b) w.ports) (count (is_connected_to b) w.ports) (count (is_sent_on b) w.messages) (count (is_made_on b) w.waits) (count (same_birth b) (all_registrations w)) (count (is_owned_by b) (all_views w)) in
     let one = count-zero (is_paired_to b) w.ports in
     let two = count-zero (is_connected_to b) w.ports in
     let three = count-zero (is_sent_on b) w.messages in
     let four = count-zero (is_made_on b) w.waits in
     let five = count-zero (same_birth b) (all_registrations w) in
-    sums ∙ all-parts (a == 0) _ _ _ _ _ _ _ _ _ _ one two three four five
+    let six = count-zero (is_owned_by b) (all_views w) in
+    sums ∙ all-parts (a == 0) _ _ _ _ _ _ _ _ _ _ _ _ one two three four five six
   where
-    all-parts : (a b c d e f p q r s t : Bool) → b ≡ not p → c ≡ not q → d ≡ not r → e ≡ not s → f ≡ not t → (a && (b && (c && (d && (e && f))))) ≡ not ((not a || (r || (s || t))) || (p || q))
-    all-parts a b c d e f p q r s t one two three four five = grind arith
+    all-parts : (a b c d e f g p q r s t u : Bool) → b ≡ not p → c ≡ not q → d ≡ not r → e ≡ not s → f ≡ not t → g ≡ not u → (a && (b && (c && (d && (e && (f && g)))))) ≡ not ((not a || (r || (s || (t || u)))) || (p || q))
+    all-parts a b c d e f g p q r s t u one two three four five six = grind arith
 
 -- Two passes
 -- a port that isn't held has no other end
@@ -246,10 +249,10 @@ module _ (w : World) (l : IsLinked w) where
   goes-later p = is_listed (unheld once_swept) p
 
   aside-one : (b : Birth) → is_held_aside once_swept b ≡ is_held_aside w b
-  aside-one b = rw (one.messages, one.waits, one.handles, frees-registrations w (unheld w) (which-all (is_unheld w) _)) refl
+  aside-one b = rw (one.messages, one.waits, one.handles, one.views, frees-registrations w (unheld w) (which-all (is_unheld w) _)) refl
 
   aside-two : (b : Birth) → is_held_aside swept b ≡ is_held_aside once_swept b
-  aside-two b = rw (two.messages, two.waits, two.handles, frees-registrations once_swept (unheld once_swept) (which-all (is_unheld once_swept) _)) refl
+  aside-two b = rw (two.messages, two.waits, two.handles, two.views, frees-registrations once_swept (unheld once_swept) (which-all (is_unheld once_swept) _)) refl
 
   -- what goes first isn't paired
   gone-unpaired : (c : Birth) → every (λ q. not (goes q) || not (is_paired_to c q)) w.ports ≡ true

@@ -6,15 +6,15 @@ use Rattle.std.proofs.Math.Bool.{or-true}
 use Rattle.lpc_base.specs.Rows.{change, count, each, every, has, which}
 use Rattle.lpc_base.proofs.RowWords.{count-append, count-push, every-change, every-more}
 use Rattle.lpc_base.proofs.Bools.{first-true, number-apart, second-true}
-use Rattle.lpc_model.specs.World.{Birth, HandleRow, HandleTable, ObjectName, PortRow, ProcessRow, SectionRow, ThreadRow, ViewTable, World}
-use Rattle.lpc_model.specs.Found.{all_registrations, all_views, free_handle, handle_count, has_value, is_connected_to, is_life, is_made_on, is_paired_to, is_port, is_sent_on, is_space, is_table, is_thread, lives_by, pointer_count, port_name, process_name, registered_by, same_birth, same_object, section_name, shows_section, thread_name, waits_as, waits_at}
-use Rattle.lpc_model.specs.Basics.{Accepts, AddsHandle, AddsProcess, AddsSection, AddsThread, Awaits, Basic, Binds, Completes, Cuts, Dies, DrawsIdentifier, DrawsOrdinal, DropsHandle, DropsViewsOf, Empties, Enters, Frees, Joins, Makes, Maps, Receives, Registers, Takes, TakesConnect, Tells, Unbinds, Unmaps, Unregisters, Wakes, Withdraws, Writes, accepted, basic, completed, past_identifier, past_ordinal, put_handle, received, registering, unregistering, with_handle, with_view, world_after}
+use Rattle.lpc_model.specs.World.{Birth, HandleRow, HandleTable, ObjectName, PortRow, ProcessRow, SectionRow, ThreadRow, ViewTable, World, TokenRow}
+use Rattle.lpc_model.specs.Found.{all_registrations, all_views, free_handle, handle_count, has_value, is_connected_to, is_life, is_made_on, is_owned_by, is_paired_to, is_port, is_sent_on, is_space, is_table, is_thread, lives_by, pointer_count, port_name, process_name, registered_by, same_birth, same_object, section_name, shows_section, thread_name, waits_as, waits_at, offers_section, token_name}
+use Rattle.lpc_model.specs.Basics.{Accepts, AddsHandle, AddsProcess, AddsSection, AddsThread, Awaits, Basic, Binds, Completes, Cuts, Dies, DrawsIdentifier, DrawsOrdinal, DropsHandle, DropsOwned, DropsViewsOf, Empties, Enters, Frees, Joins, Makes, Maps, Receives, Registers, Takes, TakesConnect, Tells, Unbinds, Unmaps, Unregisters, Wakes, Withdraws, Writes, accepted, basic, completed, past_identifier, past_ordinal, put_handle, received, registering, unregistering, with_handle, with_view, world_after, Acts, AddsToken, NamesToken, Secures, acting, secured}
 use Rattle.lpc_model.specs.Sweep.{is_unheld, loosened, loosens}
-use Rattle.lpc_model.specs.Linked.{AreLivesHeld, HasHeldPorts, HasHeldSections}
+use Rattle.lpc_model.specs.Linked.{AreLivesHeld, HasHeldPorts, HasHeldSections, HasHeldTokens}
 use Rattle.lpc_model.specs.Tests.{handle_row}
 use Rattle.lpc_model.proofs.Steps.Rows.{count-change}
 use Rattle.lpc_model.proofs.Steps.Handles.{alone, value-free}
-use Rattle.lpc_model.proofs.Steps.Registrations.{more-each, registering-more, same-each}
+use Rattle.lpc_model.proofs.Steps.Registrations.{back-more, more-each, registering-more, same-each}
 use Rattle.lpc_model.proofs.Linked.Steps.{is_steady}
 use Rattle.lpc_model.proofs.Steps.InTurn.{steps-keep}
 
@@ -133,6 +133,7 @@ lives-step w (DrawsIdentifier who) is held = drawn-lives w who past_identifier (
 lives-step w (DrawsOrdinal who) is held = drawn-lives w who past_ordinal (λ t. refl) (λ t. refl) (λ t. refl) held
 lives-step w (Registers who b) is held = drawn-lives w who (registering b) (λ t. refl) (λ t. refl) (λ t. refl) held
 lives-step w (Unregisters who b) is held = drawn-lives w who (unregistering b) (λ t. refl) (λ t. refl) (λ t. refl) held
+lives-step w (Acts who own) is held = drawn-lives w who (acting own) (λ t. refl) (λ t. refl) (λ t. refl) held
 lives-step w (Dies who status) is held = absurd (cc)
 lives-step w (AddsProcess p) is held = absurd (cc)
 lives-step w (AddsThread t) is held = absurd (cc)
@@ -166,6 +167,13 @@ ports-more w v more held = every-more (holds-port w) (holds-port v) (λ p is. he
 pub counts-more : (a b c d e f i j k l m n : ℕ) → a ≤ i → b ≤ j → c ≤ k → d ≤ l → e ≤ m → f ≤ n → a + (b + (c + (d + (e + f)))) ≤ i + (j + (k + (l + (m + n))))
 counts-more a b c d e f i j k l m n one two three four five six = omega (arith, one, two, three, four, five, six)
 
+-- the registrations of a port, and the views that it owns
+abbrev pub claims : World → Birth → ℕ
+claims w b = count (same_birth b) (all_registrations w) + count (is_owned_by b) (all_views w)
+
+pub claims-more : (w : World) (b : Birth) (m n : ℕ) → m ≤ n → m + count (is_owned_by b) (all_views w) ≤ n + count (is_owned_by b) (all_views w)
+claims-more w b m n is = omega (arith, is)
+
 pub not-less : (a b : ℕ) → b ≡ a → a ≤ b
 not-less a b is = omega (arith, is)
 
@@ -173,8 +181,8 @@ not-less a b is = omega (arith, is)
 pub drawn-quiet : (w : World) (who : ℕ) (f : ThreadRow → ThreadRow) → ((t : ThreadRow) → registered_by (f t) ≡ registered_by t) → HasHeldPorts w → HasHeldPorts (record w { threads = change (is_thread who) f w.threads })
 drawn-quiet w who f same held =
     let v : World = record w { threads = change (is_thread who) f w.threads } in
-    ports-more w v (λ b. counts-more (handle_count w (port_name b)) (count (is_paired_to b) w.ports) (count (is_connected_to b) w.ports) (count (is_sent_on b) w.messages) (count (is_made_on b) w.waits) (count (same_birth b) (all_registrations w)) _ _ _ _ _ _
-    (omega arith) (omega arith) (omega arith) (omega arith) (omega arith) (not-less _ _ (ap (count (same_birth b)) (same-each registered_by (is_thread who) f same w.threads)))) held
+    ports-more w v (λ b. counts-more (handle_count w (port_name b)) (count (is_paired_to b) w.ports) (count (is_connected_to b) w.ports) (count (is_sent_on b) w.messages) (count (is_made_on b) w.waits) (claims w b) _ _ _ _ _ _
+    (omega arith) (omega arith) (omega arith) (omega arith) (omega arith) (claims-more w b _ _ (not-less _ _ (ap (count (same_birth b)) (same-each registered_by (is_thread who) f same w.threads))))) held
 
 -- steady steps that let no name go
 quiet-step : (w : World) (b : Basic) → is_steady b ≡ true → loosens b ≡ false → HasHeldPorts w → HasHeldPorts (basic w b)
@@ -183,17 +191,24 @@ quiet-step w (DrawsIdentifier who) is quiet held = drawn-quiet w who past_identi
 quiet-step w (DrawsOrdinal who) is quiet held = drawn-quiet w who past_ordinal (λ t. refl) held
 quiet-step w (Registers who c) is quiet held =
     ports-more w (basic w (Registers who c)) (λ b. counts-more (handle_count w (port_name b)) (count (is_paired_to b) w.ports) (count (is_connected_to b) w.ports) (count (is_sent_on b) w.messages) (count (is_made_on b) w.waits) _ _ _ _ _ _ _
-    (omega arith) (omega arith) (omega arith) (omega arith) (omega arith) (more-each (same_birth b) registered_by (is_thread who) (registering c) (registering-more b c) w.threads)) held
+    (omega arith) (omega arith) (omega arith) (omega arith) (omega arith) (claims-more w b _ _ (more-each (same_birth b) registered_by (is_thread who) (registering c) (registering-more b c) w.threads))) held
 quiet-step w (Binds path node) is quiet held = held
 quiet-step w (Unbinds b) is quiet held = held
-quiet-step w (Awaits x) is quiet held = ports-more w (basic w (Awaits x)) (λ b. counts-more (handle_count w (port_name b)) (count (is_paired_to b) w.ports) (count (is_connected_to b) w.ports) (count (is_sent_on b) w.messages) _ (count (same_birth b) (all_registrations w)) _ _ _ _ _ _ (omega arith) (omega arith) (omega arith) (omega arith) (push-more (is_made_on b) w.waits x) (omega arith)) held
-quiet-step w (Enters m) is quiet held = ports-more w (basic w (Enters m)) (λ b. counts-more (handle_count w (port_name b)) (count (is_paired_to b) w.ports) (count (is_connected_to b) w.ports) _ (count (is_made_on b) w.waits) (count (same_birth b) (all_registrations w)) _ _ _ _ _ _ (omega arith) (omega arith) (omega arith) (push-more (is_sent_on b) w.messages m) (omega arith) (omega arith)) held
-quiet-step w (Receives who queue) is quiet held = ports-more w (basic w (Receives who queue)) (λ b. counts-more (handle_count w (port_name b)) (count (is_paired_to b) w.ports) (count (is_connected_to b) w.ports) (count (is_sent_on b) w.messages) _ (count (same_birth b) (all_registrations w)) _ _ _ _ _ _ (omega arith) (omega arith) (omega arith) (omega arith) (not-less _ _ (count-change (is_made_on b) (waits_at who queue) received (λ x. refl) w.waits)) (omega arith)) held
-quiet-step w (Accepts who reply) is quiet held = ports-more w (basic w (Accepts who reply)) (λ b. counts-more (handle_count w (port_name b)) (count (is_paired_to b) w.ports) (count (is_connected_to b) w.ports) (count (is_sent_on b) w.messages) _ (count (same_birth b) (all_registrations w)) _ _ _ _ _ _ (omega arith) (omega arith) (omega arith) (omega arith) (not-less _ _ (count-change (is_made_on b) (waits_as who) (accepted reply) (λ x. refl) w.waits)) (omega arith)) held
+quiet-step w (Awaits x) is quiet held = ports-more w (basic w (Awaits x)) (λ b. counts-more (handle_count w (port_name b)) (count (is_paired_to b) w.ports) (count (is_connected_to b) w.ports) (count (is_sent_on b) w.messages) _ (claims w b) _ _ _ _ _ _ (omega arith) (omega arith) (omega arith) (omega arith) (push-more (is_made_on b) w.waits x) (not-less _ _ refl)) held
+quiet-step w (Enters m) is quiet held = ports-more w (basic w (Enters m)) (λ b. counts-more (handle_count w (port_name b)) (count (is_paired_to b) w.ports) (count (is_connected_to b) w.ports) _ (count (is_made_on b) w.waits) (claims w b) _ _ _ _ _ _ (omega arith) (omega arith) (omega arith) (push-more (is_sent_on b) w.messages m) (omega arith) (not-less _ _ refl)) held
+quiet-step w (Receives who queue) is quiet held = ports-more w (basic w (Receives who queue)) (λ b. counts-more (handle_count w (port_name b)) (count (is_paired_to b) w.ports) (count (is_connected_to b) w.ports) (count (is_sent_on b) w.messages) _ (claims w b) _ _ _ _ _ _ (omega arith) (omega arith) (omega arith) (omega arith) (not-less _ _ (count-change (is_made_on b) (waits_at who queue) received (λ x. refl) w.waits)) (not-less _ _ refl)) held
+quiet-step w (Accepts who reply) is quiet held = ports-more w (basic w (Accepts who reply)) (λ b. counts-more (handle_count w (port_name b)) (count (is_paired_to b) w.ports) (count (is_connected_to b) w.ports) (count (is_sent_on b) w.messages) _ (claims w b) _ _ _ _ _ _ (omega arith) (omega arith) (omega arith) (omega arith) (not-less _ _ (count-change (is_made_on b) (waits_as who) (accepted reply) (λ x. refl) w.waits)) (not-less _ _ refl)) held
 quiet-step w (Completes c) is quiet held =
     let v = basic w (Completes c) in
-    every-change (holds-port v) (is_port c) completed (λ p is. is) w.ports (ports-more w v (λ b. counts-more (handle_count w (port_name b)) _ _ (count (is_sent_on b) w.messages) (count (is_made_on b) w.waits) (count (same_birth b) (all_registrations w)) _ _ _ _ _ _
-    (omega arith) (not-less _ _ (count-change (is_paired_to b) (is_port c) completed (λ p. refl) w.ports)) (not-less _ _ (count-change (is_connected_to b) (is_port c) completed (λ p. refl) w.ports)) (omega arith) (omega arith) (omega arith)) held)
+    every-change (holds-port v) (is_port c) completed (λ p is. is) w.ports (ports-more w v (λ b. counts-more (handle_count w (port_name b)) _ _ (count (is_sent_on b) w.messages) (count (is_made_on b) w.waits) (claims w b) _ _ _ _ _ _
+    (omega arith) (not-less _ _ (count-change (is_paired_to b) (is_port c) completed (λ p. refl) w.ports)) (not-less _ _ (count-change (is_connected_to b) (is_port c) completed (λ p. refl) w.ports)) (omega arith) (omega arith) (not-less _ _ refl)) held)
+quiet-step w (Secures c y) is quiet held =
+    let v = basic w (Secures c y) in
+    every-change (holds-port v) (is_port c) (secured y) (λ p is. is) w.ports (ports-more w v (λ b. counts-more (handle_count w (port_name b)) _ _ (count (is_sent_on b) w.messages) (count (is_made_on b) w.waits) (claims w b) _ _ _ _ _ _
+    (omega arith) (not-less _ _ (count-change (is_paired_to b) (is_port c) (secured y) (λ p. refl) w.ports)) (not-less _ _ (count-change (is_connected_to b) (is_port c) (secured y) (λ p. refl) w.ports)) (omega arith) (omega arith) (not-less _ _ refl)) held)
+quiet-step w (Acts who own) is quiet held = drawn-quiet w who (acting own) (λ t. refl) held
+quiet-step w (AddsToken t) is quiet held = absurd (cc)
+quiet-step w (NamesToken n) is quiet held = held
 quiet-step w (Dies who status) is quiet held = absurd (cc)
 quiet-step w (Unregisters who c) is quiet held = absurd (cc)
 quiet-step w (Makes p) is quiet held = absurd (cc)
@@ -211,9 +226,12 @@ quiet-step w (Joins client server context) is quiet held = absurd (cc)
 quiet-step w (Frees o) is quiet held = absurd (cc)
 quiet-step w (AddsSection s) is quiet held = absurd (cc)
 quiet-step w (Writes b place new) is quiet held = held
-quiet-step w (Maps pid v) is quiet held = held
+quiet-step w (Maps pid v) is quiet held =
+    ports-more w (basic w (Maps pid v)) (λ b. counts-more (handle_count w (port_name b)) (count (is_paired_to b) w.ports) (count (is_connected_to b) w.ports) (count (is_sent_on b) w.messages) (count (is_made_on b) w.waits) (claims w b) _ _ _ _ _ _
+    (omega arith) (omega arith) (omega arith) (omega arith) (omega arith) (back-more (count (same_birth b) (all_registrations w)) _ _ (more-each (is_owned_by b) (λ (t : ViewTable). t.rows) (is_space pid) (with_view v) (λ t. push-more (is_owned_by b) t.rows v) w.views))) held
 quiet-step w (Unmaps pid base) is quiet held = absurd (cc)
 quiet-step w (DropsViewsOf pid) is quiet held = absurd (cc)
+quiet-step w (DropsOwned b) is quiet held = absurd (cc)
 
 -- Sections
 -- sections that were named are, where no count falls
@@ -232,10 +250,13 @@ more-handles a b c is = omega (arith, is)
 
 pub handle-sections : (w : World) (pid : ℕ) (object : ObjectName) (access : ℕ) → count (is_table pid) w.handles ≤ 1 → HasHeldSections w → HasHeldSections (basic w (AddsHandle pid (handle_row (free_handle w pid) object access)))
 handle-sections w pid object access few held =
-    sections-more w (basic w (AddsHandle pid (handle_row (free_handle w pid) object access))) (λ b. more-handles (handle_count w (section_name b)) _ (count (shows_section b) (all_views w)) (handle-count w pid object access (section_name b) few)) held
+    sections-more w (basic w (AddsHandle pid (handle_row (free_handle w pid) object access))) (λ b. more-handles (handle_count w (section_name b)) _ (count (shows_section b) (all_views w) + count (offers_section b) w.waits) (handle-count w pid object access (section_name b) few)) held
 
--- steps that make no section, give and take no handle, and by which no object and no view goes
+-- steps that make no section, give and take no handle, and by which no object, no view and no wait goes, and no offer
 abbrev pub keeps_sections : Basic → Bool
+keeps_sections (Wakes who call status fields) = false
+keeps_sections (Accepts who a) = false
+keeps_sections (Dies who status) = false
 keeps_sections (AddsProcess p) = false
 keeps_sections (AddsHandle pid h) = false
 keeps_sections (DropsHandle pid value) = false
@@ -243,10 +264,16 @@ keeps_sections (Frees o) = false
 keeps_sections (AddsSection s) = false
 keeps_sections (Unmaps pid base) = false
 keeps_sections (DropsViewsOf pid) = false
+keeps_sections (DropsOwned b) = false
 keeps_sections b = true
 
 sections-step : (w : World) (b : Basic) → keeps_sections b ≡ true → HasHeldSections w → HasHeldSections (basic w b)
-sections-step w (Maps pid v) is held = sections-more w (basic w (Maps pid v)) (λ b. more-views (handle_count w (section_name b)) _ _ (more-each (shows_section b) (λ (t : ViewTable). t.rows) (is_space pid) (with_view v) (λ t. push-more (shows_section b) t.rows v) w.views)) held
+sections-step w (Maps pid v) is held = sections-more w (basic w (Maps pid v)) (λ b. more-views (handle_count w (section_name b)) _ _ (more-handles _ _ (count (offers_section b) w.waits) (more-each (shows_section b) (λ (t : ViewTable). t.rows) (is_space pid) (with_view v) (λ t. push-more (shows_section b) t.rows v) w.views))) held
+sections-step w (Awaits x) is held = sections-more w (basic w (Awaits x)) (λ b. more-views (handle_count w (section_name b)) _ _ (more-views (count (shows_section b) (all_views w)) _ _ (push-more (offers_section b) w.waits x))) held
+sections-step w (Receives who queue) is held = sections-more w (basic w (Receives who queue)) (λ b. more-views (handle_count w (section_name b)) _ _ (more-views (count (shows_section b) (all_views w)) _ _ (not-less _ _ (count-change (offers_section b) (waits_at who queue) received (λ x. refl) w.waits)))) held
+sections-step w (Wakes who call status fields) is held = absurd (cc)
+sections-step w (Accepts who a) is held = absurd (cc)
+sections-step w (Dies who status) is held = absurd (cc)
 sections-step w (AddsProcess p) is held = absurd (cc)
 sections-step w (AddsHandle pid h) is held = absurd (cc)
 sections-step w (DropsHandle pid value) is held = absurd (cc)
@@ -254,6 +281,7 @@ sections-step w (Frees o) is held = absurd (cc)
 sections-step w (AddsSection s) is held = absurd (cc)
 sections-step w (Unmaps pid base) is held = absurd (cc)
 sections-step w (DropsViewsOf pid) is held = absurd (cc)
+sections-step w (DropsOwned b) is held = absurd (cc)
 sections-step w b is held = held
 
 pub sections-all : (w : World) (bs : List Basic) → every keeps_sections bs ≡ true → HasHeldSections w → HasHeldSections (world_after w bs)
@@ -261,6 +289,9 @@ sections-all = steps-keep keeps_sections HasHeldSections sections-step
 
 -- a steady step that lets no name go does so
 steady-sections : (b : Basic) → is_steady b ≡ true → loosens b ≡ false → keeps_sections b ≡ true
+steady-sections (Wakes who call status fields) is quiet = absurd (cc)
+steady-sections (Accepts who a) is quiet = absurd (cc)
+steady-sections (Dies who status) is quiet = absurd (cc)
 steady-sections (AddsProcess p) is quiet = absurd (cc)
 steady-sections (AddsHandle pid h) is quiet = absurd (cc)
 steady-sections (DropsHandle pid value) is quiet = absurd (cc)
@@ -268,7 +299,49 @@ steady-sections (Frees o) is quiet = absurd (cc)
 steady-sections (AddsSection s) is quiet = absurd (cc)
 steady-sections (Unmaps pid base) is quiet = absurd (cc)
 steady-sections (DropsViewsOf pid) is quiet = absurd (cc)
+steady-sections (DropsOwned b) is quiet = absurd (cc)
 steady-sections b is quiet = refl
+
+-- Tokens
+-- tokens that were named are, where no count falls
+abbrev pub holds-token : World → TokenRow → Bool
+holds-token w t = not (is_unheld w (token_name t.birth))
+
+pub tokens-more : (w v : World) → ((b : Birth) → pointer_count w (token_name b) ≤ pointer_count v (token_name b)) → HasHeldTokens w → every (holds-token v) w.tokens ≡ true
+tokens-more w v more held = every-more (holds-token w) (holds-token v) (λ t is. held-more _ _ (more t.birth) is) w.tokens held
+
+pub handle-tokens : (w : World) (pid : ℕ) (object : ObjectName) (access : ℕ) → count (is_table pid) w.handles ≤ 1 → HasHeldTokens w → HasHeldTokens (basic w (AddsHandle pid (handle_row (free_handle w pid) object access)))
+handle-tokens w pid object access few held =
+    tokens-more w (basic w (AddsHandle pid (handle_row (free_handle w pid) object access))) (λ b. more-handles (handle_count w (token_name b)) _ 0 (handle-count w pid object access (token_name b) few)) held
+
+-- steps that make no token, give and take no handle, and by which no object goes
+abbrev pub keeps_tokens : Basic → Bool
+keeps_tokens (AddsProcess p) = false
+keeps_tokens (AddsHandle pid h) = false
+keeps_tokens (DropsHandle pid value) = false
+keeps_tokens (Frees o) = false
+keeps_tokens (AddsToken t) = false
+keeps_tokens b = true
+
+tokens-step : (w : World) (b : Basic) → keeps_tokens b ≡ true → HasHeldTokens w → HasHeldTokens (basic w b)
+tokens-step w (AddsProcess p) is held = absurd (cc)
+tokens-step w (AddsHandle pid h) is held = absurd (cc)
+tokens-step w (DropsHandle pid value) is held = absurd (cc)
+tokens-step w (Frees o) is held = absurd (cc)
+tokens-step w (AddsToken t) is held = absurd (cc)
+tokens-step w b is held = held
+
+pub tokens-all : (w : World) (bs : List Basic) → every keeps_tokens bs ≡ true → HasHeldTokens w → HasHeldTokens (world_after w bs)
+tokens-all = steps-keep keeps_tokens HasHeldTokens tokens-step
+
+-- a steady step does so
+steady-tokens : (b : Basic) → is_steady b ≡ true → keeps_tokens b ≡ true
+steady-tokens (AddsProcess p) is = absurd (cc)
+steady-tokens (AddsHandle pid h) is = absurd (cc)
+steady-tokens (DropsHandle pid value) is = absurd (cc)
+steady-tokens (Frees o) is = absurd (cc)
+steady-tokens (AddsToken t) is = absurd (cc)
+steady-tokens b is = refl
 
 -- what is loosened stays so
 or-false : (a : Bool) → (a || false) ≡ a
@@ -297,3 +370,6 @@ quiet-all = steady-keep HasHeldPorts quiet-step
 
 pub quiet-sections : (w : World) (bs : List Basic) → every is_steady bs ≡ true → loosened false bs ≡ false → HasHeldSections w → HasHeldSections (world_after w bs)
 quiet-sections = steady-keep HasHeldSections (λ w b is quiet. sections-step w b (steady-sections b is quiet))
+
+pub quiet-tokens : (w : World) (bs : List Basic) → every is_steady bs ≡ true → loosened false bs ≡ false → HasHeldTokens w → HasHeldTokens (world_after w bs)
+quiet-tokens = steady-keep HasHeldTokens (λ w b is quiet. tokens-step w b (steady-tokens b is))

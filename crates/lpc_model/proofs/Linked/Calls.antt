@@ -14,7 +14,7 @@ use Rattle.lpc_model.proofs.Sound.Worlds.{by_kind}
 use Rattle.lpc_model.proofs.Steps.Steady.{AreSteady, steady-enter}
 use Rattle.lpc_model.proofs.Calls.Usable.{CanCall}
 use Rattle.lpc_model.specs.Basics.{AddsHandle, Awaits, Basic, Binds, DrawsIdentifier, DrawsOrdinal, Makes, basic, world_after}
-use Rattle.lpc_model.specs.Connect.{accept_steps, client_port, connect_start, connect_steps, connect_wait, connection_request, create_steps, named_steps, names_connect, new_port, server_port, unnamed_steps}
+use Rattle.lpc_model.specs.Connect.{client_port, connect_wait, connection_request, create_steps, named_steps, names_connect, new_port, server_port, unnamed_steps, accept_start}
 use Rattle.lpc_model.specs.Entering.{enter, row_of}
 use Rattle.lpc_model.specs.Found.{free_handle, is_offered, is_port, port_name, port_row, same_birth, waits_as}
 use Rattle.lpc_model.specs.Linked.{IsLinked, is_lone_offer, is_root_port, is_unjoined, leads_to_root, names_nothing}
@@ -22,7 +22,7 @@ use Rattle.lpc_model.specs.Named.{as_status, named_port, port_found}
 use Rattle.lpc_model.specs.SoundWaits.{IsSoundWorld, can_stay_sound, is_past}
 use Rattle.lpc_model.specs.Tests.{PORT_ACCESS, handle_row, next_birth}
 use Rattle.lpc_model.specs.Then.{◌>>=◌}
-use Rattle.lpc_model.specs.World.{Bindings, Birth, Message, Path, PortRow, ThreadRow, WaitRow, World}
+use Rattle.lpc_model.specs.World.{Bindings, Birth, Message, Path, PortRow, ThreadRow, WaitRow, World, Offer}
 use Rattle.lpc_names.proofs.Bound.{nameless-is-not-found}
 use Rattle.lpc_names.specs.Binding.{has_name}
 use Rattle.lpc_names.specs.Walk.{LinkTo, Stands, lookup}
@@ -34,6 +34,8 @@ use Rattle.std.proofs.Math.Bool.{or-true}
 use Rattle.std.proofs.lemmas.Bool.{and_from, false_from_ne_true}
 use Rattle.std.proofs.lemmas.Bool.Decides.{nat_tests}
 use Rattle.std.specs.Prelude.{Err, Ok, Result, is_some, ◌&&◌, ◌==◌, ◌||◌}
+use Rattle.lpc_model.specs.Offers.{SharedViews, acceptance}
+use Rattle.lpc_model.proofs.Calls.Sharing.{connect_begun}
 
 -- each step is plain
 abbrev pub ArePlain : List Basic → Type 0
@@ -92,25 +94,25 @@ name-ends w text l = at (lookup w.bindings text) refl
 offered-linked : (w : World) (x : WaitRow) → is_lone_offer w x ≡ true → IsLinked w → IsLinked (basic w (Awaits x))
 offered-linked w x is l = linked-same w (basic w (Awaits x)) refl (λ all. every-push (is_lone_offer w) w.waits x all is) (λ all. all) l
 
-pub connected-linked : (w : World) (by : ThreadRow) (connection : Birth) (bytes : List ℕ) → CanCall w by → is_root_port w connection ≡ true → IsSoundWorld w → IsLinked w → IsLinked (world_after w (connect_steps by connection (connection_request by bytes) w))
-connected-linked w by connection bytes c ends s l =
-    let m = connection_request by bytes in
+pub connected-linked : (w : World) (by : ThreadRow) (connection : Birth) (offer : Option Offer) (bytes : List ℕ) → CanCall w by → is_root_port w connection ≡ true → IsSoundWorld w → IsLinked w → (let m = connection_request by offer bytes in let u = world_after w (connect_begun by connection offer m) in IsLinked (world_after u (enter (row_of connection (client_port by connection) m) u)))
+connected-linked w by connection offer bytes c ends s l =
+    let m = connection_request by offer bytes in
     let port = client_port by connection in
-    let x = connect_wait by connection m in
+    let x = connect_wait by connection offer m in
     let drawn = basic (basic w (DrawsIdentifier by.number)) (DrawsOrdinal by.number) in
     let made = basic drawn (Makes port) in
     let new = unmade w by c s in
     let t = made-linked drawn port new refl ends (plain-all w (DrawsIdentifier by.number ∷ DrawsOrdinal by.number ∷ []) refl l) in
     let found = made-found drawn port new in
     let lone : passes (port_row made (next_birth by)) is_unjoined ≡ true = rw found refl in
-    let offer : is_lone_offer made x ≡ true = and_from (is_root_port made connection) (passes (port_row made (next_birth by)) is_unjoined) (push-passes drawn port connection names_nothing ends) lone in
-    steady-all (basic made (Awaits x)) (enter (row_of connection port m) (world_after w (connect_start by connection m))) (steady-enter (row_of connection port m) (world_after w (connect_start by connection m))) (offered-linked made x offer t)
+    let alone : is_lone_offer made x ≡ true = and_from (is_root_port made connection) (passes (port_row made (next_birth by)) is_unjoined) (push-passes drawn port connection names_nothing ends) lone in
+    steady-all (basic made (Awaits x)) (enter (row_of connection port m) (world_after w (connect_begun by connection offer m))) (steady-enter (row_of connection port m) (world_after w (connect_begun by connection offer m))) (offered-linked made x alone t)
 
 -- NtAcceptConnectPort
 -- other connects wait elsewhere
 elsewhere : (w : World) (by : ThreadRow) (x y : WaitRow) → (x.port.maker == x.thread) ≡ true → can_stay_sound w y ≡ true → not (waits_as by.number y) ≡ true → (waits_as x.thread y || (not (is_offered y) || (not (same_birth y.port x.port) && not (same_birth y.port (next_birth by))))) ≡ true
 elsewhere w by x y own = by_kind (λ y. can_stay_sound w y ≡ true → not (waits_as by.number y) ≡ true → (waits_as x.thread y || (not (is_offered y) || (not (same_birth y.port x.port) && not (same_birth y.port (next_birth by))))) ≡ true)
-    (λ y m is off. or-true _) (λ y is off. or-true _) (λ y is off. or-true _) (λ y m is off. grind (arith, nat_tests)) (λ y m r is off. or-true _) y
+    (λ y m is off. or-true _) (λ y is off. or-true _) (λ y is off. or-true _) (λ y m offer is off. grind (arith, nat_tests)) (λ y m r is off. or-true _) y
 
 pub lone-parts : (w : World) (x : WaitRow) → is_offered x ≡ true → is_lone_offer w x ≡ true → (is_root_port w x.queue ≡ true) × (passes (port_row w x.port) is_unjoined ≡ true)
 lone-parts w x of lone = (one _ _ _ of lone, two _ _ _ of lone)
@@ -122,7 +124,7 @@ lone-parts w x of lone = (one _ _ _ of lone, two _ _ _ of lone)
     two o a b is all = grind arith
 
 offered-own : (w : World) (x : WaitRow) → is_offered x ≡ true → can_stay_sound w x ≡ true → (x.port.maker == x.thread) ≡ true
-offered-own w = by_kind (λ x. is_offered x ≡ true → can_stay_sound w x ≡ true → (x.port.maker == x.thread) ≡ true) (λ x m of is. absurd (cc)) (λ x of is. absurd (cc)) (λ x of is. absurd (cc)) (λ x m of is. grind arith) (λ x m r of is. absurd (cc))
+offered-own w = by_kind (λ x. is_offered x ≡ true → can_stay_sound w x ≡ true → (x.port.maker == x.thread) ≡ true) (λ x m of is. absurd (cc)) (λ x of is. absurd (cc)) (λ x of is. absurd (cc)) (λ x m offer of is. grind arith) (λ x m r of is. absurd (cc))
 
 standing-apart : (w : World) (c b : Birth) → passes (port_row w c) is_unjoined ≡ true → has (is_port b) w.ports ≡ false → same_birth c b ≡ false
 standing-apart w c b is none = false_from_ne_true (same_birth c b) (λ same. let here = subst (λ d. has (is_port d) w.ports ≡ true) (birth-same c b same) (stands (port_row w c) is) in cc)
@@ -131,8 +133,8 @@ standing-apart w c b is none = false_from_ne_true (same_birth c b) (λ same. let
     stands None is = absurd (cc)
     stands (Some p) is = refl
 
-pub accepted-linked : (w : World) (by : ThreadRow) (context value : ℕ) (m : Message) (x : WaitRow) → first (names_connect w by m) w.waits ≡ Some x → CanCall w by → IsSoundWorld w → IsLinked w → IsLinked (world_after w (accept_steps by context value (record { message = m; wait = x })))
-accepted-linked w by context value m x at c s l =
+pub accepted-linked : (w : World) (by : ThreadRow) (context value : ℕ) (views : SharedViews) (m : Message) (x : WaitRow) → first (names_connect w by m) w.waits ≡ Some x → CanCall w by → IsSoundWorld w → IsLinked w → IsLinked (world_after w (accept_start by context value (record { message = m; wait = x }) views))
+accepted-linked w by context value views m x at c s l =
     let of = names-offered w by m x (first-passes (names_connect w by m) w.waits x at) in
     let lone = lone-parts w x of (every-first (is_lone_offer w) (names_connect w by m) w.waits x l.offers at) in
     let own = offered-own w x of (every-first (can_stay_sound w) (names_connect w by m) w.waits x s.stay at) in
@@ -146,7 +148,7 @@ accepted-linked w by context value m x at c s l =
     let u = plain-all made (AddsHandle by.process (handle_row value (port_name server) PORT_ACCESS) ∷ []) refl t in
     let found = made-found drawn port new in
     let server_row : passes (port_row made server) is_unjoined ≡ true = rw found refl in
-    joined-linked held x.port server context x.thread m.body (record {
+    joined-linked held x.port server context x.thread (acceptance m.body views) (record {
       client_row = push-passes drawn port x.port is_unjoined lone.1;
       server_row = server_row;
       apart = standing-apart w x.port server lone.1 new;

@@ -11,8 +11,8 @@ use Rattle.lpc_base.proofs.Bools.{first-true, second-true}
 use Rattle.lpc_names.specs.Walk.{LinkTo, Stands}
 use Rattle.lpc_names.specs.declared.names.Found.TheVariants.{Directory, Item}
 use Rattle.lpc_model.specs.declared.entry.ObjectKind.TheVariants as kind
-use Rattle.lpc_model.specs.World.{Birth, Node, ObjectKind, ObjectName, PortRow, WaitRow, World}
-use Rattle.lpc_model.specs.Found.{all_registrations, is_connected_to, is_made_on, is_offered, is_open, is_paired_to, is_port, is_the, pair_of, pointer_count, port_name, port_row, same_birth, waits_as}
+use Rattle.lpc_model.specs.World.{Acceptance, Birth, Node, ObjectKind, ObjectName, PortRow, WaitRow, World}
+use Rattle.lpc_model.specs.Found.{all_registrations, all_views, is_connected_to, is_made_on, is_offered, is_open, is_owned_by, is_paired_to, is_port, is_the, pair_of, pointer_count, port_name, port_row, same_birth, waits_as}
 use Rattle.lpc_model.specs.Basics.{Accepts, Frees, Joins, accepted, basic, freed, joined, paired, world_after}
 use Rattle.lpc_model.specs.Sweep.{free_unheld, is_unheld, sweep, unheld}
 use Rattle.lpc_model.specs.Linked.{IsLinked, is_root_port, is_lone_offer, is_mutual, is_rooted, is_unjoined, leads_to_root, names_nothing, passes_or_none}
@@ -57,7 +57,7 @@ unjoined-other w d c r is here off = at (is_port d r) refl
 other-row : (w : World) (client server : Birth) (context : ℕ) (c : Birth) (r : PortRow) → port_row w c ≡ Some r → is_port client r ≡ false → is_port server r ≡ false → port_row (basic w (Joins client server context)) c ≡ Some r
 other-row w client server context c r here one two = rw (one, two) at (joined-row w client server context c r here)
 
-module _ (w : World) (client server : Birth) (context who : ℕ) (reply : List ℕ) (can : CanJoin w client server who) (l : IsLinked w) where
+module _ (w : World) (client server : Birth) (context who : ℕ) (reply : Acceptance) (can : CanJoin w client server who) (l : IsLinked w) where
   abbrev joined_world : World
   joined_world = basic w (Joins client server context)
 
@@ -159,7 +159,7 @@ module _ (w : World) (client server : Birth) (context who : ℕ) (reply : List �
           offer-kept w joined_world ends-joined x (row-kept ports.0 ports.1) was
 
   accepted-lone : (x : WaitRow) → is_lone_offer joined_world (accepted reply x) ≡ true
-  accepted-lone = by_kind (λ x. is_lone_offer joined_world (accepted reply x) ≡ true) (λ x m. refl) (λ x. refl) (λ x. refl) (λ x m. refl) (λ x m r. refl)
+  accepted-lone = by_kind (λ x. is_lone_offer joined_world (accepted reply x) ≡ true) (λ x m. refl) (λ x. refl) (λ x. refl) (λ x m offer. refl) (λ x m r. refl)
 
   pub joined-linked : IsLinked (basic joined_world (Accepts who reply))
   joined-linked = record {
@@ -192,7 +192,7 @@ other-open w b c off is = false_from_ne_true (same_birth c b) (λ same. let open
 port-gone : (w : World) (b : Birth) → pointer_count w (port_name b) ≤ 0 → IsSoundWorld w → IsLinked w → IsLinked (basic w (Frees (port_name b)))
 port-gone w b few s l =
     let v = basic w (Frees (port_name b)) in
-    let held : count (is_paired_to b) w.ports + (count (is_connected_to b) w.ports + (count (λ m. same_birth m.sender b) w.messages + (count (is_made_on b) w.waits + count (same_birth b) (all_registrations w)))) ≤ 0 = sum-second _ _ few in
+    let held : count (is_paired_to b) w.ports + (count (is_connected_to b) w.ports + (count (λ m. same_birth m.sender b) w.messages + (count (is_made_on b) w.waits + (count (same_birth b) (all_registrations w) + count (is_owned_by b) (all_views w))))) ≤ 0 = sum-second _ _ few in
     let made = none-pass (is_made_on b) w.waits (omega (arith, held)) in
     let unpaired = none-pass (is_paired_to b) w.ports (omega (arith, held)) in
     let unconnected = none-pass (is_connected_to b) w.ports (omega (arith, held)) in
@@ -213,7 +213,7 @@ port-gone w b few s l =
     gone-offer w b closed =
         by_kind (λ x. (is_lone_offer w x && not (is_made_on b x)) ≡ true → is_sound_wait w x ≡ true → is_lone_offer (basic w (Frees (port_name b))) x ≡ true)
         (λ x m both sound. refl) (λ x both sound. refl) (λ x both sound. refl)
-        (λ x m both sound.
+        (λ x m offer both sound.
         let opens : is_open w x.queue ≡ true = grind arith in
         let made : same_birth x.port b ≡ false = grind arith in
         let one : is_root_port w x.queue ≡ true = grind arith in
@@ -234,7 +234,7 @@ gone-linked w o none s l = at o.kind o.birth (is-zero (pointer_count w o) none)
     at : (k : ObjectKind) (b : Birth) → pointer_count w (record { kind = k; birth = b }) ≤ 0 → IsLinked (basic w (Frees (record { kind = k; birth = b })))
     at kind.Port b few = port-gone w b few s l
     at kind.Section b few = linked-same w (freed w kind.Section b) refl (λ all. all) (λ all. all) l
-    at kind.Token b few = l
+    at kind.Token b few = linked-same w (freed w kind.Token b) refl (λ all. all) (λ all. all) l
     at kind.Process b few = linked-same w (freed w kind.Process b) refl (λ all. all) (λ all. all) l
     at kind.Thread b few = linked-same w (freed w kind.Thread b) refl (λ all. all) (λ all. all) l
 

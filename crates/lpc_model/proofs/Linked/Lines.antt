@@ -6,7 +6,7 @@ use Rattle.lpc_model.specs.Linked.{HasHeldRows, IsLinked}
 use Rattle.lpc_model.proofs.Sound.Lines.{line-sound}
 use Rattle.lpc_model.proofs.Linked.Joins.{swept-linked}
 use Rattle.lpc_model.proofs.Held.Ports.{two-passes}
-use Rattle.lpc_model.proofs.Held.Lives.{processes-held, sections-held, threads-held}
+use Rattle.lpc_model.proofs.Held.Lives.{processes-held, sections-held, threads-held, tokens-held}
 use Rattle.lpc_model.proofs.Linked.Steps.{is_plain, plain-all}
 use Rattle.lpc_model.proofs.Steps.InTurn.{after-append}
 use Rattle.std.proofs.Common.{List, None, Some, [], arith, refl, true, ◌∷◌, ◌≡◌}
@@ -15,17 +15,17 @@ use Rattle.lpc_base.specs.declared.status.TheConstants.{SUCCESS}
 use Rattle.lpc_message.specs.declared.kind.TheConstants.{DATAGRAM, REQUEST}
 use Rattle.lpc_names.specs.Walk.{LinkTo, Stands}
 use Rattle.lpc_names.specs.declared.names.Found.TheVariants.{Directory}
-use Rattle.lpc_model.specs.declared.entry.CallName.TheVariants.{NtRegisterThreadTerminatePort}
+use Rattle.lpc_model.specs.declared.entry.CallName.TheVariants.{NtRegisterThreadTerminatePort, NtOpenProcessToken, NtOpenThreadToken}
 use Rattle.lpc_model.specs.declared.entry.Entry.TheVariants as entry
 use Rattle.lpc_model.specs.declared.entry.Entry.TheVariants.{Answer}
 use Rattle.lpc_model.specs.declared.entry.Word.TheVariants as word
 use Rattle.lpc_model.specs.World.{ThreadRow, World, no_rows}
-use Rattle.lpc_model.specs.Basics.{AddsProcess, AddsThread, Awaits, Basic, Binds, Frees, Joins, Makes, Registers, Tells, world_after}
+use Rattle.lpc_model.specs.Basics.{AddsProcess, AddsThread, Awaits, Basic, Binds, Frees, Joins, Makes, Registers, Tells, world_after, Maps, NamesToken, Secures}
 use Rattle.lpc_model.specs.Close.{close_steps}
-use Rattle.lpc_model.specs.Connect.{ConnectAnswer, answer_test, complete_steps, listen_steps, names_connect, refuse_steps}
+use Rattle.lpc_model.specs.Connect.{ConnectAnswer, answer_test, complete_steps, listen_steps, names_connect, refuse_steps, connection_request, connect_steps, create_steps, named_steps}
 use Rattle.lpc_model.specs.Counts.{asked, duplicate_steps}
 use Rattle.lpc_model.specs.Creation.{making_process, making_thread}
-use Rattle.lpc_model.specs.Found.{free_handle}
+use Rattle.lpc_model.specs.Found.{free_handle, acting_token}
 use Rattle.lpc_model.specs.Lines.{ScriptLine}
 use Rattle.lpc_model.specs.Linked.{is_root_port}
 use Rattle.lpc_model.specs.Memory.{map_steps, mapped_view, section_steps, unmap_steps, write_steps}
@@ -41,6 +41,9 @@ use Rattle.lpc_model.proofs.Linked.Close.{handle-plain}
 use Rattle.lpc_model.proofs.Calls.Outcomes.{Outcomes}
 use Rattle.lpc_model.proofs.Calls.Tested.{named-wait}
 use Rattle.lpc_model.proofs.Steps.Steady.{steady-ask, steady-await, steady-receipt, steady-receive, steady-send}
+use Rattle.lpc_model.proofs.Calls.Sharing.{connected-keeps, accepted-keeps, allowed-keeps, guarded-keeps}
+use Rattle.lpc_model.specs.Impersonation.{held_content, impersonate_steps, process_content, revert_steps, token_steps}
+use Rattle.lpc_model.specs.Tests.{next_birth}
 
 -- what ends is plain
 pub ending-plain : (b : Basic) → is_ending b ≡ true → is_plain b ≡ true
@@ -58,13 +61,15 @@ ended-linked w bs all l = plain-all w bs (every-more is_ending is_plain ending-p
 -- Calls
 linked-calls : (by : ThreadRow) (w : World) → IsCalled AnyWorld w by → Outcomes w by (λ _. Keep IsLinked w)
 linked-calls by w is = record {
-  creates = unnamed-linked w by is.can is.sound;
-  founds = λ name path free. named-linked w by path is.can is.sound;
-  connects = λ name bytes connection at l. connected-linked w by connection bytes is.can (holds_ok (λ port. is_root_port w port ≡ true) (named_port w name) connection (name-ends w name l) at) is.sound l;
+  creates = λ dacl. unnamed-linked w by is.can is.sound;
+  founds = λ name dacl path free. guarded-keeps IsLinked (λ v b s. plain-all v (Secures b s ∷ []) refl) w (create_steps by (named_steps (next_birth by) path) (free_handle w by.process)) (next_birth by) dacl (named-linked w by path is.can is.sound);
+  connects = λ name quality view bytes offer own connection c. allowed-keeps IsLinked (λ v b s. plain-all v (Secures b s ∷ []) refl) w (connect_steps by connection offer own (connection_request by offer bytes) w) (next_birth by) quality (acting_token w by) (λ l. connected-keeps IsLinked (λ v pid x. plain-all v (Maps pid x ∷ []) refl) w by connection offer own (connection_request by offer bytes)
+      (connected-linked w by connection offer bytes is.can (holds_ok (λ port. is_root_port w port ≡ true) (named_port w name) connection (name-ends w name l) c.port_named) is.sound l));
   listens = λ handle port m found at. steady-all w (listen_steps by port.birth (Some m)) (steady-receipt m);
   awaits_connect = λ handle port found at. steady-all w (listen_steps by port.birth None) refl;
-  refuses = λ context bytes a at. plain-all w (refuse_steps by a) refl;
-  accepts = λ context bytes a at. accepted-linked w by context (free_handle w by.process) a.message a.wait (holds_ok (λ (a : ConnectAnswer). first (names_connect w by a.message) w.waits ≡ Some a.wait) (answer_test w by bytes) a (named-wait w by bytes) at) is.can is.sound;
+  refuses = λ context bytes view a at. plain-all w (refuse_steps by a) refl;
+  accepts = λ context bytes view offer a views c l. accepted-keeps IsLinked (λ v pid x. plain-all v (Maps pid x ∷ []) refl) w by context (free_handle w by.process) a views
+      (accepted-linked w by context (free_handle w by.process) views a.message a.wait (holds_ok (λ (a : ConnectAnswer). first (names_connect w by a.message) w.waits ≡ Some a.wait) (answer_test w by bytes) a (named-wait w by bytes) c.answered) is.can is.sound l);
   completes = λ handle c at. plain-all w (complete_steps by (free_handle w c.wait.process) c) refl;
   sends = λ handle bytes s at. steady-all w (datagram_steps by s.port s.queue (sent_by by DATAGRAM s.message) w) (steady-send w by s);
   asks = λ handle bytes s at. steady-all w (request_steps by s.port s.queue (sent_by by REQUEST s.message) w) (steady-ask w by s);
@@ -85,6 +90,11 @@ linked-calls by w is = record {
   writes_memory = λ address new v at may. plain-all w (write_steps by address new v) refl;
   reads_range = λ handle bytes index n d at l. l;
   writes_range = λ handle bytes index new d at may. plain-all w (write_range_steps by new d) refl;
+  impersonates = λ handle bytes own allowed. plain-all w (impersonate_steps by own) refl;
+  reverts = λ class. plain-all w (revert_steps by) refl;
+  opens_own = λ own at. plain-all w (token_steps by NtOpenThreadToken (held_content own) (free_handle w by.process)) refl;
+  opens_primary = plain-all w (token_steps by NtOpenProcessToken (process_content w by) (free_handle w by.process)) refl;
+  asks_token = λ handle class t field at told l. l;
   ends = λ call name own pid code ts doomed. ended-linked w (answered_end by name own pid code ts w) (steps-end w by name own pid code ts);
 }
 
@@ -93,7 +103,8 @@ pub linked-lines : LineLaw AnyWorld (λ _. Keep IsLinked)
 linked-lines = record {
   tells = λ line w e _ l. l;
   calls = linked-calls;
-  boots = λ w pid tid _ _ s _. plain-all w (Tells (entry.Directive word.Boot SUCCESS) ∷ AddsProcess (new_process pid None (directive_birth pid pid)) ∷ AddsThread (new_thread tid pid (directive_birth tid pid)) ∷ []) refl;
+  names = λ w name content _. plain-all w (Tells (entry.Directive word.Token SUCCESS) ∷ NamesToken (record { name = name; token = content }) ∷ []) refl;
+  boots = λ w pid tid name content _ _ s _. plain-all w (Tells (entry.Directive word.Boot SUCCESS) ∷ AddsProcess (new_process pid None (directive_birth pid pid) content) ∷ AddsThread (new_thread tid pid (directive_birth tid pid)) ∷ []) refl;
   threads = λ w tid pid _ _ s _. plain-all w (Tells (entry.Directive word.Thread SUCCESS) ∷ AddsThread (new_thread tid pid (directive_birth tid pid)) ∷ []) refl;
   dirs = λ w text path free _. plain-all w (Tells (entry.Directive word.Dir SUCCESS) ∷ Binds path (Stands Directory) ∷ []) refl;
   links = λ w text target path to free _. plain-all w (Tells (entry.Directive word.Link SUCCESS) ∷ Binds path (LinkTo to) ∷ []) refl;
@@ -113,7 +124,7 @@ swept-rows : (w : World) → IsLinked w → HasHeldRows (world_after w (sweep w)
 unfolding sweep
 swept-rows w l =
     let v = world_after w (free_unheld w) in
-    rw (after-append w (free_unheld w) (free_unheld v)) (record { ports = two-passes w l; lives = record { threads = threads-held w; processes = processes-held w }; sections = sections-held w })
+    rw (after-append w (free_unheld w) (free_unheld v)) (record { ports = two-passes w l; lives = record { threads = threads-held w; processes = processes-held w }; sections = sections-held w; tokens = tokens-held w })
 
 pub held_step : (w : World) (line : ScriptLine) → IsSoundWorld w → IsLinked w → HasHeldRows (step w line).world
 held_step w line s l =

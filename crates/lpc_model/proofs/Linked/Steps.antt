@@ -10,12 +10,12 @@ use Rattle.lpc_base.proofs.Bools.{second-true}
 use Rattle.lpc_names.specs.Binding.{is_name}
 use Rattle.lpc_names.specs.Walk.{LinkTo, Stands}
 use Rattle.lpc_names.specs.declared.names.Found.TheVariants.{Directory, Item}
-use Rattle.lpc_model.specs.World.{Birth, Node, PortRow, WaitRow, World}
+use Rattle.lpc_model.specs.World.{Acceptance, Birth, Node, PortRow, WaitRow, World, Security}
 use Rattle.lpc_model.specs.Found.{is_offered, is_port, is_the, pair_of, port_row, same_birth, waits_as, waits_at}
-use Rattle.lpc_model.specs.Basics.{Accepts, AddsHandle, AddsProcess, AddsSection, AddsThread, Awaits, Basic, Binds, Completes, Cuts, Dies, DropsHandle, Frees, Joins, Makes, Receives, Tells, Unbinds, Wakes, accepted, basic, completed, cut, is_end_of, received, world_after}
+use Rattle.lpc_model.specs.Basics.{Accepts, AddsHandle, AddsProcess, AddsSection, AddsThread, Awaits, Basic, Binds, Completes, Cuts, Dies, DropsHandle, Frees, Joins, Makes, Receives, Tells, Unbinds, Wakes, accepted, basic, completed, cut, is_end_of, received, world_after, AddsToken, Secures, secured}
 use Rattle.lpc_model.specs.Linked.{IsLinked, is_root_port, is_lone_offer, is_mutual, is_rooted, is_unjoined, leads_to_root, names_nothing, passes_or_none}
 use Rattle.lpc_model.proofs.Sound.Pairs.{tied}
-use Rattle.lpc_model.proofs.Sound.Ties.{completed-birth}
+use Rattle.lpc_model.proofs.Sound.Ties.{completed-birth, secured-birth}
 use Rattle.lpc_model.proofs.Sound.Cuts.{cut-birth, cut-row, other-end, same-row}
 use Rattle.lpc_model.proofs.Sound.Worlds.{by_kind}
 use Rattle.lpc_model.proofs.Steps.InTurn.{steps-keep}
@@ -58,8 +58,8 @@ linked-same w v same waits names l = record {
       ends = λ c is. subst (λ ps. is_root_port (tied ps []) c ≡ true) (sym same) is;
     }
 
-accepted-offer : (w : World) (reply : List ℕ) (x : WaitRow) → is_lone_offer w x ≡ true → is_lone_offer w (accepted reply x) ≡ true
-accepted-offer w reply = by_kind (λ x. is_lone_offer w x ≡ true → is_lone_offer w (accepted reply x) ≡ true) (λ x m is. refl) (λ x is. refl) (λ x is. refl) (λ x m is. refl) (λ x m r is. refl)
+accepted-offer : (w : World) (reply : Acceptance) (x : WaitRow) → is_lone_offer w x ≡ true → is_lone_offer w (accepted reply x) ≡ true
+accepted-offer w reply = by_kind (λ x. is_lone_offer w x ≡ true → is_lone_offer w (accepted reply x) ≡ true) (λ x m is. refl) (λ x is. refl) (λ x is. refl) (λ x m offer is. refl) (λ x m r is. refl)
 
 -- a name of no port, or none at all
 abbrev pub is_portless : Node Birth → Bool
@@ -89,6 +89,7 @@ is_steady (AddsHandle pid h) = false
 is_steady (DropsHandle pid value) = false
 is_steady (Dies who status) = false
 is_steady (AddsSection s) = false
+is_steady (AddsToken t) = false
 is_steady b = is_plain b
 
 pub steady-plain : (b : Basic) → is_steady b ≡ true → is_plain b ≡ true
@@ -98,6 +99,7 @@ steady-plain (AddsHandle pid h) is = refl
 steady-plain (DropsHandle pid value) is = refl
 steady-plain (Dies who status) is = refl
 steady-plain (AddsSection s) is = refl
+steady-plain (AddsToken t) is = refl
 steady-plain b is = is
 
 -- Ports that change alike
@@ -151,6 +153,21 @@ alike-linked w v f a same waits names l = record {
     offer x is = either (not (is_offered x)) (is_root_port w x.queue) (passes (port_row w x.port) is_unjoined) (is_root_port v x.queue) (passes (port_row v x.port) is_unjoined) (up.ends x.queue) (λ one. rw (row x.port) (passing is_unjoined (λ p is. rw (a.pair p, a.connection p) is) (port_row w x.port) one)) is
 
 -- a connection that is completed
+secured-alike : (c : Birth) (s : Security) → IsAlike (λ p. cond (is_port c p) (secured s p) p)
+secured-alike c s = record {
+  birth = λ p. secured-birth s (is_port c p) p;
+  pair = λ p. at (is_port c p) p;
+  connection = λ p. other (is_port c p) p;
+}
+  where
+    at : (b : Bool) (p : PortRow) → let q : PortRow = cond b (secured s p) p in q.pair ≡ p.pair
+    at true p = refl
+    at false p = refl
+
+    other : (b : Bool) (p : PortRow) → let q : PortRow = cond b (secured s p) p in q.connection ≡ p.connection
+    other true p = refl
+    other false p = refl
+
 completed-alike : (c : Birth) → IsAlike (λ p. cond (is_port c p) (completed p) p)
 completed-alike c = record {
   birth = λ p. completed-birth (is_port c p) p;
@@ -224,6 +241,7 @@ plain-linked w (Dies who status) is l = linked-same w (basic w (Dies who status)
 plain-linked w (Makes p) is l = absurd (cc)
 plain-linked w (Joins client server context) is l = absurd (cc)
 plain-linked w (Completes b) is l = alike-linked w (basic w (Completes b)) (λ p. cond (is_port b p) (completed p) p) (completed-alike b) refl refl refl l
+plain-linked w (Secures b s) is l = alike-linked w (basic w (Secures b s)) (λ p. cond (is_port b p) (secured s p) p) (secured-alike b s) refl refl refl l
 plain-linked w (Frees o) is l = absurd (cc)
 plain-linked w (Binds path node) is l = linked-same w (basic w (Binds path node)) refl (λ all. all) (λ all. every-push (λ b. leads_to_root w b.1) w.bindings (path, node) all (portless-leads w node is)) l
 plain-linked w (Cuts b) is l = cut-linked w b l

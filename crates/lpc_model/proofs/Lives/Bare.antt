@@ -8,7 +8,7 @@ use Rattle.lpc_base.proofs.RowWords.{every-more, first-passes}
 use Rattle.lpc_base.proofs.RowMaps.{every-both}
 use Rattle.lpc_base.proofs.Bools.{first-true, or-second, second-true}
 use Rattle.lpc_model.specs.World.{Birth, HandleRow, HandleTable, PortRow, ThreadRow, ViewRow, ViewTable, WaitRow, World}
-use Rattle.lpc_model.specs.Found.{all_handles, all_views, is_connected_to, is_life, is_live, is_live_thread, is_open, is_paired_to, is_port, is_the, lives_by, lives_in, live_thread, names_port, port_name, process_name, registered_by, section_name, thread_name}
+use Rattle.lpc_model.specs.Found.{all_handles, all_views, is_connected_to, is_life, is_live, is_live_thread, is_open, is_paired_to, is_port, is_the, lives_by, lives_in, live_thread, names_port, port_name, process_name, registered_by, section_name, thread_name, token_name}
 use Rattle.lpc_model.specs.Sweep.{is_unheld}
 use Rattle.lpc_model.specs.Linked.{HasHeldRows, IsLinked, names_nothing}
 use Rattle.lpc_model.specs.OpenQueues.{HasOpenQueues}
@@ -149,8 +149,11 @@ module _ (w : World) (s : IsSoundWorld w) (l : IsLinked w) (held : HasHeldRows w
       cut : (p : PortRow) → is_kept_pair w p ≡ true → not (is_paired_to b p) ≡ true
       cut p is = unpaired p.pair (parts (is_none p.pair) (is_open w p.birth) (passes p.pair (is_open w)) (shut p.birth) (none-open p.pair) is)
 
+  no-views : all_views w ≡ []
+  no-views = none-views w dead viewing
+
   aside : (b : Birth) → is_held_aside w b ≡ false
-  aside b = rw (none, no-messages, no-waits, none-registered w.threads lifeless) refl
+  aside b = rw (none, no-messages, no-waits, none-registered w.threads lifeless, no-views) refl
 
   connected : every (λ p. has (is_connected_to p.birth) w.ports) w.ports ≡ true
   connected = every-more (λ p. not (is_unheld w (port_name p.birth))) (λ p. has (is_connected_to p.birth) w.ports) (λ p is. by (is_unheld w (port_name p.birth)) (is_held_aside w p.birth) (has (is_paired_to p.birth) w.ports) (has (is_connected_to p.birth) w.ports) (unheld-parts w p.birth) (aside p.birth) (no-pairs p.birth) is) w.ports held.ports
@@ -182,14 +185,17 @@ module _ (w : World) (s : IsSoundWorld w) (l : IsLinked w) (held : HasHeldRows w
       off : (b : Birth) → has (is_connected_to b) w.ports ≡ false
       off b = has-off (is_connected_to b) w.ports (every-more names_nothing (λ p. not (is_connected_to b p)) (λ p is. unconnected b p.pair p.connection is) w.ports naming-nothing)
 
-  no-views : all_views w ≡ []
-  no-views = none-views w dead viewing
-
   no-sections : w.sections ≡ []
   no-sections = none-left (λ s. not (is_unheld w (section_name s.birth))) w.sections held.sections (λ s. off s.birth)
     where
       off : (b : Birth) → not (is_unheld w (section_name b)) ≡ false
-      off b = rw (none, no-views) refl
+      off b = rw (none, no-views, no-waits) refl
+
+  no-tokens : w.tokens ≡ []
+  no-tokens = none-left (λ t. not (is_unheld w (token_name t.birth))) w.tokens held.tokens (λ t. off t.birth)
+    where
+      off : (b : Birth) → not (is_unheld w (token_name b)) ≡ false
+      off b = rw none refl
 
   pub bare : IsBare w
-  bare = record { processes = no-processes; threads = no-threads; ports = no-ports; sections = no-sections; messages = no-messages; waits = no-waits; views = no-views }
+  bare = record { processes = no-processes; threads = no-threads; ports = no-ports; sections = no-sections; tokens = no-tokens; messages = no-messages; waits = no-waits; views = no-views }

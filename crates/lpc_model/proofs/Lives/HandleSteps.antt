@@ -4,12 +4,12 @@ use Rattle.std.specs.Prelude.{◌&&◌, ◌||◌, ◌==◌}
 use Rattle.std.proofs.lemmas.Bool.{eqb-true, or_left, or_right}
 use Rattle.lpc_base.specs.Rows.{change, every}
 use Rattle.lpc_base.proofs.RowWords.{every-change, every-more, every-push, has-change, has-kept}
-use Rattle.lpc_base.proofs.RowMaps.{every-change_to}
+use Rattle.lpc_base.proofs.RowMaps.{every-change_to, every-mapped}
 use Rattle.lpc_base.proofs.Bools.{second-more}
 use Rattle.lpc_model.specs.declared.entry.ObjectKind.TheVariants as kind
 use Rattle.lpc_model.specs.World.{Birth, HandleRow, HandleTable, ObjectKind, ObjectName, ThreadRow, ViewRow, ViewTable, World}
 use Rattle.lpc_model.specs.Found.{is_life, is_live, is_space, is_table, is_thread, lives_in, pointer_count, same_birth}
-use Rattle.lpc_model.specs.Basics.{AddsHandle, AddsProcess, AddsThread, Basic, Dies, DrawsIdentifier, DrawsOrdinal, DropsHandle, DropsViewsOf, Frees, Maps, Registers, Unmaps, Unregisters, basic, freed, no_handles, no_views, past_identifier, past_ordinal, registering, unregistering, with_handle, with_view, without_handle, without_view, without_views, world_after}
+use Rattle.lpc_model.specs.Basics.{AddsHandle, AddsProcess, AddsThread, Basic, Dies, DrawsIdentifier, DrawsOrdinal, DropsHandle, DropsOwned, DropsViewsOf, Frees, Maps, Registers, Unmaps, Unregisters, basic, freed, no_handles, no_views, past_identifier, past_ordinal, registering, unregistering, with_handle, with_view, without_handle, without_owned, without_view, without_views, world_after, Acts, acting}
 use Rattle.lpc_model.specs.Sweep.{free_unheld, is_unheld, sweep, unheld}
 use Rattle.lpc_model.specs.Left.{HasLivingHandles, HasLivingViews, is_living_space, is_living_table, lacks_handles, lacks_views}
 use Rattle.lpc_model.proofs.Deaths.Deathless.{is_mild}
@@ -52,6 +52,13 @@ lacks-fewer : (base : ℕ) (t : ViewTable) → lacks_views t ≡ true → lacks_
 lacks-fewer base t = at t.rows
   where
     at : (rs : List ViewRow) → let t : ViewTable = record { process = t.process; rows = rs } in lacks_views t ≡ true → lacks_views (without_view base t) ≡ true
+    at [] is = refl
+    at (r ∷ rs) is = absurd (cc)
+
+pub lacks-unowned : (b : Birth) (t : ViewTable) → lacks_views t ≡ true → lacks_views (without_owned b t) ≡ true
+lacks-unowned b t = at t.rows
+  where
+    at : (rs : List ViewRow) → let t : ViewTable = record { process = t.process; rows = rs } in lacks_views t ≡ true → lacks_views (without_owned b t) ≡ true
     at [] is = refl
     at (r ∷ rs) is = absurd (cc)
 
@@ -99,6 +106,7 @@ home-step w v (DrawsIdentifier who) stay is = record { live = live-drawn v who p
 home-step w v (DrawsOrdinal who) stay is = record { live = live-drawn v who past_ordinal (λ n t. refl); handles = living-drawn v who past_ordinal (λ n t. refl); views = viewing-drawn v who past_ordinal (λ n t. refl) }
 home-step w v (Registers who b) stay is = record { live = live-drawn v who (registering b) (λ n t. refl); handles = living-drawn v who (registering b) (λ n t. refl); views = viewing-drawn v who (registering b) (λ n t. refl) }
 home-step w v (Unregisters who b) stay is = record { live = live-drawn v who (unregistering b) (λ n t. refl); handles = living-drawn v who (unregistering b) (λ n t. refl); views = viewing-drawn v who (unregistering b) (λ n t. refl) }
+home-step w v (Acts who own) stay is = record { live = live-drawn v who (acting own) (λ n t. refl); handles = living-drawn v who (acting own) (λ n t. refl); views = viewing-drawn v who (acting own) (λ n t. refl) }
 home-step w v (Dies who status) stay is = absurd (cc)
 home-step w v (Frees o) stay is = absurd (cc)
 home-step w v (Maps pid x) stay is = record {
@@ -115,6 +123,11 @@ home-step w v (DropsViewsOf pid) stay is = record {
   live = λ n one. one;
   handles = λ l. l;
   views = λ l. every-change (is_living_space v) (is_space pid) without_views (λ t was. or_right (is_live v t.process) true refl) v.views l;
+}
+home-step w v (DropsOwned b) stay is = record {
+  live = λ n one. one;
+  handles = λ l. l;
+  views = λ l. every-mapped (is_living_space v) (without_owned b) (λ t was. second-more (is_live v t.process) (lacks_views t) (lacks_views (without_owned b t)) (lacks-unowned b t) was) v.views l;
 }
 home-step w v b stay is = record { live = λ n one. one; handles = λ l. l; views = λ l. l }
 
@@ -150,7 +163,7 @@ living-freed w o none l = at o.kind o.birth (is-zero (pointer_count w o) none)
     at : (k : ObjectKind) (b : Birth) → pointer_count w (record { kind = k; birth = b }) ≤ 0 → HasLivingRows (freed w k b)
     at kind.Port b few = record { handles = l.handles; views = l.views }
     at kind.Section b few = record { handles = l.handles; views = l.views }
-    at kind.Token b few = l
+    at kind.Token b few = record { handles = l.handles; views = l.views }
     at kind.Process b few = record { handles = l.handles; views = l.views }
     at kind.Thread b few =
         let dead = none-pass (is_life b) w.threads (sum-second _ _ few) in

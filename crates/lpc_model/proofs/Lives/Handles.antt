@@ -7,15 +7,15 @@ use Rattle.lpc_base.specs.Rows.{count, every, first, has, when}
 use Rattle.lpc_base.specs.declared.status.Status.{Status}
 use Rattle.lpc_base.specs.declared.status.TheConstants.{SUCCESS}
 use Rattle.lpc_base.proofs.RowWords.{every-change, every-more, has-change, none-counted}
-use Rattle.lpc_base.proofs.RowMaps.{every-both, every-change_to}
+use Rattle.lpc_base.proofs.RowMaps.{every-both, every-change_to, every-mapped}
 use Rattle.lpc_base.proofs.Bools.{first-true, second-true}
 use Rattle.lpc_model.specs.declared.entry.CallName.TheVariants.{NtRegisterThreadTerminatePort}
 use Rattle.lpc_model.specs.declared.entry.Entry.TheVariants.{Answer}
 use Rattle.lpc_model.specs.World.{HandleRow, HandleTable, ThreadRow, ViewTable, World}
 use Rattle.lpc_model.specs.Found.{handles_of, is_live, is_table, is_thread, is_space, lives_in, rows_in, wait_of}
-use Rattle.lpc_model.specs.Basics.{Accepts, AddsHandle, AddsProcess, AddsThread, Awaits, Basic, Dies, DrawsIdentifier, DrawsOrdinal, DropsHandle, DropsViewsOf, Frees, Maps, Registers, Tells, Unmaps, Unregisters, Withdraws, basic, doing, ended, in_turn, provided, unregistering, without_handle, without_views, world_after, ◌▹◌}
+use Rattle.lpc_model.specs.Basics.{Accepts, AddsHandle, AddsProcess, AddsThread, Awaits, Basic, Dies, DrawsIdentifier, DrawsOrdinal, DropsHandle, DropsOwned, DropsViewsOf, Frees, Maps, Registers, Tells, Unmaps, Unregisters, Withdraws, basic, doing, ended, in_turn, provided, unregistering, without_handle, without_owned, without_views, world_after, ◌▹◌, Acts}
 use Rattle.lpc_model.specs.Close.{close_handle}
-use Rattle.lpc_model.specs.Death.{cut_accepted, die, end_process, end_threads, post_death, post_deaths}
+use Rattle.lpc_model.specs.Death.{end_client, die, end_process, end_threads, post_death, post_deaths}
 use Rattle.lpc_model.specs.Lawful.{HasThreadsOnce}
 use Rattle.lpc_model.specs.Left.{is_living_space, is_living_table, lacks_handles, lacks_views}
 use Rattle.lpc_model.specs.Lines.{ScriptLine}
@@ -27,7 +27,7 @@ use Rattle.lpc_model.proofs.Deaths.Lines.{away-still, death-still, deathless-sti
 use Rattle.lpc_model.proofs.Deaths.Doomed.{AreOf, IsOf, doomed-of, of-ended}
 use Rattle.lpc_model.proofs.Steps.Ending.{AreEnding, accepted-pass, behind_dead, behind_told, die-ending, ending-death, first-at, handle-ending, is_ending, rows-left, turn-keeps, world-ends}
 use Rattle.lpc_model.proofs.Calls.Lines.{Keep, LineLaw, Shut, passing-lines, step-keeps}
-use Rattle.lpc_model.proofs.Lives.HandleSteps.{HasLivingRows, homely-all, is_homely, lacks-less, living-swept, mild-homely}
+use Rattle.lpc_model.proofs.Lives.HandleSteps.{HasLivingRows, homely-all, is_homely, lacks-less, lacks-unowned, living-swept, mild-homely}
 use Rattle.lpc_model.proofs.Steps.Rows.{has-change_to}
 use Rattle.lpc_model.proofs.Sound.Close.{close_handle-sound}
 use Rattle.lpc_model.proofs.Sound.Terminate.{IsSafe, sound-of, told-safe}
@@ -85,6 +85,13 @@ still-step pid w (DropsHandle p value) is still l = record {
     more e a c d less was = grind (arith, less)
 still-step pid w (Unregisters who b) is still l = but-live pid w (basic w (Unregisters who b)) (λ q off one. rw (has-change (lives_in q) (is_thread who) (unregistering b) (λ u. refl) w.threads) one) refl refl l
 still-step pid w (DropsViewsOf p) is still l = record { handles = l.handles; views = every-change (is_almost_space pid w) (is_space p) without_views (λ t was. or_right (t.process == pid) _ (or_right (is_live w t.process) true refl)) w.views l.views }
+still-step pid w (DropsOwned b) is still l = record {
+  handles = l.handles;
+  views = every-mapped (is_almost_space pid w) (without_owned b) (λ t was. more (t.process == pid) (is_live w t.process) (lacks_views t) (lacks_views (without_owned b t)) (lacks-unowned b t) was) w.views l.views;
+}
+  where
+    more : (e a c d : Bool) → (c ≡ true → d ≡ true) → (e || (a || c)) ≡ true → (e || (a || d)) ≡ true
+    more e a c d less was = grind (arith, less)
 still-step pid w (Maps p x) is still l = absurd (cc)
 still-step pid w (Unmaps p base) is still l = absurd (cc)
 still-step pid w (Dies who status) is still l = absurd (cc)
@@ -93,6 +100,7 @@ still-step pid w (Accepts who reply) is still l = absurd (cc)
 still-step pid w (DrawsIdentifier who) is still l = absurd (cc)
 still-step pid w (DrawsOrdinal who) is still l = absurd (cc)
 still-step pid w (Registers who b) is still l = absurd (cc)
+still-step pid w (Acts who own) is still l = absurd (cc)
 still-step pid w (AddsProcess p) is still l = absurd (cc)
 still-step pid w (AddsThread t) is still l = absurd (cc)
 still-step pid w (Frees o) is still l = absurd (cc)
@@ -109,7 +117,7 @@ die-but : (pid : ℕ) (code : Status) (t : ThreadRow) (w : World) → IsOf pid t
 die-but pid code t w of l =
     let dead = basic w (Dies t.number code) in
     let gone = basic dead (Withdraws t.number) in
-    let later = cut_accepted (wait_of w t.number) gone in
+    let later = end_client (wait_of w t.number) gone in
     let all = die-ending code t w in
     still-all pid gone later all (accepted-pass is_still away-still (λ b. refl) (wait_of w t.number) gone) (still-all pid dead (Withdraws t.number ∷ []) refl refl (dies-but pid t.number code w of l))
 
@@ -207,7 +215,7 @@ living-law by = record {
 
 -- Lines
 living-lines : LineLaw (Shut HasThreadsOnce) (λ _. Keep HasLivingRows)
-living-lines = passing-lines (Shut HasThreadsOnce) (Keep HasLivingRows) is_homely homely-all (λ w. record { tells = λ _. refl; processes = λ _. refl; threads = λ _ _ _. refl; binds = λ _ _. refl }) (λ by. life-outcomes by (Shut HasThreadsOnce) (Keep HasLivingRows) (living-law by))
+living-lines = passing-lines (Shut HasThreadsOnce) (Keep HasLivingRows) is_homely homely-all (λ w. record { tells = λ _. refl; processes = λ _. refl; threads = λ _ _ _. refl; binds = λ _ _. refl; names = λ _. refl }) (λ by. life-outcomes by (Shut HasThreadsOnce) (Keep HasLivingRows) (living-law by))
 
 -- the step of a line leaves handles and views to living processes alone
 pub living_step : (w : World) (line : ScriptLine) → IsSafe w → HasThreadsOnce w → HasLivingRows w → HasLivingRows (step w line).world

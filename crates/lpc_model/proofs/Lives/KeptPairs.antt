@@ -19,9 +19,9 @@ use Rattle.lpc_model.proofs.Sound.Worlds.{kept-pair-open}
 use Rattle.lpc_model.proofs.Steps.Steady.{steady-enter}
 use Rattle.lpc_model.proofs.Steps.InTurn.{after-append, steps-keep}
 use Rattle.lpc_model.proofs.Calls.Usable.{CanCall}
-use Rattle.lpc_model.specs.Basics.{Accepts, AddsHandle, AddsProcess, AddsThread, Awaits, Basic, Completes, Cuts, DrawsIdentifier, DrawsOrdinal, DropsHandle, DropsViewsOf, Empties, Frees, Joins, Makes, Receives, Registers, Takes, TakesConnect, Unbinds, Unregisters, Wakes, Withdraws, basic, completed, cut, freed, is_end_of, joined, no_handles, paired, world_after, AddsSection, Maps, Unmaps, Writes}
+use Rattle.lpc_model.specs.Basics.{Accepts, AddsHandle, AddsProcess, AddsThread, Awaits, Basic, Completes, Cuts, DrawsIdentifier, DrawsOrdinal, DropsHandle, DropsOwned, DropsViewsOf, Empties, Frees, Joins, Makes, Receives, Registers, Takes, TakesConnect, Unbinds, Unregisters, Wakes, Withdraws, basic, completed, cut, freed, is_end_of, joined, no_handles, paired, world_after, AddsSection, Maps, Unmaps, Writes, secured, Secures, Acts, AddsToken}
 use Rattle.lpc_model.specs.Close.{close_handle, close_port, is_last}
-use Rattle.lpc_model.specs.Connect.{connect_start, Completable, client_port, connection_request, server_port}
+use Rattle.lpc_model.specs.Connect.{Completable, client_port, connection_request, server_port}
 use Rattle.lpc_model.specs.Creation.{new_process, new_thread, second_birth}
 use Rattle.lpc_model.specs.Death.{die}
 use Rattle.lpc_model.specs.Entering.{enter, received_steps, row_of, woken}
@@ -29,16 +29,18 @@ use Rattle.lpc_model.specs.Fields.{h}
 use Rattle.lpc_model.specs.Found.{free_handle, handle_at, has_handle_to, is_cut, is_open, is_paired_to, is_port, is_table, is_the, port_name, same_birth}
 use Rattle.lpc_model.specs.Left.{HasKeptPairs, is_kept_pair}
 use Rattle.lpc_model.specs.Lines.{ScriptLine}
-use Rattle.lpc_model.specs.Memory.{mapped_view, new_section}
+use Rattle.lpc_model.specs.Memory.{new_section}
 use Rattle.lpc_model.specs.Machine.{step}
 use Rattle.lpc_model.specs.Message.{asks}
 use Rattle.lpc_model.specs.SoundWaits.{IsSoundWorld}
 use Rattle.lpc_model.specs.Sweep.{sweep}
 use Rattle.lpc_model.specs.Tests.{PORT_ACCESS, handle_row, next_birth}
-use Rattle.lpc_model.specs.World.{Birth, HandleRow, Message, MessageRow, ObjectKind, ObjectName, PortRow, ThreadRow, WaitRow, World}
+use Rattle.lpc_model.specs.World.{Birth, HandleRow, Message, MessageRow, ObjectKind, ObjectName, PortRow, ThreadRow, WaitRow, World, Acceptance}
 use Rattle.std.proofs.Common.{Bool, List, None, Option, Some, [], arith, cond, false, refl, subst, sym, true, ℕ, ◌++◌, ◌∷◌, ◌≡◌, ◌≤◌}
 use Rattle.std.proofs.lemmas.Bool.{and_from, or_left}
 use Rattle.std.specs.Prelude.{◌||◌}
+use Rattle.lpc_model.proofs.Calls.Sharing.{connect_begun}
+use Rattle.lpc_model.specs.Impersonation.{new_token}
 
 -- Steps
 -- a step that keeps it whatever the world: it gives and takes no handle, joins nothing, and makes ports without other ends
@@ -67,6 +69,7 @@ pair-step w (Makes p) is k = every-push (is_kept_pair w) w.ports p k (or_left (i
 pair-step w (AddsProcess p) is k = every-more (is_kept_pair w) (is_kept_pair (basic w (AddsProcess p))) (kept-more w (basic w (AddsProcess p)) (λ b one. has-kept (has_handle_to b) w.handles (no_handles p.number) one)) w.ports k
 pair-step w (Completes c) is k = every-change (is_kept_pair w) (is_port c) completed (λ p one. one) w.ports k
 pair-step w (Cuts c) is k = every-change_to (is_kept_pair w) (is_kept_pair w) (is_end_of c) cut (λ p was here. refl) (λ p was off. was) w.ports k
+pair-step w (Secures c s) is k = every-change (is_kept_pair w) (is_port c) (secured s) (λ p one. one) w.ports k
 pair-step w (Frees o) is k = freed-pairs w o.kind o.birth k
 pair-step w (Joins client server context) is k = absurd (cc)
 pair-step w (AddsHandle pid h) is k = absurd (cc)
@@ -138,12 +141,12 @@ steady-pairing (AddsHandle pid h) is = absurd (cc)
 steady-pairing (DropsHandle pid value) is = absurd (cc)
 steady-pairing b is = refl
 
-accepted-pairs : (w : World) (by : ThreadRow) (context : ℕ) (m : Message) (x : WaitRow) → CanCall w by → IsSoundWorld w → KeepPairs w (accept_act w by context m x)
-accepted-pairs w by context m x c s k =
+accepted-pairs : (w : World) (by : ThreadRow) (context : ℕ) (m : Message) (x : WaitRow) (a : Acceptance) → CanCall w by → IsSoundWorld w → KeepPairs w (accept_act w by context x a)
+accepted-pairs w by context m x a c s k =
     let server = next_birth by in
     let made = basic (basic w (DrawsOrdinal by.number)) (Makes (server_port server x.queue)) in
     let v = basic made (AddsHandle by.process (handle_row (free_handle w by.process) (port_name server) PORT_ACCESS)) in
-    let u = basic v (Accepts x.thread m.body) in
+    let u = basic v (Accepts x.thread a) in
     let opens = open-new made by.process (free_handle w by.process) PORT_ACCESS server c.home in
     pair-join u x.port server context opens (pair-handle made by.process (port_name server) PORT_ACCESS (s.tables by.process) (every-push (is_kept_pair w) w.ports (server_port server x.queue) k refl))
 
@@ -157,6 +160,7 @@ away-pairing (Wakes who call status fields) is = refl
 away-pairing (Withdraws who) is = refl
 away-pairing (Empties q) is = refl
 away-pairing (Unbinds b) is = refl
+away-pairing (DropsOwned b) is = refl
 away-pairing x is = absurd (cc)
 
 entered-pairs : (w : World) (m : MessageRow) → KeepPairs w (enter m w)
@@ -184,26 +188,30 @@ pairs-law by = record {
   asks = λ w x m off wait post k. entered-pairs (basic w (Awaits x)) m (pair-all w (Awaits x ∷ []) refl k);
   creates = λ w is k. pair-handle (basic (basic w (DrawsOrdinal by.number)) (Makes _)) by.process (port_name (next_birth by)) PORT_ACCESS (is.sound.tables by.process) (every-push (is_kept_pair w) w.ports _ k refl);
   founds = λ w name path free is k. pair-handle (basic (basic w (DrawsOrdinal by.number)) (Makes _)) by.process (port_name (next_birth by)) PORT_ACCESS (is.sound.tables by.process) (every-push (is_kept_pair w) w.ports _ k refl);
-  connects = λ w connection bytes opens is k. entered-pairs (world_after w (connect_start by connection (connection_request by bytes))) (row_of connection (client_port by connection) (connection_request by bytes)) (every-push (is_kept_pair w) w.ports (client_port by connection) k refl);
+  connects = λ w connection offer bytes opens offers is k. entered-pairs (world_after w (connect_begun by connection offer (connection_request by offer bytes))) (row_of connection (client_port by connection) (connection_request by offer bytes)) (every-push (is_kept_pair w) w.ports (client_port by connection) k refl);
   gives = λ w pid o access is. pair-handle w pid o access is.one;
-  accepts = λ w context m x at is. accepted-pairs w by context m x is.can is.sound;
+  accepts = λ w context m x a at is. accepted-pairs w by context m x a is.can is.sound;
   completes = λ w c is. completed-pairs w c is.sound;
   registers = λ w b stands. pair-all w (Registers by.number b ∷ []) refl;
-  spawns = λ w pid tid new unused s. pair-all w (DrawsOrdinal by.number ∷ DrawsOrdinal by.number ∷ AddsProcess (new_process pid (Some by.process) (next_birth by)) ∷ AddsThread (new_thread tid pid (second_birth by)) ∷ []) refl;
+  spawns = λ w pid tid token new unused s. pair-all w (DrawsOrdinal by.number ∷ DrawsOrdinal by.number ∷ AddsProcess (new_process pid (Some by.process) (next_birth by) token) ∷ AddsThread (new_thread tid pid (second_birth by)) ∷ []) refl;
   starts = λ w tid pid live unused s. pair-all w (DrawsOrdinal by.number ∷ AddsThread (new_thread tid pid (next_birth by)) ∷ []) refl;
   closes = λ w pid r at s _. pair-closed w pid r at s;
   dies = λ w code t is. pair-all w (die code t w) (die-pass is_pairing away-pairing (λ n c. refl) (λ b. refl) code t w);
   leaves = λ w n b. pair-all w (Unregisters n b ∷ []) refl;
   vacates = λ w pid. pair-all w (DropsViewsOf pid ∷ []) refl;
+  disowns = λ w b. pair-all w (DropsOwned b ∷ []) refl;
+  secures = λ w b s. pair-all w (Secures b s ∷ []) refl;
+  acts = λ w own. pair-all w (Acts by.number own ∷ []) refl;
+  holds_token = λ w content. pair-all w (DrawsOrdinal by.number ∷ AddsToken (new_token by content) ∷ []) refl;
   builds = λ w size prot is. pair-all w (DrawsOrdinal by.number ∷ AddsSection (new_section by size prot) ∷ []) refl;
-  maps = λ w handle offset size prot s rounded base m. pair-all w (Maps by.process (mapped_view s offset rounded prot base) ∷ []) refl;
+  maps = λ w pid v m. pair-all w (Maps pid v ∷ []) refl;
   unmaps = λ w pid base. pair-all w (Unmaps pid base ∷ []) refl;
   writes = λ w b place new. pair-all w (Writes b place new ∷ []) refl;
 }
 
 -- Lines
 pairs-lines : LineLaw (Shut AnyWorld) (λ _. KeepPairs)
-pairs-lines = passing-lines (Shut AnyWorld) KeepPairs (λ w. is_pairing) pair-all (λ w. record { tells = λ _. refl; processes = λ _. refl; threads = λ _ _ _. refl; binds = λ _ _. refl }) (λ by. outcomes by (Shut AnyWorld) AnyWorld KeepPairs (pairs-law by) (λ w c. c))
+pairs-lines = passing-lines (Shut AnyWorld) KeepPairs (λ w. is_pairing) pair-all (λ w. record { tells = λ _. refl; processes = λ _. refl; threads = λ _ _ _. refl; binds = λ _ _. refl; names = λ _. refl }) (λ by. outcomes by (Shut AnyWorld) AnyWorld KeepPairs (pairs-law by) (λ w c. c))
 
 -- the step of a line
 pub pairs_step : (w : World) (line : ScriptLine) → IsSafe w → HasKeptPairs w → HasKeptPairs (step w line).world

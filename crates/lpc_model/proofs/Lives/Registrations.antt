@@ -12,7 +12,7 @@ use Rattle.lpc_base.proofs.Births.{birth-self}
 use Rattle.lpc_model.specs.declared.entry.ObjectKind.TheVariants as kind
 use Rattle.lpc_model.specs.World.{Birth, ObjectKind, ThreadRow, World}
 use Rattle.lpc_model.specs.Found.{handles_of, is_live, is_live_thread, is_thread, same_birth}
-use Rattle.lpc_model.specs.Basics.{AddsThread, Basic, Dies, DrawsIdentifier, DrawsOrdinal, DropsViewsOf, Frees, Registers, Unregisters, basic, doing, ended, freed, in_turn, past_identifier, past_ordinal, provided, registering, unregistering, world_after, ◌▹◌}
+use Rattle.lpc_model.specs.Basics.{AddsThread, Basic, Dies, DrawsIdentifier, DrawsOrdinal, DropsViewsOf, Frees, Registers, Unregisters, basic, doing, ended, freed, in_turn, past_identifier, past_ordinal, provided, registering, unregistering, world_after, ◌▹◌, Acts, acting}
 use Rattle.lpc_model.specs.Close.{close_handle}
 use Rattle.lpc_model.specs.Death.{die, end_process, end_threads, post_death, post_deaths, death_post}
 use Rattle.lpc_model.specs.Deaths.{HasLivingRegistrations, has_living_registrations}
@@ -99,6 +99,7 @@ owed-step ts w (Unregisters who b) is still owes =
 owed-step ts w (DrawsIdentifier who) is still owes = absurd (cc)
 owed-step ts w (DrawsOrdinal who) is still owes = absurd (cc)
 owed-step ts w (Registers who b) is still owes = absurd (cc)
+owed-step ts w (Acts who own) is still owes = absurd (cc)
 owed-step ts w (AddsThread u) is still owes = absurd (cc)
 owed-step ts w (Frees o) is still owes = absurd (cc)
 owed-step ts w b is still owes = owes
@@ -248,6 +249,7 @@ living-step w (Registers who b) is l = absurd (cc)
 living-step w (Unregisters who b) is l = every-change has_living_registrations (is_thread who) (unregistering b) (λ r was. living-less b r was) w.threads l
 living-step w (DrawsIdentifier who) is l = every-change has_living_registrations (is_thread who) past_identifier (λ r was. was) w.threads l
 living-step w (DrawsOrdinal who) is l = every-change has_living_registrations (is_thread who) past_ordinal (λ r was. was) w.threads l
+living-step w (Acts who own) is l = every-change has_living_registrations (is_thread who) (acting own) (λ r was. was) w.threads l
 living-step w (AddsThread t) is l = every-push has_living_registrations w.threads t l is
 living-step w (Frees o) is l = freed-living w o.kind o.birth l
 living-step w b is l = l
@@ -298,7 +300,7 @@ living-law by = record {
 
 -- Lines
 living-lines : LineLaw HasThreadsOnce (λ _. Keep HasLivingRegistrations)
-living-lines = passing-lines HasThreadsOnce (Keep HasLivingRegistrations) (λ _. is_lasting) living-all (λ w. record { tells = λ _. refl; processes = λ _. refl; threads = λ _ _ _. refl; binds = λ _ _. refl }) (λ by. life-outcomes by HasThreadsOnce (Keep HasLivingRegistrations) (living-law by))
+living-lines = passing-lines HasThreadsOnce (Keep HasLivingRegistrations) (λ _. is_lasting) living-all (λ w. record { tells = λ _. refl; processes = λ _. refl; threads = λ _ _ _. refl; binds = λ _ _. refl; names = λ _. refl }) (λ by. life-outcomes by HasThreadsOnce (Keep HasLivingRegistrations) (living-law by))
 
 -- before rows go
 pub line-living : (w : World) (line : ScriptLine) → IsSoundWorld w → HasThreadsOnce w → HasLivingRegistrations w → HasLivingRegistrations (world_after w (bare_steps line w))

@@ -10,7 +10,7 @@ use Rattle.lpc_base.proofs.Bools.{first-true, second-true}
 use Rattle.lpc_model.specs.declared.entry.ObjectKind.TheVariants as kind
 use Rattle.lpc_model.specs.World.{Birth, ObjectKind, ThreadRow, World}
 use Rattle.lpc_model.specs.Found.{is_live_thread, is_thread, same_birth}
-use Rattle.lpc_model.specs.Basics.{AddsThread, Basic, Dies, DrawsIdentifier, DrawsOrdinal, Frees, Registers, Unregisters, basic, ended, freed, past_identifier, past_ordinal, registering, unregistering, world_after}
+use Rattle.lpc_model.specs.Basics.{AddsThread, Basic, Dies, DrawsIdentifier, DrawsOrdinal, Frees, Registers, Unregisters, basic, ended, freed, past_identifier, past_ordinal, registering, unregistering, world_after, Acts, acting}
 use Rattle.lpc_model.specs.Deaths.{HasSingleRegistrations, are_different, registers_once}
 use Rattle.lpc_model.specs.Lawful.{HasThreadsOnce}
 use Rattle.lpc_model.specs.Lines.{ScriptLine}
@@ -56,6 +56,7 @@ single-step w (Registers who b) is l = absurd (cc)
 single-step w (Unregisters who b) is l = every-change registers_once (is_thread who) (unregistering b) (λ r was. different-less b r.registrations was) w.threads l
 single-step w (DrawsIdentifier who) is l = every-change registers_once (is_thread who) past_identifier (λ r was. was) w.threads l
 single-step w (DrawsOrdinal who) is l = every-change registers_once (is_thread who) past_ordinal (λ r was. was) w.threads l
+single-step w (Acts who own) is l = every-change registers_once (is_thread who) (acting own) (λ r was. was) w.threads l
 single-step w (AddsThread t) is l = every-push registers_once w.threads t l is
 single-step w (Frees o) is l = freed-single w o.kind o.birth l
 single-step w b is l = l
@@ -100,7 +101,7 @@ single-law by = record {
 
 -- Lines
 single-lines : LineLaw HasThreadsOnce (λ _. Keep HasSingleRegistrations)
-single-lines = passing-lines HasThreadsOnce (Keep HasSingleRegistrations) (λ _. is_lasting) single-all (λ w. record { tells = λ _. refl; processes = λ _. refl; threads = λ _ _ _. refl; binds = λ _ _. refl }) (λ by. life-outcomes by HasThreadsOnce (Keep HasSingleRegistrations) (single-law by))
+single-lines = passing-lines HasThreadsOnce (Keep HasSingleRegistrations) (λ _. is_lasting) single-all (λ w. record { tells = λ _. refl; processes = λ _. refl; threads = λ _ _ _. refl; binds = λ _ _. refl; names = λ _. refl }) (λ by. life-outcomes by HasThreadsOnce (Keep HasSingleRegistrations) (single-law by))
 
 -- the step of a line leaves each port registered once with a thread
 pub single_step : (w : World) (line : ScriptLine) → IsSoundWorld w → HasThreadsOnce w → HasSingleRegistrations w → HasSingleRegistrations (step w line).world

@@ -9,16 +9,16 @@ use Rattle.lpc_model.proofs.Steps.Ending.{AreEnding, die-ending, ending-enter, e
 use Rattle.lpc_model.proofs.Steps.Rows.{count-change, count-less, has-off}
 use Rattle.lpc_model.proofs.Sound.Basics.{sound-ordinal}
 use Rattle.lpc_model.proofs.Steps.InTurn.{steps-keep}
-use Rattle.lpc_model.specs.Basics.{AddsThread, Awaits, Basic, Dies, DrawsIdentifier, DrawsOrdinal, DropsViewsOf, Frees, Registers, Unregisters, basic, ended, freed, past_identifier, past_ordinal, registering, unregistering, world_after, AddsSection, Maps, Unmaps, Writes}
+use Rattle.lpc_model.specs.Basics.{AddsThread, Awaits, Basic, Dies, DrawsIdentifier, DrawsOrdinal, DropsOwned, DropsViewsOf, Frees, Registers, Unregisters, basic, ended, freed, past_identifier, past_ordinal, registering, unregistering, world_after, AddsSection, Maps, Unmaps, Writes, Acts, acting, Secures, AddsToken}
 use Rattle.lpc_model.specs.Close.{close_handle}
-use Rattle.lpc_model.specs.Connect.{client_port, connect_start, connection_request, named_steps, unnamed_steps}
+use Rattle.lpc_model.specs.Connect.{client_port, connection_request, named_steps, unnamed_steps}
 use Rattle.lpc_model.specs.Creation.{new_thread, second_birth}
 use Rattle.lpc_model.specs.Death.{die}
 use Rattle.lpc_model.specs.Entering.{enter, row_of, take_connect_steps, take_steps}
 use Rattle.lpc_model.specs.Found.{is_thread, same_birth, was_thread}
 use Rattle.lpc_model.specs.Lawful.{HasThreadsOnce}
 use Rattle.lpc_model.specs.Lines.{ScriptLine}
-use Rattle.lpc_model.specs.Memory.{mapped_view, new_section}
+use Rattle.lpc_model.specs.Memory.{new_section}
 use Rattle.lpc_model.specs.Machine.{directive_birth, step}
 use Rattle.lpc_model.specs.SoundWaits.{HasShutConnects, IsSoundWorld}
 use Rattle.lpc_model.specs.Sweep.{sweep}
@@ -26,6 +26,8 @@ use Rattle.lpc_model.specs.Tests.{next_birth}
 use Rattle.lpc_model.specs.World.{Birth, ObjectKind, ThreadRow, World}
 use Rattle.std.proofs.Common.{Bool, List, [], arith, cond, false, not, refl, subst, true, ℕ, ◌++◌, ◌+◌, ◌∷◌, ◌≡◌, ◌≤◌}
 use Rattle.std.proofs.lemmas.Bool.{eqb-true}
+use Rattle.lpc_model.proofs.Calls.Sharing.{connect_begun}
+use Rattle.lpc_model.specs.Impersonation.{new_token}
 
 -- Steps
 -- a step makes no thread
@@ -47,6 +49,7 @@ once-step w (Registers who b) is once = changed-once w who (registering b) (λ n
 once-step w (Unregisters who b) is once = changed-once w who (unregistering b) (λ n t. refl) once
 once-step w (DrawsIdentifier who) is once = changed-once w who past_identifier (λ n t. refl) once
 once-step w (DrawsOrdinal who) is once = changed-once w who past_ordinal (λ n t. refl) once
+once-step w (Acts who own) is once = changed-once w who (acting own) (λ n t. refl) once
 once-step w (Frees o) is once = freed-once w o.kind o.birth once
 once-step w b is once = once
 
@@ -100,15 +103,15 @@ once-law by = record {
   asks = λ w x m off wait post. let v = basic w (Awaits x) in ended-once v (enter m v) (ending-enter m v);
   creates = λ w is. once-all w (create_act w by (unnamed_steps (next_birth by))) refl;
   founds = λ w name path free is. once-all w (create_act w by (named_steps (next_birth by) path)) refl;
-  connects = λ w connection bytes opens is once.
-      let v = world_after w (connect_start by connection (connection_request by bytes)) in
-      let row = row_of connection (client_port by connection) (connection_request by bytes) in
-      ended-once v (enter row v) (ending-enter row v) (once-all w (connect_start by connection (connection_request by bytes)) refl once);
+  connects = λ w connection offer bytes opens offers is once.
+      let v = world_after w (connect_begun by connection offer (connection_request by offer bytes)) in
+      let row = row_of connection (client_port by connection) (connection_request by offer bytes) in
+      ended-once v (enter row v) (ending-enter row v) (once-all w (connect_begun by connection offer (connection_request by offer bytes)) refl once);
   gives = λ w pid o access is once. once;
-  accepts = λ w context m x at is. once-all w (accept_act w by context m x) refl;
+  accepts = λ w context m x a at is. once-all w (accept_act w by context x a) refl;
   completes = λ w c is. once-all w (complete_act w c) refl;
   registers = λ w b stands. once-step w (Registers by.number b) refl;
-  spawns = λ w pid tid new unused s once.
+  spawns = λ w pid tid token new unused s once.
       let v : World = basic (basic w (DrawsOrdinal by.number)) (DrawsOrdinal by.number) in
       let drawn = once-all w (DrawsOrdinal by.number ∷ DrawsOrdinal by.number ∷ []) refl once in
       new-once v.threads (new_thread tid pid (second_birth by)) drawn (unused-none v tid unused (sound-ordinal (basic w (DrawsOrdinal by.number)) by.number (sound-ordinal w by.number s)));
@@ -120,8 +123,12 @@ once-law by = record {
   dies = λ w code t is. ended-once w (die code t w) (die-ending code t w);
   leaves = λ w n b. ended-once w (Unregisters n b ∷ []) refl;
   vacates = λ w pid. ended-once w (DropsViewsOf pid ∷ []) refl;
+  disowns = λ w b. ended-once w (DropsOwned b ∷ []) refl;
+  secures = λ w b s. once-all w (Secures b s ∷ []) refl;
+  acts = λ w own. once-all w (Acts by.number own ∷ []) refl;
+  holds_token = λ w content. once-all w (DrawsOrdinal by.number ∷ AddsToken (new_token by content) ∷ []) refl;
   builds = λ w size prot is. once-all w (DrawsOrdinal by.number ∷ AddsSection (new_section by size prot) ∷ []) refl;
-  maps = λ w handle offset size prot s rounded base m. once-all w (Maps by.process (mapped_view s offset rounded prot base) ∷ []) refl;
+  maps = λ w pid v m. once-all w (Maps pid v ∷ []) refl;
   unmaps = λ w pid base. once-all w (Unmaps pid base ∷ []) refl;
   writes = λ w b place new. once-all w (Writes b place new ∷ []) refl;
 }
@@ -131,7 +138,8 @@ once-lines : LineLaw (Shut AnyWorld) (λ _. KeepOnce)
 once-lines = record {
   tells = λ line w e _ once. once;
   calls = λ by. outcomes by (Shut AnyWorld) AnyWorld KeepOnce (once-law by) (λ w c. c);
-  boots = λ w pid tid _ unused s _ once. new-once w.threads (new_thread tid pid (directive_birth tid pid)) once (unused-none w tid unused s);
+  names = λ w name content _ once. once;
+  boots = λ w pid tid name content _ unused s _ once. new-once w.threads (new_thread tid pid (directive_birth tid pid)) once (unused-none w tid unused s);
   threads = λ w tid pid _ unused s _ once. new-once w.threads (new_thread tid pid (directive_birth tid pid)) once (unused-none w tid unused s);
   dirs = λ w text path free _ once. once;
   links = λ w text target path to free _ once. once;

@@ -75,7 +75,7 @@ module _ (Q : List MessageRow → Type 0) (keeps : (test : MessageRow → Bool) 
       (λ x r. keeps (is_queued q) ms all)
       (λ x. keeps (is_queued q) ms all)
       (λ x. keeps (is_queued_connect q) ms all)
-      (λ x r. keeps (is_queued q) ms all)
+      (λ x r offer. keeps (is_queued q) ms all)
       (λ x r reply. keeps (is_queued q) ms all) x
 
   pub posted-messages : (b : Birth) (w : World) → Q w.messages → ((p : PortRow) (q : Birth) (by : Creator) → port_row w b ≡ Some p → server_of w p ≡ Some q → Q (w.messages ++ closed_row p q by ∷ [])) → Q (behind (post_closed b) w).messages

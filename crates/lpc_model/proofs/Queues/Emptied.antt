@@ -14,19 +14,20 @@ use Rattle.lpc_model.proofs.Sound.Close.{shut-found}
 use Rattle.lpc_model.proofs.Sound.Closing.{close-shut}
 use Rattle.lpc_model.proofs.Steps.Closing.{behind, stage_five, stage_four, stage_one, stage_three, stage_two}
 use Rattle.lpc_model.proofs.Steps.Sweep.{sweep_every}
-use Rattle.lpc_model.specs.Basics.{Awaits, Basic, Cuts, Dies, DropsHandle, Empties, Receives, Steps, Takes, TakesConnect, Wakes, Withdraws, basic, end_each, world_after}
+use Rattle.lpc_model.specs.Basics.{Awaits, Basic, Cuts, Dies, DropsHandle, DropsOwned, Empties, Receives, Steps, Takes, TakesConnect, Wakes, Withdraws, basic, end_each, world_after}
 use Rattle.lpc_model.specs.Close.{close_handle, close_port, closed_row, closing_post, cut_pair, drop_name, empty_queue, end_accepted, end_offered, end_receives, end_request, end_requests, is_accepted_across, is_last, is_offered_to, is_queued_request, is_receive_across, is_receiver, is_request_across, is_request_on, post_closed, server_of, wake}
 use Rattle.lpc_model.specs.Closings.{closes}
-use Rattle.lpc_model.specs.Connect.{client_port, connect_start, connection_request}
-use Rattle.lpc_model.specs.Death.{cut_accepted, die}
+use Rattle.lpc_model.specs.Connect.{client_port, connection_request}
+use Rattle.lpc_model.specs.Death.{end_client, die}
 use Rattle.lpc_model.specs.Entering.{enter, received_steps, row_of, take_connect_steps, take_steps}
-use Rattle.lpc_model.specs.Found.{handle_at, is_accepted, port_row, wait_of}
+use Rattle.lpc_model.specs.Found.{handle_at, is_accepted, is_connect, port_row, wait_of}
 use Rattle.lpc_model.specs.Leaving.{EmptiesWithHandles, closed, emptied, empties}
 use Rattle.lpc_model.specs.Lines.{ScriptLine}
 use Rattle.lpc_model.specs.Machine.{bare_steps}
 use Rattle.lpc_model.specs.SoundWaits.{HasShutConnects, IsSoundWorld}
 use Rattle.lpc_model.specs.Sweep.{sweep}
 use Rattle.lpc_model.specs.World.{Birth, Creator, HandleRow, MessageRow, PortRow, ThreadRow, WaitRow, World}
+use Rattle.lpc_model.proofs.Calls.Sharing.{connect_begun}
 
 -- Still steps
 -- a step empties no queue, and no handle goes by it
@@ -127,9 +128,13 @@ die-still code t w = at (wait_of w t.number)
     accepted x true = pair-still x.port v
     accepted x false = refl
 
-    at : (o : Option WaitRow) → AreStill (cut_accepted o v)
+    own : (x : WaitRow) (c : Bool) → AreStill (when c (DropsOwned x.port ∷ []))
+    own x true = refl
+    own x false = refl
+
+    at : (o : Option WaitRow) → AreStill (end_client o v)
     at None = refl
-    at (Some x) = accepted x (is_accepted x)
+    at (Some x) = every-append is_still (when (is_accepted x) (cut_pair x.port v)) _ (accepted x (is_accepted x)) (own x (is_connect x))
 
 -- A port that is closed
 post-still : (b : Birth) (w : World) → AreStill (post_closed b w)
@@ -159,7 +164,7 @@ queue-emptied b w =
 close-emptied : (b : Birth) (w : World) → emptied (close_port b w) ≡ b ∷ []
 unfolding close_port
 close-emptied b w =
-    let six = post_closed b (stage_five w b) in
+    let six = post_closed b (stage_five w b) ++ DropsOwned b ∷ [] in
     let five = cut_pair b (stage_four w b) ++ six in
     let four = empty_queue b (stage_three w b) ++ five in
     let three = end_requests b (stage_two w b) ++ four in
@@ -167,7 +172,7 @@ close-emptied b w =
     emptied-behind (drop_name b w) two refl
     ∙ (emptied-behind (end_receives b (stage_one w b)) three (ends-still (λ w. is_receiver b) (wake PORT_DISCONNECTED) (λ x. refl) (stage_one w b))
     ∙ (emptied-behind (end_requests b (stage_two w b)) four (ends-still (λ w. is_request_on b) (end_request PORT_DISCONNECTED) (λ x. refl) (stage_two w b))
-    ∙ (emptied-before (empty_queue b (stage_three w b)) five (every-append is_still (cut_pair b (stage_four w b)) six (pair-still b (stage_four w b)) (post-still b (stage_five w b)))
+    ∙ (emptied-before (empty_queue b (stage_three w b)) five (every-append is_still (cut_pair b (stage_four w b)) six (pair-still b (stage_four w b)) (every-append is_still (post_closed b (stage_five w b)) (DropsOwned b ∷ []) (post-still b (stage_five w b)) refl))
     ∙ queue-emptied b (stage_three w b))))
 
 -- and it loses its last handle
@@ -208,29 +213,33 @@ empties-law by = record {
   asks = λ w x m off wait post. let v = basic w (Awaits x) in still w (Awaits x ∷ enter m v) (still-enter m v);
   creates = λ w is. refl;
   founds = λ w name path free is. refl;
-  connects = λ w connection bytes opens is.
-      let row = row_of connection (client_port by connection) (connection_request by bytes) in
-      let v = world_after w (connect_start by connection (connection_request by bytes)) in
-      still w (connect_act w by connection (connection_request by bytes)) (still-enter row v);
+  connects = λ w connection offer bytes opens offers is.
+      let row = row_of connection (client_port by connection) (connection_request by offer bytes) in
+      let v = world_after w (connect_begun by connection offer (connection_request by offer bytes)) in
+      still w (connect_act w by connection offer (connection_request by offer bytes)) (still-enter row v);
   gives = λ w pid o access is. refl;
-  accepts = λ w context m x at is. refl;
+  accepts = λ w context m x a at is. refl;
   completes = λ w c is. refl;
   registers = λ w b stands. refl;
-  spawns = λ w pid tid new unused s. refl;
+  spawns = λ w pid tid token new unused s. refl;
   starts = λ w tid pid live unused s. refl;
   closes = λ w pid r at s _. handle-empties w pid r at s;
   dies = λ w code t is. still w (die code t w) (die-still code t w);
   leaves = λ w n b. refl;
   vacates = λ w pid. refl;
+  disowns = λ w b. refl;
+  secures = λ w b s. refl;
+  acts = λ w own. refl;
+  holds_token = λ w content. refl;
   builds = λ w size prot is. refl;
-  maps = λ w handle offset size prot s rounded base m. refl;
+  maps = λ w pid v m. refl;
   unmaps = λ w pid base. refl;
   writes = λ w b place new. refl;
 }
 
 -- Lines
 empties-lines : LineLaw (Shut AnyWorld) (λ _. Empty)
-empties-lines = passing-lines (Shut AnyWorld) Empty (λ _. is_still) still (λ w. record { tells = λ _. refl; processes = λ _. refl; threads = λ _ _ _. refl; binds = λ _ _. refl }) (λ by. outcomes by (Shut AnyWorld) AnyWorld Empty (empties-law by) (λ w c. c))
+empties-lines = passing-lines (Shut AnyWorld) Empty (λ _. is_still) still (λ w. record { tells = λ _. refl; processes = λ _. refl; threads = λ _ _ _. refl; binds = λ _ _. refl; names = λ _. refl }) (λ by. outcomes by (Shut AnyWorld) AnyWorld Empty (empties-law by) (λ w c. c))
 
 -- and rows that go empty nothing
 pub line_empties : (w : World) (line : ScriptLine) → IsSoundWorld w → HasShutConnects w → EmptiesWithHandles w line

@@ -4,7 +4,6 @@ use Rattle.lpc_base.proofs.Bools.{first-true, or-last, second-more, second-true}
 use Rattle.lpc_base.proofs.RowMaps.{every-both, every-change_to, every-without_first}
 use Rattle.lpc_base.proofs.RowWords.{every-append, every-change, every-more, every-push, every-without, first-passes, has-kept}
 use Rattle.lpc_base.specs.Rows.{count, every, first, given, when}
-use Rattle.lpc_base.specs.declared.limits.TheConstants.{MESSAGE_LIMIT}
 use Rattle.lpc_base.specs.declared.status.TheConstants.{SUCCESS}
 use Rattle.lpc_model.proofs.Calls.Acts.{Law, accept_act, complete_act, connect_act, create_act, keeps_on, outcomes}
 use Rattle.lpc_model.proofs.Calls.Lines.{Shut, LineLaw, line-does, passing-lines}
@@ -20,27 +19,29 @@ use Rattle.lpc_model.proofs.Sound.Closing.{close-shut}
 use Rattle.lpc_model.proofs.Queues.Closing.{is_elsewhere}
 use Rattle.lpc_model.proofs.Sound.Worlds.{by_kind}
 use Rattle.lpc_model.proofs.Steps.InTurn.{after-append}
-use Rattle.lpc_model.specs.Basics.{Accepts, AddsHandle, AddsProcess, AddsThread, Awaits, Basic, Completes, Cuts, Dies, DrawsIdentifier, DrawsOrdinal, DropsHandle, DropsViewsOf, Empties, Enters, Frees, Joins, Makes, Receives, Registers, Takes, TakesConnect, Tells, Unbinds, Unregisters, Wakes, Withdraws, accepted, basic, freed, no_handles, received, world_after, AddsSection, Maps, Unmaps, Writes}
+use Rattle.lpc_model.specs.Basics.{Accepts, AddsHandle, AddsProcess, AddsThread, Awaits, Basic, Completes, Cuts, Dies, DrawsIdentifier, DrawsOrdinal, DropsHandle, DropsOwned, DropsViewsOf, Empties, Enters, Frees, Joins, Makes, Receives, Registers, Takes, TakesConnect, Tells, Unbinds, Unregisters, Wakes, Withdraws, accepted, basic, freed, no_handles, received, world_after, AddsSection, Maps, Unmaps, Writes, Secures, Acts, AddsToken}
 use Rattle.lpc_model.specs.Close.{close_handle, close_port, is_last}
-use Rattle.lpc_model.specs.Connect.{Completable, answer_of, client_port, connect_start, connection_request, named_steps, names_connect, server_port, unnamed_steps}
+use Rattle.lpc_model.specs.Connect.{Completable, acceptance_of, client_port, connection_request, named_steps, names_connect, server_port, unnamed_steps}
 use Rattle.lpc_model.specs.Creation.{new_process, new_thread, second_birth}
 use Rattle.lpc_model.specs.Death.{die}
 use Rattle.lpc_model.specs.Entering.{enter, given_steps, received_steps, row_of, shown, take_connect_steps, take_steps, takes, woken}
-use Rattle.lpc_model.specs.Fields.{h, info, max}
+use Rattle.lpc_model.specs.Fields.{completion_fields}
 use Rattle.lpc_model.specs.Found.{free_handle, handle_at, has_handle_to, is_accepted, is_open, is_own_of, is_queued, is_queued_connect, is_table, is_taken, port_name, waits_as, waits_at}
 use Rattle.lpc_model.specs.Lines.{ScriptLine}
 use Rattle.lpc_model.specs.Linked.{IsLinked}
-use Rattle.lpc_model.specs.Memory.{mapped_view, new_section}
+use Rattle.lpc_model.specs.Memory.{new_section}
 use Rattle.lpc_model.specs.Machine.{bare_steps}
 use Rattle.lpc_model.specs.Message.{asks, made}
 use Rattle.lpc_model.specs.OpenQueues.{HasOpenQueues, StepsKeepQueuesOpen}
 use Rattle.lpc_model.specs.SoundWaits.{HasShutConnects, IsSoundWorld, is_sound_wait}
 use Rattle.lpc_model.specs.Sweep.{sweep}
 use Rattle.lpc_model.specs.Tests.{PORT_ACCESS, handle_row, next_birth}
-use Rattle.lpc_model.specs.World.{Birth, HandleRow, Message, MessageRow, ObjectKind, ObjectName, ThreadRow, WaitRow, World, no_rows}
+use Rattle.lpc_model.specs.World.{Acceptance, Birth, HandleRow, Message, MessageRow, ObjectKind, ObjectName, ThreadRow, WaitRow, World, no_rows, Offer}
 use Rattle.std.proofs.Common.{Bool, List, None, Option, Some, [], arith, false, not, refl, subst, sym, true, ℕ, ◌++◌, ◌∷◌, ◌≡◌, ◌≤◌}
 use Rattle.std.proofs.lemmas.Bool.{and_from, not-true, or_left, or_right}
 use Rattle.std.specs.Prelude.{◌&&◌, ◌||◌}
+use Rattle.lpc_model.proofs.Calls.Sharing.{connect_begun}
+use Rattle.lpc_model.specs.Impersonation.{new_token}
 
 -- What keeps queues open
 -- the ports that are open in one world are open in another
@@ -90,7 +91,7 @@ abbrev AreOpen : World → List Basic → Type 0
 AreOpen w bs = every (is_open_step w) bs ≡ true
 
 freed-kept : (w : World) (k : ObjectKind) (b : Birth) → KeepsOpen w (freed w k b)
-freed-kept w kind.Token b = kept w w (λ b is. is) (λ all. all) (λ all. all) (λ all. all)
+freed-kept w kind.Token b = kept w (freed w kind.Token b) (λ b is. is) (λ all. all) (λ all. all) (λ all. all)
 freed-kept w e b = kept w (freed w e b) (λ b is. is) (λ all. all) (λ all. all) (λ all. all)
 
 -- a step that passes in a world keeps queues open in each later one
@@ -150,7 +151,7 @@ open-given w m x =
     (λ x r. every-append (is_open_step w) (received_steps m) _ (open-receipt w m) refl)
     (λ x. every-append (is_open_step w) (received_steps m) _ (open-receipt w m) refl)
     (λ x. every-append (is_open_step w) (received_steps m) _ (open-receipt w m) refl)
-    (λ x r. every-append (is_open_step w) (received_steps m) _ (open-receipt w m) refl)
+    (λ x r offer. every-append (is_open_step w) (received_steps m) _ (open-receipt w m) refl)
     (λ x r reply. every-append (is_open_step w) (received_steps m) _ (open-receipt w m) refl) x
 
 -- a message enters a queue that is open in one world, in a later one
@@ -175,10 +176,10 @@ created-open w by made s same all q =
     rw (after-append w bs (AddsHandle by.process (handle_row (free_handle w by.process) (port_name (next_birth by)) PORT_ACCESS) ∷ [])) (subst (λ n. HasOpenQueues (basic v (AddsHandle by.process (handle_row n (port_name (next_birth by)) PORT_ACCESS)))) value given)
 
 -- a name leads to an open port, in whose queue the request enters and its thread waits
-connected-open : (w : World) (by : ThreadRow) (connection : Birth) (bytes : List ℕ) → is_open w connection ≡ true → KeepOpen w (connect_act w by connection (connection_request by bytes))
-connected-open w by connection bytes opens =
-    let m = connection_request by bytes in
-    open-all w (connect_act w by connection m) (and_from (is_open w connection && true) _ (and_from (is_open w connection) true opens refl) (open-enter w (row_of connection (client_port by connection) m) (world_after w (connect_start by connection m)) opens))
+connected-open : (w : World) (by : ThreadRow) (connection : Birth) (offer : Option Offer) (bytes : List ℕ) → is_open w connection ≡ true → KeepOpen w (connect_act w by connection offer (connection_request by offer bytes))
+connected-open w by connection offer bytes opens =
+    let m = connection_request by offer bytes in
+    open-all w (connect_act w by connection offer m) (and_from (is_open w connection && true) _ (and_from (is_open w connection) true opens refl) (open-enter w (row_of connection (client_port by connection) m) (world_after w (connect_begun by connection offer m)) opens))
 
 -- a connect that an answer names was received, and is its thread's only wait
 received-alone : (w : World) (by : ThreadRow) (m : Message) (x : WaitRow) → first (names_connect w by m) w.waits ≡ Some x → IsSoundWorld w → every (λ y. not (waits_as x.thread y) || y.received) w.waits ≡ true
@@ -187,7 +188,7 @@ received-alone w by m x at s = named-alone w by m x (λ y. y.received) at (named
     named : (x : WaitRow) → names_connect w by m x ≡ true → x.received ≡ true
     named x is = grind arith
 
-accepted-alone : (w : World) (who : ℕ) (reply : List ℕ) → every (λ y. not (waits_as who y) || y.received) w.waits ≡ true → HasOpenQueues w → HasOpenQueues (basic w (Accepts who reply))
+accepted-alone : (w : World) (who : ℕ) (reply : Acceptance) → every (λ y. not (waits_as who y) || y.received) w.waits ≡ true → HasOpenQueues w → HasOpenQueues (basic w (Accepts who reply))
 accepted-alone w who reply alone q =
     let both = every-both is_taken (λ y. not (waits_as who y) || y.received) (λ y. is_taken y && (not (waits_as who y) || y.received)) (λ y one two. and_from _ _ one two) w.waits q.accepts alone in
     record {
@@ -197,14 +198,14 @@ accepted-alone w who reply alone q =
           (λ y is own. or_right (not (is_accepted (accepted reply y))) y.received (or-last (waits_as who y) y.received own (second-true (is_taken y) _ is))) (λ y is off. first-true (is_taken y) _ is) w.waits both;
     }
 
-accepted-open : (w : World) (by : ThreadRow) (context : ℕ) (m : Message) (x : WaitRow) → first (names_connect w by m) w.waits ≡ Some x → IsSoundWorld w → KeepOpen w (accept_act w by context m x)
-accepted-open w by context m x at s q =
+accepted-open : (w : World) (by : ThreadRow) (context : ℕ) (m : Message) (x : WaitRow) (a : Acceptance) → first (names_connect w by m) w.waits ≡ Some x → IsSoundWorld w → KeepOpen w (accept_act w by context x a)
+accepted-open w by context m x a at s q =
     let server = next_birth by in
     let bs = DrawsOrdinal by.number ∷ Makes (server_port server x.queue) ∷ [] in
     let made = world_after w bs in
     let held = basic made (AddsHandle by.process (handle_row (free_handle w by.process) (port_name server) PORT_ACCESS)) in
     let t = handled made by.process (port_name server) PORT_ACCESS (s.tables by.process) (open-all w bs refl q) in
-    open-all (basic held (Accepts x.thread m.body)) (Joins x.port server context ∷ []) refl (accepted-alone held x.thread m.body (received-alone w by m x at s) t)
+    open-all (basic held (Accepts x.thread a)) (Joins x.port server context ∷ []) refl (accepted-alone held x.thread a (received-alone w by m x at s) t)
 
 completed-open : (w : World) (c : Completable) → IsSoundWorld w → KeepOpen w (complete_act w c)
 completed-open w c s q =
@@ -212,14 +213,14 @@ completed-open w c s q =
     let value = free_handle w pid in
     let bs = Completes c.server ∷ Completes c.client ∷ [] in
     let held = basic (world_after w bs) (AddsHandle pid (handle_row value (port_name c.client) PORT_ACCESS)) in
-    open-all held (woken SUCCESS (h value ∷ max MESSAGE_LIMIT ∷ info (answer_of c.wait) ∷ []) c.wait ∷ []) refl
+    open-all held (woken SUCCESS (completion_fields value (acceptance_of c.wait)) c.wait ∷ []) refl
     (handled (world_after w bs) pid (port_name c.client) PORT_ACCESS (s.tables pid) (open-all w bs refl q))
 
 -- what waits to be received does so on the queue of an open port, in a sound world where accepted connects were received
 waits-open : (w : World) (x : WaitRow) → is_sound_wait w x ≡ true → is_taken x ≡ true → waits_open w x ≡ true
 waits-open w =
     by_kind (λ x. is_sound_wait w x ≡ true → is_taken x ≡ true → waits_open w x ≡ true)
-    (λ x m is was. grind arith) (λ x is was. grind arith) (λ x is was. grind arith) (λ x m is was. grind arith) (λ x m reply is was. grind arith)
+    (λ x m is was. grind arith) (λ x is was. grind arith) (λ x is was. grind arith) (λ x m offer is was. grind arith) (λ x m reply is was. grind arith)
 
 from-sound : (w : World) → IsSoundWorld w → every (enters_open w) w.messages ≡ true → every is_taken w.waits ≡ true → HasOpenQueues w
 from-sound w s messages accepts = record {
@@ -254,6 +255,7 @@ away-open w (Wakes who call status fields) is = refl
 away-open w (Withdraws who) is = refl
 away-open w (Empties q) is = refl
 away-open w (Unbinds b) is = refl
+away-open w (DropsOwned b) is = refl
 away-open w x is = absurd (cc)
 
 open-law : (by : ThreadRow) → Law by (Shut IsLinked) IsLinked KeepOpen
@@ -271,26 +273,30 @@ open-law by = record {
   asks = λ w x m off wait post. open-all w (Awaits x ∷ enter m (basic w (Awaits x))) (and_from (is_open w x.queue && not (is_accepted x)) _ (and_from (is_open w x.queue) _ wait.opens wait.begins) (open-enter w m (basic w (Awaits x)) post.opens));
   creates = λ w is. created-open w by (unnamed_steps (next_birth by)) is.sound refl refl;
   founds = λ w name path free is. created-open w by (named_steps (next_birth by) path) is.sound refl refl;
-  connects = λ w connection bytes opens is. connected-open w by connection bytes opens;
+  connects = λ w connection offer bytes opens offers is. connected-open w by connection offer bytes opens;
   gives = λ w pid o access is. handled w pid o access is.one;
-  accepts = λ w context m x at is. accepted-open w by context m x at is.sound;
+  accepts = λ w context m x a at is. accepted-open w by context m x a at is.sound;
   completes = λ w c is. completed-open w c is.sound;
   registers = λ w b stands. open-all w (Registers by.number b ∷ []) refl;
-  spawns = λ w pid tid new unused s. open-all w (DrawsOrdinal by.number ∷ DrawsOrdinal by.number ∷ AddsProcess (new_process pid (Some by.process) (next_birth by)) ∷ AddsThread (new_thread tid pid (second_birth by)) ∷ []) refl;
+  spawns = λ w pid tid token new unused s. open-all w (DrawsOrdinal by.number ∷ DrawsOrdinal by.number ∷ AddsProcess (new_process pid (Some by.process) (next_birth by) token) ∷ AddsThread (new_thread tid pid (second_birth by)) ∷ []) refl;
   starts = λ w tid pid live unused s. open-all w (DrawsOrdinal by.number ∷ AddsThread (new_thread tid pid (next_birth by)) ∷ []) refl;
   closes = λ w pid r at s l. closed-open w pid r at s l;
   dies = λ w code t is. open-all w (die code t w) (die-pass (is_open_step w) (away-open w) (λ n c. refl) (λ b. refl) code t w);
   leaves = λ w n b. open-all w (Unregisters n b ∷ []) refl;
   vacates = λ w pid. open-all w (DropsViewsOf pid ∷ []) refl;
+  disowns = λ w b. open-all w (DropsOwned b ∷ []) refl;
+  secures = λ w b s. open-all w (Secures b s ∷ []) refl;
+  acts = λ w own. open-all w (Acts by.number own ∷ []) refl;
+  holds_token = λ w content. open-all w (DrawsOrdinal by.number ∷ AddsToken (new_token by content) ∷ []) refl;
   builds = λ w size prot is. open-all w (DrawsOrdinal by.number ∷ AddsSection (new_section by size prot) ∷ []) refl;
-  maps = λ w handle offset size prot s rounded base m. open-all w (Maps by.process (mapped_view s offset rounded prot base) ∷ []) refl;
+  maps = λ w pid v m. open-all w (Maps pid v ∷ []) refl;
   unmaps = λ w pid base. open-all w (Unmaps pid base ∷ []) refl;
   writes = λ w b place new. open-all w (Writes b place new ∷ []) refl;
 }
 
 -- Lines
 open-lines : LineLaw (Shut IsLinked) (λ _. KeepOpen)
-open-lines = passing-lines (Shut IsLinked) KeepOpen is_open_step open-all (λ w. record { tells = λ _. refl; processes = λ _. refl; threads = λ _ _ _. refl; binds = λ _ _. refl }) (λ by. outcomes by (Shut IsLinked) IsLinked KeepOpen (open-law by) (λ w c. c))
+open-lines = passing-lines (Shut IsLinked) KeepOpen is_open_step open-all (λ w. record { tells = λ _. refl; processes = λ _. refl; threads = λ _ _ _. refl; binds = λ _ _. refl; names = λ _. refl }) (λ by. outcomes by (Shut IsLinked) IsLinked KeepOpen (open-law by) (λ w c. c))
 
 -- before rows go
 pub queues_line : (w : World) (line : ScriptLine) → IsSoundWorld w → HasShutConnects w → IsLinked w → HasOpenQueues w → HasOpenQueues (world_after w (bare_steps line w))

@@ -12,18 +12,19 @@ use Rattle.lpc_model.proofs.Calls.Lines.{AnyWorld, LineLaw, Shut, line-does, pas
 use Rattle.lpc_model.proofs.Calls.Taking.{is_taking, taken_at_once, taking-entered, taking-receipt}
 use Rattle.lpc_model.proofs.Steps.Closing.{behind, stage_five, stage_four, stage_one, stage_three, stage_two}
 use Rattle.lpc_model.proofs.Steps.Sweep.{sweep_every}
-use Rattle.lpc_model.specs.Basics.{Awaits, Basic, Cuts, Dies, DropsHandle, Empties, Receives, Steps, Takes, TakesConnect, Wakes, Withdraws, basic, end_each, world_after}
+use Rattle.lpc_model.specs.Basics.{Awaits, Basic, Cuts, Dies, DropsHandle, DropsOwned, Empties, Receives, Steps, Takes, TakesConnect, Wakes, Withdraws, basic, end_each, world_after}
 use Rattle.lpc_model.specs.Close.{close_handle, close_port, closed_row, closing_post, cut_pair, drop_name, empty_queue, end_accepted, end_offered, end_receives, end_request, end_requests, is_accepted_across, is_last, is_offered_to, is_queued_request, is_receive_across, is_receiver, is_request_across, is_request_on, post_closed, server_of, wake}
-use Rattle.lpc_model.specs.Connect.{client_port, connect_start, connection_request}
-use Rattle.lpc_model.specs.Death.{cut_accepted, die}
+use Rattle.lpc_model.specs.Connect.{client_port, connection_request}
+use Rattle.lpc_model.specs.Death.{end_client, die}
 use Rattle.lpc_model.specs.Entering.{enter, received_steps, row_of, take_connect_steps, take_steps}
-use Rattle.lpc_model.specs.Found.{is_accepted, port_row, wait_of}
+use Rattle.lpc_model.specs.Found.{is_accepted, is_connect, port_row, wait_of}
 use Rattle.lpc_model.specs.Leaving.{WithdrawsWithWaits, ends_wait, withdrawn, withdraws}
 use Rattle.lpc_model.specs.Lines.{ScriptLine}
 use Rattle.lpc_model.specs.Machine.{bare_steps, steps}
 use Rattle.lpc_model.specs.SoundWaits.{HasShutConnects, IsSoundWorld}
 use Rattle.lpc_model.specs.Sweep.{sweep}
 use Rattle.lpc_model.specs.World.{Birth, Creator, HandleRow, MessageRow, PortRow, ThreadRow, WaitRow, World}
+use Rattle.lpc_model.proofs.Calls.Sharing.{connect_begun}
 
 -- Steps that withdraw nothing
 abbrev is_staying : Basic → Bool
@@ -120,7 +121,7 @@ pair-ends b w =
 -- A thread that ends
 die-ends : (code : Status) (t : ThreadRow) (w : World) → WithdrawsWithWaits (die code t w)
 die-ends code t w =
-    both first (cut_accepted (wait_of w t.number) v) (rw (same-thread t.number) refl) (at (wait_of w t.number))
+    both first (end_client (wait_of w t.number) v) (rw (same-thread t.number) refl) (at (wait_of w t.number))
   where
     first : List Basic
     first = Dies t.number code ∷ Withdraws t.number ∷ []
@@ -132,9 +133,13 @@ die-ends code t w =
     accepted x true = pair-ends x.port v
     accepted x false = refl
 
-    at : (o : Option WaitRow) → WithdrawsWithWaits (cut_accepted o v)
+    own : (x : WaitRow) (c : Bool) → WithdrawsWithWaits (when c (DropsOwned x.port ∷ []))
+    own x true = refl
+    own x false = refl
+
+    at : (o : Option WaitRow) → WithdrawsWithWaits (end_client o v)
     at None = refl
-    at (Some x) = accepted x (is_accepted x)
+    at (Some x) = both (when (is_accepted x) (cut_pair x.port v)) _ (accepted x (is_accepted x)) (own x (is_connect x))
 
 -- A port that is closed
 post-stays : (b : Birth) (w : World) → AreStaying (post_closed b w)
@@ -163,7 +168,8 @@ queue-ends b w =
 close-ends : (b : Birth) (w : World) → WithdrawsWithWaits (close_port b w)
 unfolding close_port
 close-ends b w =
-    let six = post_closed b (stage_five w b) in
+    let seven : List Basic = DropsOwned b ∷ [] in
+    let six = post_closed b (stage_five w b) ++ seven in
     let five = cut_pair b (stage_four w b) ++ six in
     let four = empty_queue b (stage_three w b) ++ five in
     let three = end_requests b (stage_two w b) ++ four in
@@ -172,7 +178,7 @@ close-ends b w =
     (both (end_receives b (stage_one w b)) three (waits-end (λ w. is_receiver b) (wake PORT_DISCONNECTED) (λ x. refl) (stage_one w b))
     (both (end_requests b (stage_two w b)) four (waits-end (λ w. is_request_on b) (end_request PORT_DISCONNECTED) (request-ends PORT_DISCONNECTED) (stage_two w b))
     (both (empty_queue b (stage_three w b)) five (queue-ends b (stage_three w b))
-    (both (cut_pair b (stage_four w b)) six (pair-ends b (stage_four w b)) (staying six (post-stays b (stage_five w b)))))))
+    (both (cut_pair b (stage_four w b)) six (pair-ends b (stage_four w b)) (both (post_closed b (stage_five w b)) seven (staying (post_closed b (stage_five w b)) (post-stays b (stage_five w b))) refl)))))
 
 handle-ends : (w : World) (pid : ℕ) (r : HandleRow) → WithdrawsWithWaits (close_handle pid r w)
 handle-ends w pid r = at (is_last r w)
@@ -200,29 +206,33 @@ ends-law by = record {
   asks = λ w x m off wait post. let v = basic w (Awaits x) in staying (Awaits x ∷ enter m v) (stays-enter m v);
   creates = λ w is. refl;
   founds = λ w name path free is. refl;
-  connects = λ w connection bytes opens is.
-      let row = row_of connection (client_port by connection) (connection_request by bytes) in
-      let v = world_after w (connect_start by connection (connection_request by bytes)) in
-      staying (connect_act w by connection (connection_request by bytes)) (stays-enter row v);
+  connects = λ w connection offer bytes opens offers is.
+      let row = row_of connection (client_port by connection) (connection_request by offer bytes) in
+      let v = world_after w (connect_begun by connection offer (connection_request by offer bytes)) in
+      staying (connect_act w by connection offer (connection_request by offer bytes)) (stays-enter row v);
   gives = λ w pid o access is. refl;
-  accepts = λ w context m x at is. refl;
+  accepts = λ w context m x a at is. refl;
   completes = λ w c is. refl;
   registers = λ w b stands. refl;
-  spawns = λ w pid tid new unused s. refl;
+  spawns = λ w pid tid token new unused s. refl;
   starts = λ w tid pid live unused s. refl;
   closes = λ w pid r at s _. handle-ends w pid r;
   dies = λ w code t is. die-ends code t w;
   leaves = λ w n b. refl;
   vacates = λ w pid. refl;
+  disowns = λ w b. refl;
+  secures = λ w b s. refl;
+  acts = λ w own. refl;
+  holds_token = λ w content. refl;
   builds = λ w size prot is. refl;
-  maps = λ w handle offset size prot s rounded base m. refl;
+  maps = λ w pid v m. refl;
   unmaps = λ w pid base. refl;
   writes = λ w b place new. refl;
 }
 
 -- Lines
 ends-lines : LineLaw (Shut AnyWorld) (λ _. Ends)
-ends-lines = passing-lines (Shut AnyWorld) Ends (λ _. is_staying) (λ w bs all. staying bs all) (λ w. record { tells = λ _. refl; processes = λ _. refl; threads = λ _ _ _. refl; binds = λ _ _. refl }) (λ by. outcomes by (Shut AnyWorld) AnyWorld Ends (ends-law by) (λ w c. c))
+ends-lines = passing-lines (Shut AnyWorld) Ends (λ _. is_staying) (λ w bs all. staying bs all) (λ w. record { tells = λ _. refl; processes = λ _. refl; threads = λ _ _ _. refl; binds = λ _ _. refl; names = λ _. refl }) (λ by. outcomes by (Shut AnyWorld) AnyWorld Ends (ends-law by) (λ w c. c))
 
 -- and rows that go withdraw nothing
 pub line_withdraws : (w : World) (line : ScriptLine) → IsSoundWorld w → HasShutConnects w → WithdrawsWithWaits (steps line w)

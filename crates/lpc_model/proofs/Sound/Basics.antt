@@ -10,9 +10,9 @@ use Rattle.lpc_base.proofs.RowMaps.{every-first}
 use Rattle.lpc_base.proofs.Bools.{same-number}
 use Rattle.lpc_model.specs.declared.entry.CallName.{CallName}
 use Rattle.lpc_model.specs.declared.entry.Field.{Field}
-use Rattle.lpc_model.specs.World.{HandleTable, ObjectName, PortRow, ProcessRow, ThreadRow, UsedThread, WaitRow, World, Birth, Node, Path}
+use Rattle.lpc_model.specs.World.{HandleTable, ObjectName, PortRow, ProcessRow, ThreadRow, UsedThread, WaitRow, World, Birth, Node, Path, Impersonation}
 use Rattle.lpc_model.specs.Found.{free_handle, has_handle_to, is_connect, is_live_thread, is_open, is_port, is_server_port, is_table, is_thread, live_thread, wait_of, waits_as, was_process, was_thread}
-use Rattle.lpc_model.specs.Basics.{AddsHandle, AddsProcess, AddsThread, Awaits, Binds, DrawsIdentifier, DrawsOrdinal, Makes, Registers, Unregisters, Wakes, basic, no_handles, past_identifier, past_ordinal, registering, unregistering, used, with_handle}
+use Rattle.lpc_model.specs.Basics.{AddsHandle, AddsProcess, AddsThread, Awaits, Binds, DrawsIdentifier, DrawsOrdinal, Makes, Registers, Unregisters, Wakes, basic, no_handles, past_identifier, past_ordinal, registering, unregistering, used, with_handle, Acts, acting}
 use Rattle.lpc_model.specs.Tests.{handle_row, next_birth}
 use Rattle.lpc_model.specs.SoundWaits.{IsSoundWorld, has_home, is_awaited, is_connect_on, is_past, lacks_connects, leads_open}
 use Rattle.lpc_model.proofs.Steps.Rows.{count-change, count-less, first-change, first-pushed, has-append, has-none, passes-change, passes-push}
@@ -57,6 +57,24 @@ sound-identifier w who s =
       homes = every-change (has_home w) (is_thread who) past_identifier (λ t is. is) w.threads s.homes;
       ordinals = drawn-past w.threads w.ports who past_identifier (λ tid t. refl) (λ p t is. is) s.ordinals;
       numbers = every-change (λ t. was_thread w t.number) (is_thread who) past_identifier (λ t is. is) w.threads s.numbers;
+      makers = s.makers;
+    }) (tied-of w s) s
+
+-- a thread acts as its client, or as itself
+pub sound-acts : (w : World) (who : ℕ) (own : Option Impersonation) → IsSoundWorld w → IsSoundWorld (basic w (Acts who own))
+sound-acts w who own s =
+    let v = basic w (Acts who own) in
+    sound-kept w v (record {
+      clients = λ c is. rw (passes-change (is_live_thread c.thread) (λ t. t.process == c.process) (is_thread who) (acting own) (λ t. refl) (λ t. refl) w.threads) is;
+      opens = λ b is. is;
+      messages = refl;
+    }) (λ b own. port-kept w v b own (λ b is. is) (λ p at. stands-same v b own p at)) refl (record {
+      tables = s.tables;
+      unused = s.unused;
+      names = s.names;
+      homes = every-change (has_home w) (is_thread who) (acting own) (λ t is. is) w.threads s.homes;
+      ordinals = drawn-past w.threads w.ports who (acting own) (λ tid t. refl) (λ p t is. is) s.ordinals;
+      numbers = every-change (λ t. was_thread w t.number) (is_thread who) (acting own) (λ t is. is) w.threads s.numbers;
       makers = s.makers;
     }) (tied-of w s) s
 

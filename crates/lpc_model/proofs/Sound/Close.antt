@@ -112,7 +112,7 @@ last-sure w b pid value opens =
     let made : same_birth x.port b ≡ false = grind arith in
     let apart : same_birth x.queue b ≡ false = grind arith in
     receive-parts (is_client w (waiter_of x)) (is_open w x.port) (is_open v x.port) (is_open w x.queue) (is_open v x.queue) (not (has_come w (record x { kind = Listen }))) true (opens x.port made) (opens x.queue apart) is)
-    (λ x m is off.
+    (λ x m offer is off.
     let apart : same_birth x.queue b ≡ false = grind arith in
     connect-parts (is_client w (waiter_of x)) (is_open w x.queue) (is_open v x.queue) (x.received || has (is_message_of x) w.messages) (has_client_port w x) (opens x.queue apart) is)
     (λ x m reply is off.
@@ -128,7 +128,7 @@ last-leads w v b opens (path, Stands (Item c)) is off = let apart : same_birth c
 pub but-opens : (w : World) (pid : ℕ) (r : HandleRow) → count (is_table pid) w.handles ≤ 1 → handle_at w pid r.value ≡ Some r → OpensBut w (basic w (DropsHandle pid r.value)) r.object.birth
 but-opens w pid r one at c apart is = open-dropped w pid r.value r c one at (and_right (same_kind r.object.kind kind.Port) (same_birth r.object.birth c) (births-apart c r.object.birth apart)) is
 
--- the handle is found behind the six steps
+-- the handle is found behind the seven steps
 pub shut-found : (w v : World) (pid : ℕ) (r : HandleRow) → v.handles ≡ w.handles → handle_at w pid r.value ≡ Some r → handle_at v pid r.value ≡ Some r
 shut-found w v pid r same at = subst (λ (hs : List HandleTable). first (has_value r.value) (rows_in (first (is_table pid) hs)) ≡ Some r) (sym same) at
 

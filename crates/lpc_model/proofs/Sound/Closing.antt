@@ -8,17 +8,17 @@ use Rattle.lpc_base.proofs.RowMaps.{every-both}
 use Rattle.lpc_names.specs.Binding.{is_name}
 use Rattle.lpc_model.specs.World.{Birth, Creator, PortRow, WaitRow, World}
 use Rattle.lpc_model.specs.Found.{is_accepted, is_made_on, is_offered, is_port, is_receive, is_request, is_the, pair_of, port_row, same_birth, waits_as}
-use Rattle.lpc_model.specs.Basics.{Basic, Cuts, Empties, Enters, Steps, doing, basic, cut, end_each, is_end_of, world_after, ◌▹◌}
+use Rattle.lpc_model.specs.Basics.{Basic, Cuts, DropsOwned, Empties, Enters, Steps, doing, basic, cut, end_each, is_end_of, world_after, ◌▹◌}
 use Rattle.lpc_model.specs.Fields.{info}
 use Rattle.lpc_model.specs.Entering.{enter, given_steps, shown, takes, woken}
-use Rattle.lpc_model.specs.Close.{close_port, closed_row, cut_pair, drop_name, empty_queue, end_accepted, end_offered, end_receives, end_request, end_requests, is_accepted_across, is_across, is_offered_to, is_queued_request, is_receive_across, is_receiver, is_request_across, is_request_on, post_closed, server_of, closing_post, wake}
+use Rattle.lpc_model.specs.Close.{close_port, closed_row, cut_pair, drop_name, drop_owned, empty_queue, end_accepted, end_offered, end_receives, end_request, end_requests, is_accepted_across, is_across, is_offered_to, is_queued_request, is_receive_across, is_receiver, is_request_across, is_request_on, post_closed, server_of, closing_post, wake}
 use Rattle.lpc_model.specs.SoundWaits.{IsSoundWorld}
 use Rattle.lpc_model.proofs.Steps.Rows.{every-left}
 use Rattle.lpc_model.proofs.Sound.Pairs.{tied}
-use Rattle.lpc_model.proofs.Sound.Worlds.{by_kind}
+use Rattle.lpc_model.proofs.Sound.Worlds.{by_kind, sound-memory}
 use Rattle.lpc_model.proofs.Sound.Calls.{entered-sound}
-use Rattle.lpc_model.proofs.Steps.Closing.{fewer-accepts, stage_five, stage_four, stage_one, stage_three, stage_two, then-holds, unasked, uncut, unreceived}
-use Rattle.lpc_model.proofs.Sound.Less.{IsLess, Turns, is_unqueued, ended-each, less-emptied, less-none, sound-unbinds, turns-told, turns-withdrawn}
+use Rattle.lpc_model.proofs.Steps.Closing.{fewer-accepts, stage_five, stage_four, stage_one, stage_six, stage_three, stage_two, then-holds, unasked, uncut, unreceived}
+use Rattle.lpc_model.proofs.Sound.Less.{IsLess, Turns, is_unqueued, ended-each, less-emptied, less-none, sound-unbinds, turns-disowned, turns-told, turns-withdrawn}
 use Rattle.lpc_model.proofs.Sound.Cuts.{cut-row, every-rest, is_free_of, no-row, parted, parted-world, sound-parted}
 
 -- A port that is being closed
@@ -58,16 +58,16 @@ stage-each w v b known test ending off turns t =
 
 -- the tests pass no accepted connect
 receiver-quiet : (b : Birth) (x : WaitRow) → is_receiver b x ≡ true → is_accepted x ≡ false
-receiver-quiet b = by_kind (λ x. is_receiver b x ≡ true → is_accepted x ≡ false) (λ x m is. refl) (λ x is. refl) (λ x is. refl) (λ x m is. refl) (λ x m r is. absurd (cc))
+receiver-quiet b = by_kind (λ x. is_receiver b x ≡ true → is_accepted x ≡ false) (λ x m is. refl) (λ x is. refl) (λ x is. refl) (λ x m offer is. refl) (λ x m r is. absurd (cc))
 
 pub request-quiet : (x : WaitRow) (c : Bool) → (is_request x && c) ≡ true → is_accepted x ≡ false
-request-quiet x c = by_kind (λ x. (is_request x && c) ≡ true → is_accepted x ≡ false) (λ x m is. refl) (λ x is. refl) (λ x is. refl) (λ x m is. refl) (λ x m r is. absurd (cc)) x
+request-quiet x c = by_kind (λ x. (is_request x && c) ≡ true → is_accepted x ≡ false) (λ x m is. refl) (λ x is. refl) (λ x is. refl) (λ x m offer is. refl) (λ x m r is. absurd (cc)) x
 
 pub receive-quiet : (x : WaitRow) (c : Bool) → (is_receive x && c) ≡ true → is_accepted x ≡ false
-receive-quiet x c = by_kind (λ x. (is_receive x && c) ≡ true → is_accepted x ≡ false) (λ x m is. refl) (λ x is. refl) (λ x is. refl) (λ x m is. refl) (λ x m r is. absurd (cc)) x
+receive-quiet x c = by_kind (λ x. (is_receive x && c) ≡ true → is_accepted x ≡ false) (λ x m is. refl) (λ x is. refl) (λ x is. refl) (λ x m offer is. refl) (λ x m r is. absurd (cc)) x
 
 offered-quiet : (x : WaitRow) (c : Bool) → (is_offered x && c) ≡ true → is_accepted x ≡ false
-offered-quiet x c = by_kind (λ x. (is_offered x && c) ≡ true → is_accepted x ≡ false) (λ x m is. refl) (λ x is. refl) (λ x is. refl) (λ x m is. refl) (λ x m r is. absurd (cc)) x
+offered-quiet x c = by_kind (λ x. (is_offered x && c) ≡ true → is_accepted x ≡ false) (λ x m is. refl) (λ x is. refl) (λ x is. refl) (λ x m offer is. refl) (λ x m r is. absurd (cc)) x
 
 -- 6: what is posted
 abbrev behind_given : World → PortRow → Birth → Creator → Option WaitRow → World
@@ -81,7 +81,7 @@ given-less w p queue by (Some x) t =
     (λ x r t. record { sound = t; waits = λ f all. every-without f (waits_as x.thread) w.waits all; ports = refl; handles = refl; bindings = refl })
     (λ x t. record { sound = t; waits = λ f all. every-without f (waits_as x.thread) w.waits all; ports = refl; handles = refl; bindings = refl })
     (λ x t. record { sound = t; waits = λ f all. every-without f (waits_as x.thread) w.waits all; ports = refl; handles = refl; bindings = refl })
-    (λ x r t. record { sound = t; waits = λ f all. every-without f (waits_as x.thread) w.waits all; ports = refl; handles = refl; bindings = refl })
+    (λ x r offer t. record { sound = t; waits = λ f all. every-without f (waits_as x.thread) w.waits all; ports = refl; handles = refl; bindings = refl })
     (λ x r reply t. record { sound = t; waits = λ f all. every-without f (waits_as x.thread) w.waits all; ports = refl; handles = refl; bindings = refl }) x t
 
 pub posted-less : (w : World) (b : Birth) → IsSoundWorld w → IsLess w (world_after w (post_closed b w))
@@ -151,7 +151,7 @@ unqueued-stage w v b t =
     let v1 = world_after v (requests v) in
     let t1 = stage-each w v b (λ x. (true && not (is_receiver b x)) && not (is_request_on b x)) (is_queued_request b) (end_request LPC_REPLY_LOST) (λ x is. request-quiet x _ is) (turns-withdrawn LPC_REPLY_LOST []) t in
     let v2 = world_after v1 (offers v1) in
-    let t2 = stage-each w v1 b _ (is_offered_to b) end_offered (λ x is. offered-quiet x _ is) (turns-withdrawn PORT_CONNECTION_REFUSED (info [] ∷ [])) t1 in
+    let t2 = stage-each w v1 b _ (is_offered_to b) end_offered (λ x is. offered-quiet x _ is) (turns-disowned PORT_CONNECTION_REFUSED (info [] ∷ [])) t1 in
     then-holds P requests (offers ▹ last) v (then-holds P offers last v1
     (stage-less w v2 (basic v2 (Empties b)) b (known_queue b) (less-emptied v2 b (every-more (known_queue b) (is_unqueued b) (λ x is. unqueued _ _ _ _ is) v2.waits t2.all) t2.sound) t2))
 
@@ -242,13 +242,18 @@ uncut-free w b s =
     parts : (r q m u o a c : Bool) → ((((((true && not r) && not (q && m)) && not u) && not o) && not (q && a)) && not c) ≡ true → not (q && (m || a)) ≡ true
     parts r q m u o a c is = grind arith
 
--- the six steps
+-- step 7
+shut-disowned : (w v : World) (b : Birth) → IsShut w v b → IsShut w (basic v (DropsOwned b)) b
+shut-disowned w v b t = record { sound = sound-memory v _ _ _ t.sound; waits = t.waits; names = t.names; handles = t.handles; ports = t.ports }
+
+-- the seven steps
 pub close-shut : (w : World) (b : Birth) → IsSoundWorld w → IsShut w (world_after w (close_port b w)) b
 unfolding close_port
 close-shut w b s =
     let P : World → Type 0 = λ u. IsShut w u b in
-    then-holds P (drop_name b) (end_receives b ▹ (end_requests b ▹ (empty_queue b ▹ (cut_pair b ▹ post_closed b)))) w
-    (then-holds P (end_receives b) (end_requests b ▹ (empty_queue b ▹ (cut_pair b ▹ post_closed b))) (stage_one w b)
-    (then-holds P (end_requests b) (empty_queue b ▹ (cut_pair b ▹ post_closed b)) (stage_two w b)
-    (then-holds P (empty_queue b) (cut_pair b ▹ post_closed b) (stage_three w b)
-    (then-holds P (cut_pair b) (post_closed b) (stage_four w b) (shut-posted w (stage_five w b) b (five-shut w b s))))))
+    then-holds P (drop_name b) (end_receives b ▹ (end_requests b ▹ (empty_queue b ▹ (cut_pair b ▹ (post_closed b ▹ drop_owned b))))) w
+    (then-holds P (end_receives b) (end_requests b ▹ (empty_queue b ▹ (cut_pair b ▹ (post_closed b ▹ drop_owned b)))) (stage_one w b)
+    (then-holds P (end_requests b) (empty_queue b ▹ (cut_pair b ▹ (post_closed b ▹ drop_owned b))) (stage_two w b)
+    (then-holds P (empty_queue b) (cut_pair b ▹ (post_closed b ▹ drop_owned b)) (stage_three w b)
+    (then-holds P (cut_pair b) (post_closed b ▹ drop_owned b) (stage_four w b)
+    (then-holds P (post_closed b) (drop_owned b) (stage_five w b) (shut-disowned w (stage_six w b) b (shut-posted w (stage_five w b) b (five-shut w b s))))))))

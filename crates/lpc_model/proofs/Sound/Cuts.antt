@@ -1,5 +1,5 @@
 -- A connection that is cut, once what needs it has ended, keeps a world's waits sound.
-use Rattle.std.proofs.Common.{◌≡◌, List, [], ◌∷◌, ◌++◌, Bool, true, false, cond, not, Option, Some, None, refl, sym, subst, arith}
+use Rattle.std.proofs.Common.{◌≡◌, List, [], ◌∷◌, ◌++◌, Bool, map, true, false, cond, not, Option, Some, None, refl, sym, subst, arith}
 use Rattle.std.specs.Prelude.{◌&&◌, ◌||◌, ◌==◌}
 use Rattle.std.proofs.lemmas.Bool.{and_from}
 use Rattle.lpc_base.specs.Rows.{change, each, every, has, passes, which, without}
@@ -7,9 +7,9 @@ use Rattle.lpc_base.proofs.RowWords.{every-change, every-more, every-without, fi
 use Rattle.lpc_base.proofs.RowMaps.{every-both, every-change_to}
 use Rattle.lpc_base.proofs.Births.{birth-same, birth-self, births-apart}
 use Rattle.lpc_base.proofs.Bools.{first-off, first-true, second-off, second-true}
-use Rattle.lpc_model.specs.World.{Birth, PortRow, Receive, WaitRow, World}
+use Rattle.lpc_model.specs.World.{Birth, PortRow, Receive, ViewTable, WaitRow, World}
 use Rattle.lpc_model.specs.Found.{is_accepted, is_client_port, is_open, is_port, is_server_port, is_the, pair_of, port_row, same_birth, waits_as}
-use Rattle.lpc_model.specs.Basics.{Cuts, basic, cut, is_end_of, world_after}
+use Rattle.lpc_model.specs.Basics.{Cuts, basic, cut, is_end_of, without_owned, world_after}
 use Rattle.lpc_model.specs.Tests.{is_client}
 use Rattle.lpc_model.specs.Close.{end_accepted, is_accepted_across, is_receive_across, is_receiver, is_request_across, is_request_on}
 use Rattle.lpc_model.specs.Connect.{is_accepted_on}
@@ -18,7 +18,7 @@ use Rattle.lpc_model.proofs.Steps.Rows.{count-less, every-left, first-change, fi
 use Rattle.lpc_model.proofs.Calls.Usable.{by_port_kind}
 use Rattle.lpc_model.proofs.Sound.Pairs.{IsTied, awaited-kept, cut-awaited, lacks-parts, on-kept, tied, tied-of}
 use Rattle.lpc_model.proofs.Sound.Ties.{same-port}
-use Rattle.lpc_model.proofs.Sound.Worlds.{WaitOnce, by_kind, is_sure, sound-from, sure-waits}
+use Rattle.lpc_model.proofs.Sound.Worlds.{WaitOnce, by_kind, is_sure, sound-from, sound-memory, sure-waits}
 use Rattle.lpc_model.proofs.Sound.Ports.{order-mapped}
 use Rattle.lpc_model.proofs.Sound.Less.{failing-apart, passing-shares, shares}
 use Rattle.lpc_model.proofs.Steps.InTurn.{after-append}
@@ -28,9 +28,14 @@ abbrev pub rest : List WaitRow → List WaitRow → List WaitRow
 rest [] ws = ws
 rest (x ∷ xs) ws = rest xs (without (waits_as x.thread) ws)
 
-pub ended-world : (xs : List WaitRow) (w : World) → world_after w (each end_accepted xs) ≡ record w { waits = rest xs w.waits }
+-- tables of views without those of the client ports of some waits
+abbrev pub disowned : List WaitRow → List ViewTable → List ViewTable
+disowned [] ts = ts
+disowned (x ∷ xs) ts = disowned xs (map (without_owned x.port) ts)
+
+pub ended-world : (xs : List WaitRow) (w : World) → world_after w (each end_accepted xs) ≡ record w { waits = rest xs w.waits; views = disowned xs w.views }
 ended-world [] w = refl
-ended-world (x ∷ xs) w = ended-world xs (record w { waits = without (waits_as x.thread) w.waits })
+ended-world (x ∷ xs) w = ended-world xs (record w { waits = without (waits_as x.thread) w.waits; views = map (without_owned x.port) w.views })
 
 pub every-rest : (f : WaitRow → Bool) (xs ws : List WaitRow) → every f ws ≡ true → every f (rest xs ws) ≡ true
 every-rest f [] ws all = all
@@ -139,7 +144,7 @@ cut-sure w b =
     let across : (is_the b (pair_of w x.port) && passes (port_row w x.port) is_client_port) ≡ false = grind arith in
     receive-parts (is_client w (waiter_of x)) (is_open w x.port) (is_open w x.queue) (has_come w (record x { kind = Receive })) (passes (port_row w x.port) is_joined) (passes (port_row v x.port) is_joined) true (receive-joined w b x.port made across) is)
     (λ x is free. is)
-    (λ x m is free. stands-parts (is_client w (waiter_of x)) (is_sound_connect w x) (has (is_port x.port) w.ports) (has (is_port x.port) v.ports) (x.port.maker == x.thread) (stands x) is)
+    (λ x m offer is free. stands-parts (is_client w (waiter_of x)) (is_sound_connect w x) (has (is_port x.port) w.ports) (has (is_port x.port) v.ports) (x.port.maker == x.thread) (stands x) is)
     (λ x m reply is free.
     let made : same_birth x.port b ≡ false = grind arith in
     let across : is_the b (pair_of w x.port) ≡ false = grind arith in
@@ -200,7 +205,9 @@ tied-cut w b once t =
 -- The cut
 -- accepted connects end, and the port and its other end are parted
 abbrev pub parted : World → Birth → World
-parted w b = record w { waits = rest (which (is_accepted_across b w) w.waits) w.waits; ports = change (is_end_of b) cut w.ports }
+parted w b =
+    let xs = which (is_accepted_across b w) w.waits in
+    record w { waits = rest xs w.waits; ports = change (is_end_of b) cut w.ports; views = disowned xs w.views }
 
 pub parted-world : (w : World) (b : Birth) → world_after w (each end_accepted (which (is_accepted_across b w) w.waits) ++ Cuts b ∷ []) ≡ parted w b
 parted-world w b =
@@ -219,7 +226,7 @@ none-accepted w b =
 pub sound-parted : (w : World) (b : Birth) → every (is_free_of w b) w.waits ≡ true → IsSoundWorld w → IsSoundWorld (parted w b)
 sound-parted w b free s =
     let xs = which (is_accepted_across b w) w.waits in
-    let v = parted w b in
-    sound-from v (every-both (λ y. is_sure w y && is_free_of w b y) (λ y. not (is_accepted_across b w y)) (is_sure (basic w (Cuts b))) (λ y one two. cut-sure w b y (first-true _ _ one) (and_from _ _ (second-true _ _ one) two)) (rest xs w.waits)
+    let u : World = record w { waits = rest xs w.waits; ports = change (is_end_of b) cut w.ports } in
+    sound-memory u _ _ (disowned xs w.views) (sound-from u (every-both (λ y. is_sure w y && is_free_of w b y) (λ y. not (is_accepted_across b w y)) (is_sure (basic w (Cuts b))) (λ y one two. cut-sure w b y (first-true _ _ one) (and_from _ _ (second-true _ _ one) two)) (rest xs w.waits)
     (every-rest _ xs w.waits (every-both (is_sure w) (is_free_of w b) (λ y. is_sure w y && is_free_of w b y) (λ y one two. and_from _ _ one two) w.waits (sure-waits w s) free)) (none-accepted w b))
-    (once-rest xs w.waits s.once) (order-mapped w (λ p. cond (is_end_of b p) (cut p) p) (λ p. cut-birth (is_end_of b p) p) s) (tied-cut w b s.once (tied-of w s))
+    (once-rest xs w.waits s.once) (order-mapped w (λ p. cond (is_end_of b p) (cut p) p) (λ p. cut-birth (is_end_of b p) p) s) (tied-cut w b s.once (tied-of w s)))

@@ -12,19 +12,19 @@ use Rattle.lpc_base.proofs.Bools.{apart-second}
 use Rattle.lpc_model.specs.declared.entry.CallName.TheVariants.{NtClose}
 use Rattle.lpc_model.specs.World.{Birth, Listen, Message, Receive, Request, ThreadRow, WaitRow, World}
 use Rattle.lpc_model.specs.Found.{is_accepted, is_connect, is_live_thread, is_made_on, is_open, is_the, is_thread, live_thread, pair_of, same_birth, wait_of, waits_as, was_thread}
-use Rattle.lpc_model.specs.Basics.{Cuts, Dies, Withdraws, doing, ended, world_after}
+use Rattle.lpc_model.specs.Basics.{Cuts, Dies, DropsOwned, Withdraws, basic, doing, ended, provided, world_after}
 use Rattle.lpc_model.specs.Tests.{is_client}
 use Rattle.lpc_model.specs.Close.{cut_pair, end_accepted, end_request, is_accepted_across, is_receive_across, is_receiver, is_request_across, is_request_on, wake}
-use Rattle.lpc_model.specs.Death.{cut_accepted, die}
+use Rattle.lpc_model.specs.Death.{end_client, die}
 use Rattle.lpc_model.specs.SoundWaits.{HasShutConnects, IsSoundWorld, has_home, is_past, is_sound_as, is_sound_wait, can_stay_sound, waiter_of}
 use Rattle.lpc_model.proofs.Steps.Rows.{every-left, lone}
 use Rattle.lpc_model.proofs.Steps.Closing.{behind, then-holds}
 use Rattle.lpc_model.proofs.Sound.Pairs.{is_quiet, tied, tied-of}
-use Rattle.lpc_model.proofs.Sound.Worlds.{WaitOnce, by_kind, is_sure, sound-from, sure-waits}
+use Rattle.lpc_model.proofs.Sound.Worlds.{WaitOnce, by_kind, is_sure, sound-from, sound-memory, sure-waits}
 use Rattle.lpc_model.proofs.Sound.Basics.{sound-wakes-quiet}
 use Rattle.lpc_model.proofs.Sound.Less.{IsLess, ended-each, less-withdrawn, turns-told, turns-withdrawn}
 use Rattle.lpc_model.proofs.Sound.Cuts.{every-rest, is_free_of, none-accepted, parted, parted-world, sound-parted}
-use Rattle.lpc_model.proofs.Steps.Dying.{asked_across, cut-parts, gone, gone-cut, received_across}
+use Rattle.lpc_model.proofs.Steps.Dying.{asked_across, cut-parts, gone, gone-cut, others_left, received_across, showing}
 use Rattle.lpc_model.proofs.Sound.Closing.{receive-quiet, request-quiet}
 use Rattle.lpc_model.proofs.Steps.InTurn.{after-append}
 use Rattle.std.proofs.lemmas.Bool.{and_from, eqb-true, false_from_ne_true, not-true}
@@ -88,7 +88,7 @@ shut-off w b shut =
     (λ z m is. asked z m (apart z.port (opens-one _ _ _ is)))
     (λ z is. receiving z (apart z.port (opens-one _ _ _ is)) (apart z.queue (opens-two _ _ _ _ is)))
     (λ z is. listening z (apart z.port (opens-one _ _ _ is)) (apart z.queue (opens-two _ _ _ _ is)))
-    (λ z m is. refl)
+    (λ z m offer is. refl)
     (λ z m r is. refl)
   where
     opens-one : (c o s : Bool) → (c && (o && s)) ≡ true → o ≡ true
@@ -177,7 +177,7 @@ none-waits w n none = every-more (λ z. not (waits_as n z)) (is_quiet n) (λ z i
 -- a thread that waits in an accepted connect goes before its client port is cut as it does behind
 pub record IsParting (w : World) (n : ℕ) (b : Birth) : Type 0 where
   pub off : every (is_off b) w.waits ≡ true
-  pub same : behind (cut_pair b) (gone n w) ≡ gone n (behind (cut_pair b) w)
+  pub same : behind (cut_pair b) (gone n w) ≡ showing (others_left n b (received_across b w)) (gone n (behind (cut_pair b) w))
 
 pub parting : (w : World) (n : ℕ) (x : WaitRow) → wait_of w n ≡ Some x → is_accepted x ≡ true → HasShutConnects w → IsSoundWorld w → IsParting w n x.port
 parting w n x found is shut s =
@@ -195,10 +195,10 @@ parting w n x found is shut s =
     connects x is = grind arith
 
     no-request : (w : World) (b : Birth) (n : ℕ) (z : WaitRow) → (not (waits_as n z) || is_accepted z) ≡ true → (not (waits_as n z) || not (is_request_across b w z)) ≡ true
-    no-request w b n = by_kind (λ z. (not (waits_as n z) || is_accepted z) ≡ true → (not (waits_as n z) || not (is_request_across b w z)) ≡ true) (λ z m is. grind arith) (λ z is. grind arith) (λ z is. grind arith) (λ z m is. grind arith) (λ z m r is. grind arith)
+    no-request w b n = by_kind (λ z. (not (waits_as n z) || is_accepted z) ≡ true → (not (waits_as n z) || not (is_request_across b w z)) ≡ true) (λ z m is. grind arith) (λ z is. grind arith) (λ z is. grind arith) (λ z m offer is. grind arith) (λ z m r is. grind arith)
 
     no-receive : (w : World) (b : Birth) (n : ℕ) (z : WaitRow) → (not (waits_as n z) || is_accepted z) ≡ true → (not (waits_as n z) || not (is_receive_across b w z)) ≡ true
-    no-receive w b n = by_kind (λ z. (not (waits_as n z) || is_accepted z) ≡ true → (not (waits_as n z) || not (is_receive_across b w z)) ≡ true) (λ z m is. grind arith) (λ z is. grind arith) (λ z is. grind arith) (λ z m is. grind arith) (λ z m r is. grind arith)
+    no-receive w b n = by_kind (λ z. (not (waits_as n z) || is_accepted z) ≡ true → (not (waits_as n z) || not (is_receive_across b w z)) ≡ true) (λ z m is. grind arith) (λ z is. grind arith) (λ z is. grind arith) (λ z m offer is. grind arith) (λ z m r is. grind arith)
 
 accepted-sound : (w : World) (n : ℕ) (x : WaitRow) → wait_of w n ≡ Some x → is_accepted x ≡ true → HasShutConnects w → IsSoundWorld w → IsSoundWorld (behind (cut_pair x.port) (gone n w))
 accepted-sound w n x found is shut s =
@@ -206,25 +206,31 @@ accepted-sound w n x found is shut s =
     let p = parting w n x found is shut s in
     let c = cut-off w b p.off s in
     let here = its-waits w n x (λ z. is_made_on b z) s.once found (birth-self b) in
-    subst IsSoundWorld (sym p.same) (gone-sound n (behind (cut_pair b) w) (every-both (λ z. not (waits_as n z) || is_made_on b z) (λ z. not (is_accepted z && is_made_on b z)) (is_quiet n) (λ z one two. quiet _ _ _ one two) (behind (cut_pair b) w).waits (c.waits (λ z. not (waits_as n z) || is_made_on b z) here) c.none) c.sound)
+    subst IsSoundWorld (sym p.same) (sound-memory (gone n (behind (cut_pair b) w)) _ _ _ (gone-sound n (behind (cut_pair b) w) (every-both (λ z. not (waits_as n z) || is_made_on b z) (λ z. not (is_accepted z && is_made_on b z)) (is_quiet n) (λ z one two. quiet _ _ _ one two) (behind (cut_pair b) w).waits (c.waits (λ z. not (waits_as n z) || is_made_on b z) here) c.none) c.sound))
   where
     quiet : (n m a : Bool) → (not n || m) ≡ true → not (a && m) ≡ true → (not n || not a) ≡ true
     quiet n m a one two = grind arith
 
 -- what holds where the thread alone goes, and where its client port is cut then
-pub die-holds : (P : World → Type 0) (code : Status) (w : World) (t : ThreadRow) → P (gone t.number w) → ((x : WaitRow) → wait_of w t.number ≡ Some x → is_accepted x ≡ true → P (behind (cut_pair x.port) (gone t.number w))) → P (behind (die code t) w)
-die-holds P code w t alone accepted = then-holds P (doing (Dies t.number code ∷ Withdraws t.number ∷ [])) (cut_accepted (wait_of w t.number)) w (at (wait_of w t.number) refl)
+pub die-holds : (P : World → Type 0) (code : Status) (w : World) (t : ThreadRow) → P (gone t.number w) → ((x : WaitRow) → wait_of w t.number ≡ Some x → is_accepted x ≡ true → P (behind (cut_pair x.port) (gone t.number w))) → ((v : World) (b : Birth) → P v → P (basic v (DropsOwned b))) → P (behind (die code t) w)
+die-holds P code w t alone accepted owned = then-holds P (doing (Dies t.number code ∷ Withdraws t.number ∷ [])) (end_client (wait_of w t.number)) w (at (wait_of w t.number) refl)
   where
     by_accept : (x : WaitRow) → wait_of w t.number ≡ Some x → (a : Bool) → is_accepted x ≡ a → P (world_after (gone t.number w) (when a (cut_pair x.port (gone t.number w))))
     by_accept x found true is = accepted x found is
     by_accept x found false off = alone
 
-    at : (o : Option WaitRow) → wait_of w t.number ≡ o → P (behind (cut_accepted o) (gone t.number w))
+    by_connect : (x : WaitRow) (v : World) (c : Bool) → P v → P (world_after v (when c (DropsOwned x.port ∷ [])))
+    by_connect x v true is = owned v x.port is
+    by_connect x v false is = is
+
+    at : (o : Option WaitRow) → wait_of w t.number ≡ o → P (behind (end_client o) (gone t.number w))
     at None none = alone
-    at (Some x) found = by_accept x found (is_accepted x) refl
+    at (Some x) found =
+        let cut = provided (λ w. is_accepted x) (cut_pair x.port) in
+        then-holds P cut (provided (λ w. is_connect x) (doing (DropsOwned x.port ∷ []))) (gone t.number w) (by_connect x (behind cut (gone t.number w)) (is_connect x) (by_accept x found (is_accepted x) refl))
 
 pub die-sound : (code : Status) (w : World) (t : ThreadRow) → HasShutConnects w → IsSoundWorld w → IsSoundWorld (behind (die code t) w)
-die-sound code w t shut s = then-holds IsSoundWorld (doing (Dies t.number code ∷ Withdraws t.number ∷ [])) (cut_accepted (wait_of w t.number)) w (at (wait_of w t.number) refl)
+die-sound code w t shut s = then-holds IsSoundWorld (doing (Dies t.number code ∷ Withdraws t.number ∷ [])) (end_client (wait_of w t.number)) w (at (wait_of w t.number) refl)
   where
     n : ℕ
     n = t.number
@@ -233,6 +239,12 @@ die-sound code w t shut s = then-holds IsSoundWorld (doing (Dies t.number code �
     by_accept x found true is = accepted-sound w n x found is shut s
     by_accept x found false off = gone-sound n w (its-waits w n x (λ z. not (is_accepted z)) s.once found (rw off refl)) s
 
-    at : (o : Option WaitRow) → wait_of w n ≡ o → IsSoundWorld (behind (cut_accepted o) (gone n w))
+    by_connect : (x : WaitRow) (v : World) (c : Bool) → IsSoundWorld v → IsSoundWorld (world_after v (when c (DropsOwned x.port ∷ [])))
+    by_connect x v true is = sound-memory v _ _ _ is
+    by_connect x v false is = is
+
+    at : (o : Option WaitRow) → wait_of w n ≡ o → IsSoundWorld (behind (end_client o) (gone n w))
     at None none = gone-sound n w (none-waits w n none) s
-    at (Some x) found = by_accept x found (is_accepted x) refl
+    at (Some x) found =
+        let cut = provided (λ w. is_accepted x) (cut_pair x.port) in
+        then-holds IsSoundWorld cut (provided (λ w. is_connect x) (doing (DropsOwned x.port ∷ []))) (gone n w) (by_connect x (behind cut (gone n w)) (is_connect x) (by_accept x found (is_accepted x) refl))

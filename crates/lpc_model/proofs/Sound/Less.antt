@@ -11,13 +11,13 @@ use Rattle.lpc_names.specs.Binding.{is_name}
 use Rattle.lpc_model.specs.declared.entry.Field.{Field}
 use Rattle.lpc_model.specs.World.{Birth, Listen, MessageRow, Receive, WaitRow, World}
 use Rattle.lpc_model.specs.Found.{is_accepted, is_offered, is_own_of, is_queued, is_request, same_birth, waits_as}
-use Rattle.lpc_model.specs.Basics.{Basic, Empties, Unbinds, Withdraws, basic, world_after}
+use Rattle.lpc_model.specs.Basics.{Basic, DropsOwned, Empties, Unbinds, Withdraws, basic, world_after}
 use Rattle.lpc_model.specs.Entering.{woken}
 use Rattle.lpc_model.specs.Close.{is_offered_to, is_queued_request}
 use Rattle.lpc_model.specs.SoundWaits.{IsSoundWorld, is_message_of, leads_open}
 use Rattle.lpc_model.proofs.Steps.Rows.{every-left, has-without}
 use Rattle.lpc_model.proofs.Sound.Pairs.{is_quiet, tied-of}
-use Rattle.lpc_model.proofs.Sound.Worlds.{WaitOnce, by_kind, is_sure, order-of, sound-from, sure-waits}
+use Rattle.lpc_model.proofs.Sound.Worlds.{WaitOnce, by_kind, is_sure, order-of, sound-from, sound-memory, sure-waits}
 use Rattle.lpc_model.proofs.Sound.Basics.{sound-wakes-quiet}
 use Rattle.lpc_model.proofs.Sound.Queues.{listen-sure, receive-sure, with_messages}
 use Rattle.lpc_model.proofs.Steps.InTurn.{after-append}
@@ -85,7 +85,7 @@ less-sure w gone =
     (λ x r spares is. request-parts _ _ x.received _ (has (is_message_of x) w.messages) (has (is_message_of x) rest) _ _ (λ off. still-there gone x w.messages (spares refl off)) is)
     (λ x spares is. receive-sure w rest (record x { kind = Receive }) (has_none-without _ gone w.messages) is)
     (λ x spares is. listen-sure w rest (record x { kind = Listen }) (has_none-without _ gone w.messages) is)
-    (λ x r spares is. connect-parts _ _ x.received (has (is_message_of x) w.messages) (has (is_message_of x) rest) _ (λ off. still-there gone x w.messages (spares refl off)) is)
+    (λ x r offer spares is. connect-parts _ _ x.received (has (is_message_of x) w.messages) (has (is_message_of x) rest) _ (λ off. still-there gone x w.messages (spares refl off)) is)
     (λ x r reply spares is. is)
 
 -- where what is known of each wait spares it
@@ -209,6 +209,16 @@ turns-withdrawn status fields w x quiet s =
     let turn = turns-told status fields w x quiet s in
     let less = less-withdrawn v x.thread turn.ends turn.less.sound in
     record { less = less-then w v (basic v (Withdraws x.thread)) turn.less less; ends = turn.ends }
+
+-- views are no matter
+less-disowned : (w : World) (b : Birth) → IsSoundWorld w → IsLess w (basic w (DropsOwned b))
+less-disowned w b s = record { sound = sound-memory w _ _ _ s; waits = λ f all. all; ports = refl; handles = refl; bindings = refl }
+
+pub turns-disowned : (status : Status) (fields : List Field) → Turns (λ x. woken status fields x ∷ Withdraws x.thread ∷ DropsOwned x.port ∷ [])
+turns-disowned status fields w x quiet s =
+    let v = world_after w (woken status fields x ∷ Withdraws x.thread ∷ []) in
+    let turn = turns-withdrawn status fields w x quiet s in
+    record { less = less-then w v (basic v (DropsOwned x.port)) turn.less (less-disowned v x.port turn.less.sound); ends = turn.ends }
 
 -- all turns: the threads of the rows don't wait any longer
 record IsTurned (w v : World) (xs : List WaitRow) : Type 0 where

@@ -1,20 +1,20 @@
 -- Basic steps on connections keep a world's waits sound.
-use Rattle.std.proofs.Common.{◌≡◌, ℕ, List, Bool, true, false, cond, map, not, Option, Some, None, refl, sym, subst, arith}
+use Rattle.std.proofs.Common.{◌≡◌, ℕ, Bool, true, false, cond, map, not, Option, Some, None, refl, sym, subst, arith}
 use Rattle.std.specs.Prelude.{◌&&◌, ◌||◌, ◌==◌, is_some}
 use Rattle.std.proofs.lemmas.Bool.Decides.{nat_tests}
 use Rattle.lpc_base.specs.Rows.{every, has, passes}
 use Rattle.lpc_base.proofs.RowWords.{every-more, every-without, first-passes}
 use Rattle.lpc_base.proofs.RowMaps.{every-both, every-change_to, every-map}
 use Rattle.lpc_base.proofs.Births.{birth-same}
-use Rattle.lpc_model.specs.World.{Accepted, Birth, Listen, PortRow, Receive, Request, WaitRow, World}
+use Rattle.lpc_model.specs.World.{Acceptance, Accepted, Birth, Listen, PortRow, Receive, Request, WaitRow, World, Security}
 use Rattle.lpc_model.specs.Found.{is_made_on, is_open, is_port, port_name, pair_of, port_row, same_birth, waits_as, was_thread}
-use Rattle.lpc_model.specs.Basics.{Accepts, Completes, Frees, Joins, accepted, basic, completed, joined, paired}
+use Rattle.lpc_model.specs.Basics.{Accepts, Completes, Frees, Joins, accepted, basic, completed, joined, paired, Secures, secured}
 use Rattle.lpc_model.specs.Tests.{is_client}
 use Rattle.lpc_model.specs.SoundWaits.{IsSoundWorld, has_client_port, is_joined, is_past, waiter_of}
 use Rattle.lpc_model.proofs.Steps.Rows.{count-change, first-map, first-without}
 use Rattle.lpc_model.proofs.Calls.Usable.{by_port_kind}
 use Rattle.lpc_model.proofs.Sound.Pairs.{tied-of}
-use Rattle.lpc_model.proofs.Sound.Ties.{IsFree, is_joined_to, completed-birth, completed-pair, joined-birth, other-port, same-port, tied-accepted, tied-completed, tied-freed}
+use Rattle.lpc_model.proofs.Sound.Ties.{IsFree, is_joined_to, completed-birth, completed-pair, joined-birth, other-port, same-port, tied-accepted, tied-completed, tied-freed, secured-birth, secured-pair, tied-secured}
 use Rattle.lpc_model.proofs.Sound.Worlds.{InOrder, KeepsPort, StandsAs, by_kind, is_sure, kept-sure, port-kept, sound-from, sound-kept, stands-same, sure-waits}
 
 -- ports whose rows change, but not their births
@@ -48,6 +48,26 @@ sound-completes w c s =
       joined = λ is. rw (completed-joined (is_port c p) p) is;
       served = λ _ is. rw (completed-pair (is_port c p) p) is;
     })) refl (order-mapped w (λ p. cond (is_port c p) (completed p) p) (λ p. completed-birth (is_port c p) p) s) (tied-completed w.ports w.waits c (tied-of w s)) s
+
+-- a port gets its access list, or what it allows
+secured-joined : (y : Security) (c : Bool) (p : PortRow) → let q : PortRow = cond c (secured y p) p in is_joined q ≡ is_joined p
+secured-joined y true p = refl
+secured-joined y false p = refl
+
+pub sound-secures : (w : World) (c : Birth) (y : Security) → IsSoundWorld w → IsSoundWorld (basic w (Secures c y))
+sound-secures w c y s =
+    let v = basic w (Secures c y) in
+    sound-kept w v (record {
+      clients = λ c is. is;
+      opens = λ b is. is;
+      messages = refl;
+    }) (λ b own. port-kept w v b own (λ b is. is) (λ p at. record {
+      row = cond (is_port c p) (secured y p) p;
+      at = first-map (is_port b) (λ p. cond (is_port c p) (secured y p) p) (λ p. same-port b p (cond (is_port c p) (secured y p) p) (secured-birth y (is_port c p) p)) w.ports p at;
+      paired = λ is. rw (secured-pair y (is_port c p) p) is;
+      joined = λ is. rw (secured-joined y (is_port c p) p) is;
+      served = λ _ is. rw (secured-pair y (is_port c p) p) is;
+    })) refl (order-mapped w (λ p. cond (is_port c p) (secured y p) p) (λ p. secured-birth y (is_port c p) p) s) (tied-secured y w.ports w.waits c (tied-of w s)) s
 
 -- A connection that is joined
 pub joined-row : (w : World) (client server : Birth) (context : ℕ) (b : Birth) (p : PortRow) → port_row w b ≡ Some p → port_row (basic w (Joins client server context)) b ≡ Some (joined client server context p)
@@ -120,14 +140,14 @@ accepted-parts c q s t u is one two = grind arith
 client-stands : (w : World) (x : WaitRow) → has_client_port w x ≡ true → has (is_port x.port) w.ports ≡ true
 client-stands w x is = grind arith
 
-now-accepted : (w : World) (client server : Birth) (context : ℕ) (reply : List ℕ) → is_open w server ≡ true → (x : WaitRow) → same_birth x.port client ≡ true → (x.thread == server.maker) ≡ false → is_sure w x ≡ true → is_sure (basic w (Joins client server context)) (accepted reply x) ≡ true
+now-accepted : (w : World) (client server : Birth) (context : ℕ) (reply : Acceptance) → is_open w server ≡ true → (x : WaitRow) → same_birth x.port client ≡ true → (x.thread == server.maker) ≡ false → is_sure w x ≡ true → is_sure (basic w (Joins client server context)) (accepted reply x) ≡ true
 now-accepted w client server context reply opens =
     let v = basic w (Joins client server context) in
     by_kind (λ x. same_birth x.port client ≡ true → (x.thread == server.maker) ≡ false → is_sure w x ≡ true → is_sure v (accepted reply x) ≡ true)
     (λ x m here off is. kept-joined w client server context opens (record x { kind = Request m }) off is)
     (λ x here off is. kept-joined w client server context opens (record x { kind = Receive }) off is)
     (λ x here off is. kept-joined w client server context opens (record x { kind = Listen }) off is)
-    (λ x m here off is.
+    (λ x m offer here off is.
     let same = birth-same x.port client here in
     let own : has_client_port w x ≡ true = grind arith in
     let stands = subst (λ b. has (is_port b) w.ports ≡ true) same (client-stands w x own) in
@@ -142,7 +162,7 @@ known-parts true false b p is = (refl, refl, λ one. grind arith)
 known-parts true true b p is = absurd (cc)
 known-parts false a b p is = absurd (cc)
 
-pub sound-accepts : (w : World) (client server : Birth) (context who : ℕ) (reply : List ℕ) → is_open w server ≡ true → every (is_known w server.maker who client) w.waits ≡ true → IsFree w.ports w.waits client server who → IsSoundWorld w → IsSoundWorld (basic (basic w (Joins client server context)) (Accepts who reply))
+pub sound-accepts : (w : World) (client server : Birth) (context who : ℕ) (reply : Acceptance) → is_open w server ≡ true → every (is_known w server.maker who client) w.waits ≡ true → IsFree w.ports w.waits client server who → IsSoundWorld w → IsSoundWorld (basic (basic w (Joins client server context)) (Accepts who reply))
 sound-accepts w client server context who reply opens all free s =
     let v = basic w (Joins client server context) in
     let by = server.maker in

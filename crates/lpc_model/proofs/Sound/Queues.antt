@@ -100,7 +100,7 @@ taken-sure w test m at =
     (λ x is.
     let same : is_sure v (record x { kind = Listen }) ≡ true = listen-sure w rest (record x { kind = Listen }) (none (record x { kind = Listen })) is in
     marked-case (λ y. is_sure v y ≡ true) (mark x) (record x { kind = Listen }) (λ _. same) (λ _. same))
-    (λ x r is. marked-case (λ y. is_sure v y ≡ true) (mark x) (record x { kind = Connect r })
+    (λ x r offer is. marked-case (λ y. is_sure v y ≡ true) (mark x) (record x { kind = Connect r offer })
     (λ _. connected-sure w rest x is)
     (λ off. connect-sure w rest x (has-without_first (is_message_of x) test w.messages m at (other-message x m off)) is))
     (λ x r reply is. marked-case (λ y. is_sure v y ≡ true) (mark x) (record x { kind = Accepted r reply }) (λ _. is) (λ _. is))
@@ -123,7 +123,7 @@ abbrev is_ready_as : World → MessageRow → WaitRow → WaitKind → Bool
 is_ready_as w m x (Request r) = is_sound_request (basic w (Enters m)) x
 is_ready_as w m x Receive = is_sound_receive w x
 is_ready_as w m x Listen = is_sound_listen w x
-is_ready_as w m x (Connect r) = is_sound_connect (basic w (Enters m)) x
+is_ready_as w m x (Connect r offer) = is_sound_connect (basic w (Enters m)) x
 is_ready_as w m x (Accepted r reply) = is_sound_accepted w x
 
 abbrev pub is_ready : World → MessageRow → WaitRow → Bool
@@ -135,7 +135,7 @@ ready-sure w m =
     (λ x r is. request-sure w (w.messages ++ m ∷ []) x (has-kept (is_message_of x) w.messages m) is)
     (λ x is. is)
     (λ x is. is)
-    (λ x r is. connect-sure w (w.messages ++ m ∷ []) x (has-kept (is_message_of x) w.messages m) is)
+    (λ x r offer is. connect-sure w (w.messages ++ m ∷ []) x (has-kept (is_message_of x) w.messages m) is)
     (λ x r reply is. is)
 
 -- where no waiter takes it
@@ -148,7 +148,7 @@ entered-sure w m =
     (λ x r is off. is)
     (λ x is off. receive-sure w (w.messages ++ m ∷ []) (record x { kind = Receive }) (none-entered w m (record x { kind = Receive }) off) is)
     (λ x is off. listen-sure w (w.messages ++ m ∷ []) (record x { kind = Listen }) (none-entered w m (record x { kind = Listen }) off) is)
-    (λ x r is off. is)
+    (λ x r offer is off. is)
     (λ x r reply is off. is)
 
 -- where one does, its queue held nothing that it would take
@@ -177,7 +177,7 @@ given-sure w m =
     (λ off. request-sure (basic w (Enters m)) w.messages x (λ one. not-entered w m x (other-message x m off) one) is))
     (λ x is. marked-case (λ y. is_sure w y ≡ true) (mark x) (record x { kind = Receive }) (λ _. is) (λ _. is))
     (λ x is. marked-case (λ y. is_sure w y ≡ true) (mark x) (record x { kind = Listen }) (λ _. is) (λ _. is))
-    (λ x r is. marked-case (λ y. is_sure w y ≡ true) (mark x) (record x { kind = Connect r })
+    (λ x r offer is. marked-case (λ y. is_sure w y ≡ true) (mark x) (record x { kind = Connect r offer })
     (λ _. connected-sure (basic w (Enters m)) w.messages x is)
     (λ off. connect-sure (basic w (Enters m)) w.messages x (λ one. not-entered w m x (other-message x m off) one) is))
     (λ x r reply is. marked-case (λ y. is_sure w y ≡ true) (mark x) (record x { kind = Accepted r reply }) (λ _. is) (λ _. is))
@@ -222,7 +222,7 @@ sound-given w m all once t ties =
     let self = birth-self m.queue in
     let own : is_queued_connect m.queue m ≡ true = grind arith in
     subst (λ v. IsSoundWorld (world_after v (received_steps m ++ waking ∷ []))) (sym (world-taken w (is_queued_connect m.queue) m none own)) back)
-    (λ x r is quiet here. absurd (cc))
+    (λ x r offer is quiet here. absurd (cc))
     (λ x r reply is quiet here. absurd (cc))
 
 -- a wait that takes a message is no accepted connect, and its thread waits for nothing else
@@ -232,7 +232,7 @@ taker-quiet m =
     (λ x r here. refl)
     (λ x here. refl)
     (λ x here. refl)
-    (λ x r here. refl)
+    (λ x r offer here. refl)
     (λ x r reply here. absurd (cc))
 
 pub lone-quiet : (waits : List WaitRow) (test : WaitRow → Bool) (x : WaitRow) → WaitOnce waits → first test waits ≡ Some x → not (is_accepted x) ≡ true → every (is_quiet x.thread) waits ≡ true

@@ -28,7 +28,7 @@ use Rattle.std.specs.Prelude.{None, Ok, Option, Some, ◌&&◌}
 -- Replies
 -- the request that a reply answers is no accepted connect
 request-quiet : (x : WaitRow) → is_request x ≡ true → not (is_accepted x) ≡ true
-request-quiet = by_kind (λ x. is_request x ≡ true → not (is_accepted x) ≡ true) (λ x m is. refl) (λ x is. refl) (λ x is. refl) (λ x m is. refl) (λ x m reply is. absurd (cc))
+request-quiet = by_kind (λ x. is_request x ≡ true → not (is_accepted x) ≡ true) (λ x m is. refl) (λ x is. refl) (λ x is. refl) (λ x m offer is. refl) (λ x m reply is. absurd (cc))
 
 pub fits-request : (w : World) (port : Birth) (m : Message) (x : WaitRow) → fits w port m x ≡ true → is_request x ≡ true
 fits-request w port m x is = grind arith

@@ -7,9 +7,9 @@ use Rattle.lpc_base.proofs.RowWords.{every-any, every-change, every-more, every-
 use Rattle.lpc_base.proofs.RowMaps.{every-both, every-change_to, every-map}
 use Rattle.lpc_base.proofs.Births.{birth-same, births-apart}
 use Rattle.lpc_base.proofs.Bools.{first-true}
-use Rattle.lpc_model.specs.World.{Birth, PortRow, WaitRow, World}
+use Rattle.lpc_model.specs.World.{Acceptance, Birth, PortRow, WaitRow, World, Security}
 use Rattle.lpc_model.specs.Found.{is_accepted, is_offered, is_port, is_server_port, is_the, pair_of, port_row, same_birth, waits_as}
-use Rattle.lpc_model.specs.Basics.{accepted, completed, joined, paired}
+use Rattle.lpc_model.specs.Basics.{accepted, completed, joined, paired, secured}
 use Rattle.lpc_model.specs.Connect.{is_accepted_on}
 use Rattle.lpc_model.specs.SoundWaits.{is_awaited, is_awaited_on, is_connect_on, is_uncompleted, lacks_connects}
 use Rattle.lpc_model.proofs.Steps.Rows.{first-map, first-without, has-change_to, has-more, has-turned}
@@ -44,6 +44,30 @@ tied-completed ports waits c t =
     record {
       pairs = every-change (is_awaited v) (is_port c) completed (λ p is. done-parts (is_server_port p) _) ports still;
       servers = every-change (lacks_connects w) (is_port c) completed (λ p is. is) ports t.servers;
+    }
+
+-- a port gets its access list, or what it allows
+pub secured-birth : (s : Security) (c : Bool) (p : PortRow) → let q : PortRow = cond c (secured s p) p in q.birth ≡ p.birth
+secured-birth s true p = refl
+secured-birth s false p = refl
+
+pub secured-pair : (s : Security) (c : Bool) (p : PortRow) → let q : PortRow = cond c (secured s p) p in q.pair ≡ p.pair
+secured-pair s true p = refl
+secured-pair s false p = refl
+
+secured-row : (s : Security) (ports : List PortRow) (c b : Birth) (q : PortRow) → first (is_port b) ports ≡ Some q → first (is_port b) (change (is_port c) (secured s) ports) ≡ Some (cond (is_port c q) (secured s q) q)
+secured-row s ports c b q here =
+    first-map (is_port b) (λ p. cond (is_port c p) (secured s p) p) (λ p. same-port b p (cond (is_port c p) (secured s p) p) (secured-birth s (is_port c p) p)) ports q here
+
+pub tied-secured : (s : Security) (ports : List PortRow) (waits : List WaitRow) (c : Birth) → IsTied ports waits → IsTied (change (is_port c) (secured s) ports) waits
+tied-secured s ports waits c t =
+    let w = tied ports waits in
+    let v = tied (change (is_port c) (secured s) ports) waits in
+    let paired = λ (b d : Birth). pair-kept w v b d (λ q here. rw (secured-row s ports c d q here) (secured-pair s (is_port c q) q)) in
+    let still = every-more (is_awaited w) (is_awaited v) (λ q. awaited-kept w v q (λ d _ _. on-kept w v q.birth d (λ is. is) (paired q.birth d))) ports t.pairs in
+    record {
+      pairs = every-change (is_awaited v) (is_port c) (secured s) (λ p is. is) ports still;
+      servers = every-change (lacks_connects w) (is_port c) (secured s) (λ p is. is) ports t.servers;
     }
 
 -- the client port of a connection that is completed is the pair of no other one that isn't
@@ -97,19 +121,19 @@ joined-row ports client server context b q here =
     first-map (is_port b) (joined client server context) (λ p. same-port b p (joined client server context p) (joined-birth client server context p)) ports q here
 
 -- an accepted connect is a connect on the same port
-connect-same : (reply : List ℕ) (b : Birth) (y : WaitRow) → is_connect_on b (accepted reply y) ≡ is_connect_on b y
-connect-same reply b = by_kind (λ y. is_connect_on b (accepted reply y) ≡ is_connect_on b y) (λ y m. refl) (λ y. refl) (λ y. refl) (λ y m. refl) (λ y m r. refl)
+connect-same : (reply : Acceptance) (b : Birth) (y : WaitRow) → is_connect_on b (accepted reply y) ≡ is_connect_on b y
+connect-same reply b = by_kind (λ y. is_connect_on b (accepted reply y) ≡ is_connect_on b y) (λ y m. refl) (λ y. refl) (λ y. refl) (λ y m offer. refl) (λ y m r. refl)
 
 kept-parts : (s a : Bool) → (not (s && a) || a) ≡ true
 kept-parts s a = grind arith
 
-still-accepted : (reply : List ℕ) (who : ℕ) (c : Birth) (y : WaitRow) → (not (waits_as who y && is_accepted_on c y) || is_accepted_on c (accepted reply y)) ≡ true
+still-accepted : (reply : Acceptance) (who : ℕ) (c : Birth) (y : WaitRow) → (not (waits_as who y && is_accepted_on c y) || is_accepted_on c (accepted reply y)) ≡ true
 still-accepted reply who c =
     by_kind (λ y. (not (waits_as who y && is_accepted_on c y) || is_accepted_on c (accepted reply y)) ≡ true)
     (λ y m. kept-parts (waits_as who y) false)
     (λ y. kept-parts (waits_as who y) false)
     (λ y. kept-parts (waits_as who y) false)
-    (λ y m. off-parts (waits_as who y) (same_birth y.port c))
+    (λ y m offer. off-parts (waits_as who y) (same_birth y.port c))
     (λ y m r. kept-parts (waits_as who y) (same_birth y.port c))
   where
     off-parts : (s b : Bool) → (not (s && false) || b) ≡ true
@@ -119,13 +143,13 @@ still-accepted reply who c =
 abbrev pub is_offered_on : ℕ → Birth → WaitRow → Bool
 is_offered_on who client y = waits_as who y && (is_offered y && same_birth y.port client)
 
-now-accepted : (reply : List ℕ) (who : ℕ) (client : Birth) (y : WaitRow) → is_offered_on who client y ≡ true → is_accepted_on client (accepted reply y) ≡ true
+now-accepted : (reply : Acceptance) (who : ℕ) (client : Birth) (y : WaitRow) → is_offered_on who client y ≡ true → is_accepted_on client (accepted reply y) ≡ true
 now-accepted reply who client =
     by_kind (λ y. is_offered_on who client y ≡ true → is_accepted_on client (accepted reply y) ≡ true)
     (λ y m is. grind arith)
     (λ y is. grind arith)
     (λ y is. grind arith)
-    (λ y m is. grind arith)
+    (λ y m offer is. grind arith)
     (λ y m r is. grind arith)
 
 is-connect : (who : ℕ) (client : Birth) (y : WaitRow) → is_offered_on who client y ≡ true → is_connect_on client y ≡ true
@@ -142,7 +166,7 @@ pub record IsFree (ports : List PortRow) (waits : List WaitRow) (client server :
   pub on_client : has (is_accepted_on client) waits ≡ false
   pub on_server : has (is_accepted_on server) waits ≡ false
 
-module _ (ports : List PortRow) (waits : List WaitRow) (client server : Birth) (context who : ℕ) (reply : List ℕ) (free : IsFree ports waits client server who) (t : IsTied ports waits) where
+module _ (ports : List PortRow) (waits : List WaitRow) (client server : Birth) (context who : ℕ) (reply : Acceptance) (free : IsFree ports waits client server who) (t : IsTied ports waits) where
   abbrev before : World
   before = tied ports waits
 

@@ -9,7 +9,7 @@ use Rattle.lpc_base.proofs.Bools.{first-true, second-true}
 use Rattle.lpc_message.specs.declared.message.ClientId.{ClientId}
 use Rattle.lpc_names.specs.Walk.{LinkTo, Stands}
 use Rattle.lpc_names.specs.declared.names.Found.TheVariants.{Directory, Item}
-use Rattle.lpc_model.specs.World.{Accepted, Bindings, Birth, Connect, Contents, HandleTable, Listen, Message, Node, PortRow, Receive, Request, SectionRow, ThreadRow, UsedThread, ViewTable, WaitKind, WaitRow, World, no_rows}
+use Rattle.lpc_model.specs.World.{Acceptance, Accepted, Bindings, Birth, Connect, Contents, HandleTable, Listen, Message, Node, Offer, PortRow, Receive, Request, SectionRow, ThreadRow, UsedThread, ViewTable, WaitKind, WaitRow, World, no_rows, TokenRow, TokenName}
 use Rattle.lpc_model.specs.Found.{is_live_thread, is_open, is_port, is_table, pair_of, port_row, waits_as}
 use Rattle.lpc_model.specs.Tests.{is_client}
 use Rattle.lpc_model.specs.SoundWaits.{IsSoundWorld, can_stay_sound, has_client_port, has_come, is_answerable, is_joined, is_message_of, is_past, is_sound_connect, is_sound_listen, is_sound_receive, is_sound_request, is_sound_wait, leads_open, waiter_of}
@@ -18,14 +18,14 @@ use Rattle.lpc_model.proofs.Sound.Pairs.{IsTied}
 -- Waits of each kind
 -- what holds of each kind of wait holds of a wait
 pub by_kind : (P : WaitRow → Type 0) → ((x : WaitRow) (m : Message) → P (record x { kind = Request m })) → ((x : WaitRow) → P (record x { kind = Receive })) → ((x : WaitRow) → P (record x { kind = Listen }))
-    → ((x : WaitRow) (m : Message) → P (record x { kind = Connect m })) → ((x : WaitRow) (m : Message) (reply : List ℕ) → P (record x { kind = Accepted m reply })) → (x : WaitRow) → P x
+    → ((x : WaitRow) (m : Message) (offer : Option Offer) → P (record x { kind = Connect m offer })) → ((x : WaitRow) (m : Message) (reply : Acceptance) → P (record x { kind = Accepted m reply })) → (x : WaitRow) → P x
 by_kind P one two three four five x = at x.kind
   where
     at : (kind : WaitKind) → P (record x { kind = kind })
     at (Request m) = one x m
     at Receive = two x
     at Listen = three x
-    at (Connect m) = four x m
+    at (Connect m offer) = four x m offer
     at (Accepted m reply) = five x m reply
 
 -- a sound wait that can stay so
@@ -186,7 +186,7 @@ kept-sure w v k =
     (λ x m p. sure-parts _ _ _ _ _ _ (k.clients (waiter_of x)) (kept-request w v (record x { kind = Request m }) k p) (kept-answer w v x p))
     (λ x p. sure-parts _ _ _ _ _ _ (k.clients (waiter_of x)) (kept-receive w v (record x { kind = Receive }) k p) (λ is. is))
     (λ x p. sure-parts _ _ _ _ _ _ (k.clients (waiter_of x)) (kept-listen w v (record x { kind = Listen }) k) (λ is. is))
-    (λ x m p. sure-parts _ _ _ _ _ _ (k.clients (waiter_of x)) (kept-connect w v (record x { kind = Connect m }) k) (kept-client w v x p))
+    (λ x m offer p. sure-parts _ _ _ _ _ _ (k.clients (waiter_of x)) (kept-connect w v (record x { kind = Connect m offer }) k) (kept-client w v x p))
     (λ x m reply p. accepted-parts _ _ _ _ _ _ _ (k.clients (waiter_of x)) p.served p.stands)
 
 -- a world that keeps what is found, with the same waits, stays sound
@@ -203,6 +203,23 @@ leads-kept w v opens (Stands (Item port)) is = opens port is
 -- sections, their bytes and views are no matter
 pub sound-memory : (w : World) (sections : List SectionRow) (contents : Contents) (views : List ViewTable) → IsSoundWorld w → IsSoundWorld (record w { sections = sections; contents = contents; views = views })
 sound-memory w sections contents views s = record {
+  waits = s.waits;
+  stay = s.stay;
+  once = s.once;
+  names = s.names;
+  tables = s.tables;
+  unused = s.unused;
+  homes = s.homes;
+  pairs = s.pairs;
+  servers = s.servers;
+  ordinals = s.ordinals;
+  numbers = s.numbers;
+  makers = s.makers;
+}
+
+-- nor does it speak of tokens and their names
+pub sound-tokens : (w : World) (tokens : List TokenRow) (names : List TokenName) → IsSoundWorld w → IsSoundWorld (record w { tokens = tokens; token_names = names })
+sound-tokens w tokens names s = record {
   waits = s.waits;
   stay = s.stay;
   once = s.once;

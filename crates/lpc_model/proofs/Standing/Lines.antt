@@ -1,20 +1,20 @@
 -- Each line keeps what rows name.
 use Rattle.lpc_base.proofs.Births.{birth-same, birth-self}
-use Rattle.lpc_base.proofs.RowMaps.{every-both, every-first}
-use Rattle.lpc_base.proofs.RowWords.{every-append, every-more, first-passes, has-change}
-use Rattle.lpc_base.specs.Rows.{change, every, first, given, has, passes, when}
-use Rattle.lpc_base.specs.declared.limits.TheConstants.{MESSAGE_LIMIT}
+use Rattle.lpc_base.proofs.RowMaps.{every-both, every-first, every-mapped}
+use Rattle.lpc_base.proofs.RowWords.{every-append, every-more, every-without, first-passes, has-change}
+use Rattle.lpc_base.specs.Rows.{change, every, first, given, has, passes, when, which, without}
 use Rattle.lpc_base.specs.declared.port_kind.PortKind.TheVariants.{Connection, Unnamed}
 use Rattle.lpc_base.specs.declared.status.Status.{Status}
 use Rattle.lpc_base.specs.declared.status.TheConstants.{LPC_REPLY_LOST, PORT_DISCONNECTED, SUCCESS}
-use Rattle.lpc_model.proofs.Calls.Acts.{Law, accept_act, complete_act, connect_act, create_act, keeps_on, row-stands, outcomes, mapped-stands}
+use Rattle.lpc_model.proofs.Calls.Acts.{Law, accept_act, complete_act, connect_act, create_act, keeps_on, row-stands, outcomes}
 use Rattle.lpc_model.proofs.Calls.Lines.{AnyWorld, Shut, IsCalled, LineLaw, line-does, passing-lines}
-use Rattle.lpc_model.proofs.Steps.Closing.{IsFewer, behind, closed-is, cut-is, ends-pass, fewer-accepted, fewer-uncut, stage_five, takes_away, uncut}
-use Rattle.lpc_model.proofs.Steps.Dying.{accepted_across, asked_across, cut-parts, gone, received_across}
+use Rattle.lpc_model.proofs.Steps.Closing.{IsFewer, behind, closed-is, cut-is, ends-pass, fewer-accepted, fewer-uncut, stage_five, stage_six, takes_away, uncut}
+use Rattle.lpc_model.proofs.Steps.Dying.{accepted_across, asked_across, cut-parts, gone, others_left, received_across}
 use Rattle.lpc_model.proofs.Steps.Sweep.{stepped}
 use Rattle.lpc_model.proofs.Linked.Calls.{lone-parts, unmade}
 use Rattle.lpc_model.proofs.Linked.Steps.{made-found, push-passes}
 use Rattle.lpc_model.proofs.Sound.Connect.{names-offered}
+use Rattle.lpc_model.proofs.Sound.Cuts.{disowned}
 use Rattle.lpc_model.proofs.Sound.Closing.{is_cut_request, uncut-free}
 use Rattle.lpc_model.proofs.Calls.Tested.{CanComplete}
 use Rattle.lpc_model.proofs.Sound.Death.{asked-less, asked-none, die-holds, heard-less, is_off, parting}
@@ -23,30 +23,32 @@ use Rattle.lpc_model.proofs.Sound.Ports.{joined-row}
 use Rattle.lpc_model.proofs.Sound.Terminate.{IsSafe, shut-of, sound-of}
 use Rattle.lpc_model.proofs.Sound.Ties.{joined-birth}
 use Rattle.lpc_model.proofs.Sound.Worlds.{by_kind}
-use Rattle.lpc_model.proofs.Standing.Steps.{AreNaming, cut-names, is_naming, kept, naming-all, object-kept, swept-names}
+use Rattle.lpc_model.proofs.Standing.Steps.{AreNaming, cut-names, is_naming, kept, naming-all, object-kept, shows-kept, swept-names}
 use Rattle.lpc_model.proofs.Steps.InTurn.{after-append}
-use Rattle.lpc_model.specs.Basics.{Accepts, AddsHandle, AddsProcess, AddsThread, Awaits, Basic, Binds, Completes, Dies, DrawsIdentifier, DrawsOrdinal, DropsHandle, DropsViewsOf, Empties, Joins, Makes, Receives, Registers, Unbinds, Unregisters, Wakes, Withdraws, basic, completed, end_each, joined, paired, world_after, AddsSection, Maps, Unmaps, Writes}
+use Rattle.lpc_model.specs.Basics.{Accepts, AddsHandle, AddsProcess, AddsThread, Awaits, Basic, Binds, Completes, Dies, DrawsIdentifier, DrawsOrdinal, DropsHandle, DropsOwned, DropsViewsOf, Empties, Joins, Makes, Receives, Registers, Unbinds, Unregisters, Wakes, Withdraws, basic, completed, cut, end_each, is_end_of, joined, paired, without_owned, world_after, AddsSection, Maps, Unmaps, Writes, Secures, Acts, AddsToken}
 use Rattle.lpc_model.specs.Close.{close_handle, close_port, closed_row, closing_post, cut_pair, end_accepted, end_request, is_accepted_across, is_across, is_last, is_receive_across, is_receiver, is_request_across, post_closed, server_of, wake}
-use Rattle.lpc_model.specs.Connect.{Completable, answer_of, client_port, connect_wait, connection_request, named_steps, names_connect, new_port, server_port, unnamed_steps}
+use Rattle.lpc_model.specs.Connect.{Completable, acceptance_of, client_port, connect_wait, connection_request, named_steps, names_connect, new_port, server_port, unnamed_steps}
 use Rattle.lpc_model.specs.Creation.{new_process, new_thread, second_birth}
 use Rattle.lpc_model.specs.Death.{die}
 use Rattle.lpc_model.specs.Entering.{enter, given_steps, received_steps, row_of, shown, take_connect_steps, take_steps, takes, woken}
-use Rattle.lpc_model.specs.Fields.{h, info, max}
-use Rattle.lpc_model.specs.Found.{free_handle, is_born_process, is_born_thread, is_connected_to, is_made_on, is_paired_to, is_port, is_request, is_section, is_the, pair_of, port_name, port_row, same_birth}
+use Rattle.lpc_model.specs.Fields.{completion_fields}
+use Rattle.lpc_model.specs.Found.{free_handle, is_born_process, is_born_thread, is_connected_to, is_made_on, is_owned_by, is_paired_to, is_port, is_request, is_section, is_the, pair_of, port_name, port_row, same_birth, waits_as, section_row, is_token}
 use Rattle.lpc_model.specs.Lines.{ScriptLine}
 use Rattle.lpc_model.specs.Linked.{IsLinked, is_lone_offer, is_unjoined}
-use Rattle.lpc_model.specs.Memory.{mapped_view, new_section}
+use Rattle.lpc_model.specs.Memory.{new_section}
 use Rattle.lpc_model.specs.Machine.{bare_steps}
 use Rattle.lpc_model.specs.Message.{asks}
 use Rattle.lpc_model.specs.SoundWaits.{HasShutConnects, IsSoundWorld}
-use Rattle.lpc_model.specs.Standing.{NamesWhatStands, StepsNameWhatStands, has_near_queue, is_near, names_object}
+use Rattle.lpc_model.specs.Standing.{NamesWhatStands, StepsNameWhatStands, has_near_queue, is_near, names_object, section_stands, shows_standing}
 use Rattle.lpc_model.specs.Tests.{PORT_ACCESS, handle_row, is_client, next_birth}
-use Rattle.lpc_model.specs.World.{Birth, Creator, HandleRow, Message, MessageRow, Path, PortRow, ThreadRow, WaitRow, World, no_rows}
+use Rattle.lpc_model.specs.World.{Birth, Creator, HandleRow, Message, MessageRow, Path, PortRow, ThreadRow, ViewRow, ViewTable, WaitRow, World, no_rows, Offer, Acceptance, SectionRow}
 use Rattle.lpc_names.specs.Walk.{Stands}
 use Rattle.lpc_names.specs.declared.names.Found.TheVariants.{Item}
 use Rattle.std.proofs.Common.{Bool, List, None, Option, Some, [], arith, cond, false, map, not, refl, subst, sym, true, ℕ, ◌++◌, ◌∙◌, ◌∷◌, ◌≡◌}
 use Rattle.std.proofs.lemmas.Bool.{and_from, or_right}
 use Rattle.std.specs.Prelude.{is_none, is_some, option_and_then, option_map, ◌&&◌, ◌||◌}
+use Rattle.lpc_model.specs.SoundViews.{HasSoundOffers}
+use Rattle.lpc_model.specs.Impersonation.{new_token}
 
 -- the steps leave a world in which what rows name stands
 abbrev pub KeepNames : World → List Basic → Type 0
@@ -66,7 +68,7 @@ naming-given w m x =
     (λ x r. every-append (is_naming w) (received_steps m) _ (naming-receipt w m) refl)
     (λ x. every-append (is_naming w) (received_steps m) _ (naming-receipt w m) refl)
     (λ x. every-append (is_naming w) (received_steps m) _ (naming-receipt w m) refl)
-    (λ x r. every-append (is_naming w) (received_steps m) _ (naming-receipt w m) refl)
+    (λ x r offer. every-append (is_naming w) (received_steps m) _ (naming-receipt w m) refl)
     (λ x r reply. every-append (is_naming w) (received_steps m) _ (naming-receipt w m) refl) x
 
 -- a message enters that was sent on a port that stands in one world, in a later one
@@ -84,23 +86,28 @@ handled w pid value access b stands n = naming-all w (AddsHandle pid (handle_row
 made-stands : (w : World) (p : PortRow) → has (is_port p.birth) w.ports ≡ false → has (is_port p.birth) (basic w (Makes p)).ports ≡ true
 made-stands w p new = row-stands (basic w (Makes p)) p.birth p (made-found w p new)
 
-created-names : (w : World) (by : ThreadRow) → IsCalled (Shut IsLinked) w by → KeepNames w (create_act w by (unnamed_steps (next_birth by)))
+-- what is known besides: ports are linked, and what connects offer may be seen
+pub record IsNaming (w : World) : Type 0 where
+  pub linked : IsLinked w
+  pub offers : HasSoundOffers w
+
+created-names : (w : World) (by : ThreadRow) → IsCalled (Shut IsNaming) w by → KeepNames w (create_act w by (unnamed_steps (next_birth by)))
 created-names w by is n =
     let port = new_port (next_birth by) Unnamed in
     let bs = DrawsOrdinal by.number ∷ Makes port ∷ [] in
     handled (world_after w bs) by.process (free_handle w by.process) PORT_ACCESS (next_birth by) (made-stands (basic w (DrawsOrdinal by.number)) port (unmade w by is.can is.sound)) (naming-all w bs refl n)
 
-founded-names : (w : World) (by : ThreadRow) (path : Path) → IsCalled (Shut IsLinked) w by → KeepNames w (create_act w by (named_steps (next_birth by) path))
+founded-names : (w : World) (by : ThreadRow) (path : Path) → IsCalled (Shut IsNaming) w by → KeepNames w (create_act w by (named_steps (next_birth by) path))
 founded-names w by path is n =
     let port = new_port (next_birth by) Connection in
     let bs = DrawsOrdinal by.number ∷ Makes port ∷ Binds path (Stands (Item (next_birth by))) ∷ [] in
     handled (world_after w bs) by.process (free_handle w by.process) PORT_ACCESS (next_birth by) (made-stands (basic w (DrawsOrdinal by.number)) port (unmade w by is.can is.sound)) (naming-all w bs refl n)
 
-connected-names : (w : World) (by : ThreadRow) (connection : Birth) (bytes : List ℕ) → IsCalled (Shut IsLinked) w by → KeepNames w (connect_act w by connection (connection_request by bytes))
-connected-names w by connection bytes is n =
-    let m = connection_request by bytes in
+connected-names : (w : World) (by : ThreadRow) (connection : Birth) (offer : Option Offer) (bytes : List ℕ) → IsCalled (Shut IsNaming) w by → KeepNames w (connect_act w by connection offer (connection_request by offer bytes))
+connected-names w by connection offer bytes is n =
+    let m = connection_request by offer bytes in
     let port = client_port by connection in
-    let x = connect_wait by connection m in
+    let x = connect_wait by connection offer m in
     let drawn = basic (basic w (DrawsIdentifier by.number)) (DrawsOrdinal by.number) in
     let made = basic drawn (Makes port) in
     let new = unmade w by is.can is.sound in
@@ -114,6 +121,7 @@ joined-near w client server context one two n =
     let v = basic w (Joins client server context) in
     let k = kept w v (record {
       sections = λ d is. is;
+      tokens = λ d is. is;
       ports = λ c is. rw (has-joined c) is;
       queues = near;
       processes = λ c is. is;
@@ -157,21 +165,21 @@ joined-near w client server context one two n =
         at None none = let never : false ≡ true = rw none at is in absurd (cc)
         at (Some p) row = let was : is_near x p ≡ true = rw row at is in rw (joined-row w client server context x.port p row) (here p (is_port client p) (is_port server p) refl refl row was)
 
-accepted-names : (w : World) (by : ThreadRow) (context : ℕ) (m : Message) (x : WaitRow) → first (names_connect w by m) w.waits ≡ Some x → IsCalled (Shut IsLinked) w by → KeepNames w (accept_act w by context m x)
-accepted-names w by context m x at a n =
+accepted-names : (w : World) (by : ThreadRow) (context : ℕ) (m : Message) (x : WaitRow) (a : Acceptance) → first (names_connect w by m) w.waits ≡ Some x → IsCalled (Shut IsNaming) w by → KeepNames w (accept_act w by context x a)
+accepted-names w by context m x a at is n =
     let of = names-offered w by m x (first-passes (names_connect w by m) w.waits x at) in
-    let lone = lone-parts w x of (every-first (is_lone_offer w) (names_connect w by m) w.waits x (a.known.1).offers at) in
+    let lone = lone-parts w x of (every-first (is_lone_offer w) (names_connect w by m) w.waits x (is.known.1).linked.offers at) in
     let server = next_birth by in
     let port = server_port server x.queue in
     let drawn = basic w (DrawsOrdinal by.number) in
-    let new = unmade w by a.can a.sound in
+    let new = unmade w by is.can is.sound in
     let made = basic drawn (Makes port) in
     let t = naming-all w (DrawsOrdinal by.number ∷ Makes port ∷ []) refl n in
     let held = basic made (AddsHandle by.process (handle_row (free_handle w by.process) (port_name server) PORT_ACCESS)) in
     let u = handled made by.process (free_handle w by.process) PORT_ACCESS server (made-stands drawn port new) t in
-    let told = basic held (Accepts x.thread m.body) in
+    let told = basic held (Accepts x.thread a) in
     let server_row : passes (port_row made server) is_unjoined ≡ true = rw (made-found drawn port new) refl in
-    joined-near told x.port server context (push-passes drawn port x.port is_unjoined lone.1) server_row (naming-all held (Accepts x.thread m.body ∷ []) refl u)
+    joined-near told x.port server context (push-passes drawn port x.port is_unjoined lone.1) server_row (naming-all held (Accepts x.thread a ∷ []) refl u)
 
 paired-stands : (w : World) (b c : Birth) → is_the b (pair_of w c) ≡ true → has (is_port c) w.ports ≡ true
 paired-stands w b c is = at (port_row w c) is
@@ -188,18 +196,19 @@ completed-names w c can n =
     let two = world_after w bs in
     let stands : has (is_port c.client) two.ports ≡ true = rw (has-change (is_port c.client) (is_port c.client) completed (λ p. refl) (change (is_port c.server) completed w.ports), has-change (is_port c.client) (is_port c.server) completed (λ p. refl) w.ports) (paired-stands w c.server c.client can.joined) in
     let held = basic two (AddsHandle pid (handle_row value (port_name c.client) PORT_ACCESS)) in
-    naming-all held (woken SUCCESS (h value ∷ max MESSAGE_LIMIT ∷ info (answer_of c.wait) ∷ []) c.wait ∷ []) refl (handled two pid value PORT_ACCESS c.client stands (naming-all w bs refl n))
+    naming-all held (woken SUCCESS (completion_fields value (acceptance_of c.wait)) c.wait ∷ []) refl (handled two pid value PORT_ACCESS c.client stands (naming-all w bs refl n))
 
 -- fewer rows name what stands
 fewer-names : (w v : World) → IsFewer w v → NamesWhatStands w → NamesWhatStands v
 fewer-names w v l n = record {
   handles = subst (λ hs. every (λ t. every (names_object v) t.rows) hs ≡ true) (sym l.handles) (every-more (λ t. every (names_object w) t.rows) (λ t. every (names_object v) t.rows)
       (λ t is. every-more (names_object w) (names_object v) (object-kept w v (λ c is. subst (λ ps. has (is_port c) ps ≡ true) (sym l.ports) is) (λ c is. subst (λ ps. has (is_born_process c) ps ≡ true) (sym l.processes) is) (λ c is. subst (λ ts. has (is_born_thread c) ts ≡ true) (sym l.threads) is)
-      (λ c is. subst (λ ss. has (is_section c) ss ≡ true) (sym l.sections) is)) t.rows is) w.handles n.handles);
+      (λ c is. subst (λ ss. has (is_section c) ss ≡ true) (sym l.sections) is) (λ c is. subst (λ ts. has (is_token c) ts ≡ true) (sym l.tokens) is)) t.rows is) w.handles n.handles);
   senders = rw l.ports (l.messages (λ m. has (is_port m.sender) w.ports) n.senders);
   queues = subst (λ ps. every (has_near_queue (tied ps [])) v.waits ≡ true) (sym l.ports) (l.waits (has_near_queue w) n.queues);
   registrations = rw (l.threads, l.ports) n.registrations;
-  views = rw (l.views, l.sections) n.views;
+  views = l.views (shows_standing v) (every-more (λ t. every (shows_standing w) t.rows) (λ t. every (shows_standing v) t.rows)
+      (λ t is. every-more (shows_standing w) (shows_standing v) (shows-kept w v (λ c is. subst (λ ss. has (is_section c) ss ≡ true) (sym l.sections) is) (λ c is. subst (λ ps. has (is_port c) ps ≡ true) (sym l.ports) is)) t.rows is) w.views n.views);
 }
 
 posted-names : (b : Birth) (w : World) → AreNaming w (post_closed b w)
@@ -221,7 +230,7 @@ closed-names : (w : World) (b : Birth) → IsSoundWorld w → KeepNames w (close
 closed-names w b s n =
     let five = stage_five w b in
     let t : NamesWhatStands five = subst NamesWhatStands (sym (cut-is w b)) (cut-names (uncut w b) b (uncut-free w b s) (fewer-names w (uncut w b) (fewer-uncut w b) n)) in
-    subst NamesWhatStands (sym (closed-is w b)) (naming-all five (post_closed b five) (posted-names b five) t)
+    subst NamesWhatStands (sym (closed-is w b)) (naming-all (stage_six w b) (DropsOwned b ∷ []) refl (naming-all five (post_closed b five) (posted-names b five) t))
 
 handle-names : (w : World) (pid : ℕ) (r : HandleRow) → IsSoundWorld w → KeepNames w (close_handle pid r w)
 handle-names w pid r s n = at (is_last r w)
@@ -237,6 +246,7 @@ away-naming w (Wakes who call status fields) is = refl
 away-naming w (Withdraws who) is = refl
 away-naming w (Empties q) is = refl
 away-naming w (Unbinds b) is = refl
+away-naming w (DropsOwned b) is = refl
 away-naming w x is = absurd (cc)
 
 -- waits that end leave fewer rows
@@ -262,13 +272,37 @@ cut-off-names w b off s n =
 gone-names : (n : ℕ) (w : World) → NamesWhatStands w → NamesWhatStands (gone n w)
 gone-names n w names = naming-all w (Dies n SUCCESS ∷ Withdraws n ∷ []) refl names
 
+-- the views that are left when its connect is cut behind it show what stands
+disowned-all : (f : ViewRow → Bool) (xs : List WaitRow) (ts : List ViewTable) → every (λ t. every f t.rows) ts ≡ true → every (λ t. every f t.rows) (disowned xs ts) ≡ true
+disowned-all f [] ts all = all
+disowned-all f (x ∷ xs) ts all = disowned-all f xs (map (without_owned x.port) ts) (every-mapped (λ t. every f t.rows) (without_owned x.port) (λ t is. every-without f (is_owned_by x.port) t.rows is) ts all)
+
+others-stand : (n : ℕ) (b : Birth) (w : World) → NamesWhatStands w → let g = gone n (behind (cut_pair b) w) in every (λ t. every (shows_standing g) t.rows) (others_left n b (received_across b w)) ≡ true
+others-stand n b w names =
+    let u = received_across b w in
+    let g = gone n (behind (cut_pair b) w) in
+    let heard : NamesWhatStands u = ends-names (is_receive_across b) (wake PORT_DISCONNECTED) (λ x. refl) (asked_across b w) (ends-names (is_request_across b) (end_request LPC_REPLY_LOST) (λ x. refl) w names) in
+    let v = accepted_across b w in
+    let less = fewer-accepted b u in
+    let sections = λ (c : Birth) (is : has (is_section c) u.sections ≡ true). subst (λ (z : World). has (is_section c) z.sections ≡ true) (sym (cut-parts b w)) (subst (λ ss. has (is_section c) ss ≡ true) (sym less.sections) is) in
+    let ports = λ (c : Birth) (is : has (is_port c) u.ports ≡ true). subst (λ (z : World). has (is_port c) z.ports ≡ true) (sym (cut-parts b w)) (subst (λ h. h ≡ true) (sym (has-change (is_port c) (is_end_of b) cut (λ p. refl) v.ports)) (subst (λ ps. has (is_port c) ps ≡ true) (sym less.ports) is)) in
+    let all = every-more (λ t. every (shows_standing u) t.rows) (λ t. every (shows_standing g) t.rows) (λ t is. every-more (shows_standing u) (shows_standing g) (shows-kept u g sections ports) t.rows is) u.views heard.views in
+    disowned-all (shows_standing g) (which (is_accepted_across b u) (without (waits_as n) u.waits)) u.views all
+
 die-names : (code : Status) (t : ThreadRow) (w : World) → IsSafe w → KeepNames w (die code t w)
 die-names code t w is n =
     die-holds NamesWhatStands code w t (gone-names t.number w n) (λ x found accepted.
     let p = parting w t.number x found accepted (shut-of w is) (sound-of w is) in
-    subst NamesWhatStands (sym p.same) (gone-names t.number (behind (cut_pair x.port) w) (cut-off-names w x.port p.off (sound-of w is) n)))
+    let names = gone-names t.number (behind (cut_pair x.port) w) (cut-off-names w x.port p.off (sound-of w is) n) in
+    let g = gone t.number (behind (cut_pair x.port) w) in
+    subst NamesWhatStands (sym p.same) (record { handles = names.handles; senders = names.senders; queues = names.queues; registrations = names.registrations; views = others-stand t.number x.port w n }))
+    (λ v b names. naming-all v (DropsOwned b ∷ []) refl names)
 
-names-law : (by : ThreadRow) → Law by (Shut IsLinked) AnyWorld KeepNames
+-- the section of a row stands
+has-row : (w : World) (b : Birth) (s : SectionRow) → section_row w b ≡ Some s → section_stands w b ≡ true
+has-row w b s at = rw at refl
+
+names-law : (by : ThreadRow) → Law by (Shut IsNaming) AnyWorld KeepNames
 names-law by = record {
   keeps = λ w bs all _. tt;
   nothing = λ w n. n;
@@ -283,34 +317,38 @@ names-law by = record {
   asks = λ w x m off wait post. naming-all w (Awaits x ∷ enter m (basic w (Awaits x))) (and_from (has_near_queue w x) _ wait.near (naming-enter w m (basic w (Awaits x)) post.stands));
   creates = λ w is. created-names w by is;
   founds = λ w name path free is. founded-names w by path is;
-  connects = λ w connection bytes opens is. connected-names w by connection bytes is;
+  connects = λ w connection offer bytes opens offers is. connected-names w by connection offer bytes is;
   gives = λ w pid o access is n. naming-all w (AddsHandle pid (handle_row (free_handle w pid) o access) ∷ []) (and_from _ true (is.stands n) refl) n;
-  accepts = λ w context m x at is. accepted-names w by context m x at is;
+  accepts = λ w context m x a at is. accepted-names w by context m x a at is;
   completes = λ w c is. completed-names w c is.can;
   registers = λ w b stands. naming-all w (Registers by.number b ∷ []) (and_from _ true stands refl);
-  spawns = λ w pid tid new unused s. naming-all w (DrawsOrdinal by.number ∷ DrawsOrdinal by.number ∷ AddsProcess (new_process pid (Some by.process) (next_birth by)) ∷ AddsThread (new_thread tid pid (second_birth by)) ∷ []) refl;
+  spawns = λ w pid tid token new unused s. naming-all w (DrawsOrdinal by.number ∷ DrawsOrdinal by.number ∷ AddsProcess (new_process pid (Some by.process) (next_birth by) token) ∷ AddsThread (new_thread tid pid (second_birth by)) ∷ []) refl;
   starts = λ w tid pid live unused s. naming-all w (DrawsOrdinal by.number ∷ AddsThread (new_thread tid pid (next_birth by)) ∷ []) refl;
   closes = λ w pid r at s _. handle-names w pid r s;
   dies = λ w code t is. die-names code t w is;
   leaves = λ w n b. naming-all w (Unregisters n b ∷ []) refl;
   vacates = λ w pid. naming-all w (DropsViewsOf pid ∷ []) refl;
+  disowns = λ w b. naming-all w (DropsOwned b ∷ []) refl;
+  secures = λ w b s. naming-all w (Secures b s ∷ []) refl;
+  acts = λ w own. naming-all w (Acts by.number own ∷ []) refl;
+  holds_token = λ w content. naming-all w (DrawsOrdinal by.number ∷ AddsToken (new_token by content) ∷ []) refl;
   builds = λ w size prot is. naming-all w (DrawsOrdinal by.number ∷ AddsSection (new_section by size prot) ∷ []) refl;
-  maps = λ w handle offset size prot s rounded base m. naming-all w (Maps by.process (mapped_view s offset rounded prot base) ∷ []) (and_from _ true (mapped-stands w by handle offset size prot s rounded base m) refl);
+  maps = λ w pid v m. let shows = m.shows (m.known.1).offers in naming-all w (Maps pid v ∷ []) (and_from _ true (and_from (section_stands w v.section) _ (has-row w v.section shows.section shows.row) m.owner) refl);
   unmaps = λ w pid base. naming-all w (Unmaps pid base ∷ []) refl;
   writes = λ w b place new. naming-all w (Writes b place new ∷ []) refl;
 }
 
 -- Lines
-pub names-lines : LineLaw (Shut IsLinked) (λ _. KeepNames)
-names-lines = passing-lines (Shut IsLinked) KeepNames is_naming naming-all (λ w. record { tells = λ _. refl; processes = λ _. refl; threads = λ _ _ _. refl; binds = λ _ _. refl }) (λ by. outcomes by (Shut IsLinked) AnyWorld KeepNames (names-law by) (λ w c. (c.0, tt)))
+pub names-lines : LineLaw (Shut IsNaming) (λ _. KeepNames)
+names-lines = passing-lines (Shut IsNaming) KeepNames is_naming naming-all (λ w. record { tells = λ _. refl; processes = λ _. refl; threads = λ _ _ _. refl; binds = λ _ _. refl; names = λ _. refl }) (λ by. outcomes by (Shut IsNaming) AnyWorld KeepNames (names-law by) (λ w c. (c.0, tt)))
 
 -- before rows go
-pub names_line : (w : World) (line : ScriptLine) → IsSoundWorld w → HasShutConnects w → IsLinked w → NamesWhatStands w → NamesWhatStands (world_after w (bare_steps line w))
-names_line w line s shut l n = line-does (Shut IsLinked) (λ _. KeepNames) names-lines w s (shut, l) line n
+pub names_line : (w : World) (line : ScriptLine) → IsSoundWorld w → HasShutConnects w → IsLinked w → HasSoundOffers w → NamesWhatStands w → NamesWhatStands (world_after w (bare_steps line w))
+names_line w line s shut l offers n = line-does (Shut IsNaming) (λ _. KeepNames) names-lines w s (shut, record { linked = l; offers = offers }) line n
 
 -- the step of a line
 pub names_step : StepsNameWhatStands
-names_step w line s shut l n = stepped NamesWhatStands w line swept-names (names_line w line s shut l n)
+names_step w line s shut l offers n = stepped NamesWhatStands w line swept-names (names_line w line s shut l offers n)
 
 pub names_none : NamesWhatStands no_rows
 names_none = record { handles = refl; senders = refl; queues = refl; registrations = refl; views = refl }

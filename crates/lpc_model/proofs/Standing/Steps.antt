@@ -1,18 +1,19 @@
 -- Basic steps keep what rows name.
-use Rattle.std.proofs.Common.{◌≡◌, ℕ, ◌+◌, ◌≤◌, List, [], ◌∷◌, Bool, true, false, cond, map, not, Option, Some, None, refl, sym, subst, ◌∙◌, arith}
+use Rattle.std.proofs.Common.{◌≡◌, ◌+◌, ◌≤◌, List, [], ◌∷◌, Bool, true, false, cond, map, not, Option, Some, None, refl, sym, subst, ◌∙◌, arith}
 use Rattle.std.specs.Prelude.{◌&&◌, ◌||◌, nat_lt}
 use Rattle.std.proofs.lemmas.Bool.Decides.{nat_tests}
 use Rattle.std.proofs.lemmas.Bool.{and_from, not-true}
 use Rattle.lpc_base.specs.Rows.{count, every, has, passes, which, without}
 use Rattle.lpc_base.proofs.RowWords.{every-any, every-append, every-change, every-more, every-push, every-which, every-without, first-passes, has-change, has-kept}
-use Rattle.lpc_base.proofs.RowMaps.{every-both, every-first, every-without_first}
+use Rattle.lpc_base.proofs.RowMaps.{every-both, every-first, every-mapped, every-without_first}
+use Rattle.lpc_base.proofs.Bools.{first-true, second-true}
 use Rattle.lpc_base.proofs.Births.{birth-same, births-apart}
 use Rattle.lpc_model.specs.declared.entry.ObjectKind.TheVariants as kind
-use Rattle.lpc_model.specs.World.{Birth, HandleRow, HandleTable, MessageRow, ObjectKind, ObjectName, PortRow, ProcessRow, SectionRow, ThreadRow, ViewRow, ViewTable, WaitRow, World}
-use Rattle.lpc_model.specs.Found.{all_handles, all_registrations, all_views, handle_count, has_value, holders, is_born_process, is_born_thread, is_connected_to, is_made_on, is_own_of, is_paired_to, is_port, is_queued, is_queued_connect, is_request, is_section, is_sent_on, is_space, is_table, is_the, is_thread, lies_at, pointer_count, port_name, port_row, process_name, registered_by, same_birth, same_kind, same_object, section_name, shows_section, thread_name, waits_as, waits_at}
-use Rattle.lpc_model.specs.Basics.{Accepts, AddsHandle, AddsProcess, AddsSection, AddsThread, Awaits, Basic, Binds, Completes, Cuts, Dies, DrawsIdentifier, DrawsOrdinal, DropsHandle, DropsViewsOf, Empties, Enters, Frees, Joins, Makes, Maps, Receives, Registers, Takes, TakesConnect, Tells, Unbinds, Unmaps, Unregisters, Wakes, Withdraws, Writes, accepted, basic, completed, cut, ended, freed, is_end_of, no_handles, no_views, past_identifier, past_ordinal, put_handle, received, registering, unregistering, with_handle, with_view, without_handle, without_view, without_views, world_after}
+use Rattle.lpc_model.specs.World.{Acceptance, Birth, HandleRow, HandleTable, MessageRow, ObjectKind, ObjectName, PortRow, ProcessRow, SectionRow, ThreadRow, ViewRow, ViewTable, WaitRow, World, TokenRow}
+use Rattle.lpc_model.specs.Found.{all_handles, all_registrations, all_views, handle_count, has_value, holders, is_born_process, is_born_thread, is_connected_to, is_made_on, is_own_of, is_owned_by, is_paired_to, is_port, is_queued, is_queued_connect, is_request, is_section, is_sent_on, is_space, is_table, is_the, is_thread, lies_at, pointer_count, port_name, port_row, process_name, registered_by, same_birth, same_kind, same_object, section_name, shows_section, thread_name, waits_as, waits_at, offers_section, is_token, token_name}
+use Rattle.lpc_model.specs.Basics.{Accepts, AddsHandle, AddsProcess, AddsSection, AddsThread, Awaits, Basic, Binds, Completes, Cuts, Dies, DrawsIdentifier, DrawsOrdinal, DropsHandle, DropsOwned, DropsViewsOf, Empties, Enters, Frees, Joins, Makes, Maps, Receives, Registers, Takes, TakesConnect, Tells, Unbinds, Unmaps, Unregisters, Wakes, Withdraws, Writes, accepted, basic, completed, cut, ended, freed, is_end_of, no_handles, no_views, past_identifier, past_ordinal, put_handle, received, registering, unregistering, with_handle, with_view, without_handle, without_owned, without_view, without_views, world_after, Acts, AddsToken, NamesToken, Secures, acting, secured}
 use Rattle.lpc_model.specs.Sweep.{free_unheld, is_unheld, sweep, unheld}
-use Rattle.lpc_model.specs.Standing.{NamesWhatStands, has_near_queue, is_near, names_object, port_stands, section_stands, shows_standing, stands_as}
+use Rattle.lpc_model.specs.Standing.{NamesWhatStands, has_near_queue, is_near, names_object, port_stands, section_stands, shows_standing, stands_as, token_stands}
 use Rattle.lpc_model.proofs.Steps.Rows.{has-without, passes-change}
 use Rattle.lpc_model.proofs.Sound.Worlds.{by_kind}
 use Rattle.lpc_model.proofs.Sound.Frees.{is-zero, less-held, none-pass, sum-first, sum-second, which-all}
@@ -22,6 +23,7 @@ use Rattle.lpc_model.proofs.Linked.Steps.{push-passes}
 use Rattle.lpc_model.proofs.Linked.Joins.{row-freed}
 use Rattle.lpc_model.proofs.Steps.Registrations.{All, all-changed, all-left, all-pushed, every-each, registering-all, unregistering-all}
 use Rattle.lpc_model.proofs.Steps.InTurn.{after-append}
+use Rattle.lpc_model.specs.Linked.{passes_or_none}
 
 -- What keeps it
 -- the objects that stand in one world do in another, and what is near a port there is here
@@ -30,6 +32,7 @@ pub record StaysNear (w v : World) : Type 0 where
   pub processes : (b : Birth) → has (is_born_process b) w.processes ≡ true → has (is_born_process b) v.processes ≡ true
   pub threads : (b : Birth) → has (is_born_thread b) w.threads ≡ true → has (is_born_thread b) v.threads ≡ true
   pub sections : (b : Birth) → section_stands w b ≡ true → section_stands v b ≡ true
+  pub tokens : (b : Birth) → token_stands w b ≡ true → token_stands v b ≡ true
   pub queues : (x : WaitRow) → has_near_queue w x ≡ true → has_near_queue v x ≡ true
 
 -- one world behind another
@@ -48,19 +51,27 @@ sent_on_port w m = has (is_port m.sender) w.ports
 
 -- the object that a handle names still stands
 pub object-kept : (w v : World) → ((b : Birth) → port_stands w b ≡ true → port_stands v b ≡ true) → ((b : Birth) → has (is_born_process b) w.processes ≡ true → has (is_born_process b) v.processes ≡ true)
-    → ((b : Birth) → has (is_born_thread b) w.threads ≡ true → has (is_born_thread b) v.threads ≡ true) → ((b : Birth) → section_stands w b ≡ true → section_stands v b ≡ true)
+    → ((b : Birth) → has (is_born_thread b) w.threads ≡ true → has (is_born_thread b) v.threads ≡ true) → ((b : Birth) → section_stands w b ≡ true → section_stands v b ≡ true) → ((b : Birth) → token_stands w b ≡ true → token_stands v b ≡ true)
     → (h : HandleRow) → names_object w h ≡ true → names_object v h ≡ true
-object-kept w v ports processes threads sections h is = at h.object.kind h.object.birth is
+object-kept w v ports processes threads sections tokens h is = at h.object.kind h.object.birth is
   where
     at : (k : ObjectKind) (b : Birth) → stands_as w k b ≡ true → stands_as v k b ≡ true
     at kind.Port b is = ports b is
     at kind.Section b is = sections b is
-    at kind.Token b is = absurd (cc)
+    at kind.Token b is = tokens b is
     at kind.Process b is = processes b is
     at kind.Thread b is = threads b is
 
 to-object-kept : (w v : World) → StaysNear w v → (h : HandleRow) → names_object w h ≡ true → names_object v h ≡ true
-to-object-kept w v s = object-kept w v s.ports s.processes s.threads s.sections
+to-object-kept w v s = object-kept w v s.ports s.processes s.threads s.sections s.tokens
+
+-- a view still shows a section that stands, for a port that stands
+pub shows-kept : (w v : World) → ((b : Birth) → section_stands w b ≡ true → section_stands v b ≡ true) → ((b : Birth) → port_stands w b ≡ true → port_stands v b ≡ true) → (x : ViewRow) → shows_standing w x ≡ true → shows_standing v x ≡ true
+shows-kept w v sections ports x is = and_from _ _ (sections x.section (first-true (section_stands w x.section) _ is)) (owned x.owner (second-true (section_stands w x.section) _ is))
+  where
+    owned : (o : Option Birth) → passes_or_none o (port_stands w) ≡ true → passes_or_none o (port_stands v) ≡ true
+    owned None is = refl
+    owned (Some b) is = ports b is
 
 pub kept : (w v : World) → StaysNear w v → (every (tables_to_objects w) w.handles ≡ true → every (tables_to_objects w) v.handles ≡ true) → (every (sent_on_port w) w.messages ≡ true → every (sent_on_port w) v.messages ≡ true)
     → (every (has_near_queue w) w.waits ≡ true → every (has_near_queue w) v.waits ≡ true) → (All (port_stands w) w.threads → All (port_stands w) v.threads)
@@ -72,28 +83,28 @@ kept w v s handles senders queues registrations views = record {
     senders = every-more (sent_on_port w) (sent_on_port v) (λ m is. s.ports m.sender is) v.messages (senders n.senders);
     queues = every-more (has_near_queue w) (has_near_queue v) (λ x is. s.queues x is) v.waits (queues n.queues);
     registrations = every-more (port_stands w) (port_stands v) s.ports (all_registrations v) (registrations n.registrations);
-    views = every-more (shows_sections w) (shows_sections v) (λ t is. every-more (shows_standing w) (shows_standing v) (λ x is. s.sections x.section is) t.rows is) v.views (views n.views);
+    views = every-more (shows_sections w) (shows_sections v) (λ t is. every-more (shows_standing w) (shows_standing v) (shows-kept w v s.sections s.ports) t.rows is) v.views (views n.views);
   };
 }
 
 stays : (w : World) → StaysNear w w
-stays w = record { sections = λ b is. is; ports = λ b is. is; queues = λ x is. is; processes = λ b is. is; threads = λ b is. is }
+stays w = record { sections = λ b is. is; tokens = λ b is. is; ports = λ b is. is; queues = λ x is. is; processes = λ b is. is; threads = λ b is. is }
 
 -- a world whose ports stay, with other handles, messages, waits, or views
 handles-kept : (w : World) (handles : List HandleTable) → (every (tables_to_objects w) w.handles ≡ true → every (tables_to_objects w) handles ≡ true) → KeepsNames w (record w { handles = handles })
-handles-kept w handles all = let v : World = record w { handles = handles } in kept w v (record { sections = λ d is. is; ports = λ b is. is; queues = λ x is. is; processes = λ b is. is; threads = λ b is. is }) all (λ all. all) (λ all. all) (λ all. all) (λ all. all)
+handles-kept w handles all = let v : World = record w { handles = handles } in kept w v (record { sections = λ d is. is; tokens = λ d is. is; ports = λ b is. is; queues = λ x is. is; processes = λ b is. is; threads = λ b is. is }) all (λ all. all) (λ all. all) (λ all. all) (λ all. all)
 
 messages-kept : (w : World) (messages : List MessageRow) → (every (sent_on_port w) w.messages ≡ true → every (sent_on_port w) messages ≡ true) → KeepsNames w (record w { messages = messages })
-messages-kept w messages all = let v : World = record w { messages = messages } in kept w v (record { sections = λ d is. is; ports = λ b is. is; queues = λ x is. is; processes = λ b is. is; threads = λ b is. is }) (λ all. all) all (λ all. all) (λ all. all) (λ all. all)
+messages-kept w messages all = let v : World = record w { messages = messages } in kept w v (record { sections = λ d is. is; tokens = λ d is. is; ports = λ b is. is; queues = λ x is. is; processes = λ b is. is; threads = λ b is. is }) (λ all. all) all (λ all. all) (λ all. all) (λ all. all)
 
 waits-kept : (w : World) (waits : List WaitRow) → (every (has_near_queue w) w.waits ≡ true → every (has_near_queue w) waits ≡ true) → KeepsNames w (record w { waits = waits })
-waits-kept w waits all = let v : World = record w { waits = waits } in kept w v (record { sections = λ d is. is; ports = λ b is. is; queues = λ x is. is; processes = λ b is. is; threads = λ b is. is }) (λ all. all) (λ all. all) all (λ all. all) (λ all. all)
+waits-kept w waits all = let v : World = record w { waits = waits } in kept w v (record { sections = λ d is. is; tokens = λ d is. is; ports = λ b is. is; queues = λ x is. is; processes = λ b is. is; threads = λ b is. is }) (λ all. all) (λ all. all) all (λ all. all) (λ all. all)
 
 views-kept : (w : World) (views : List ViewTable) → (every (shows_sections w) w.views ≡ true → every (shows_sections w) views ≡ true) → KeepsNames w (record w { views = views })
-views-kept w views all = let v : World = record w { views = views } in kept w v (record { sections = λ d is. is; ports = λ b is. is; queues = λ x is. is; processes = λ b is. is; threads = λ b is. is }) (λ all. all) (λ all. all) (λ all. all) (λ all. all) all
+views-kept w views all = let v : World = record w { views = views } in kept w v (record { sections = λ d is. is; tokens = λ d is. is; ports = λ b is. is; queues = λ x is. is; processes = λ b is. is; threads = λ b is. is }) (λ all. all) (λ all. all) (λ all. all) (λ all. all) all
 
-accepted-near : (w : World) (reply : List ℕ) (x : WaitRow) → has_near_queue w x ≡ true → has_near_queue w (accepted reply x) ≡ true
-accepted-near w reply = by_kind (λ x. has_near_queue w x ≡ true → has_near_queue w (accepted reply x) ≡ true) (λ x m is. is) (λ x is. is) (λ x is. is) (λ x m is. is) (λ x m r is. is)
+accepted-near : (w : World) (reply : Acceptance) (x : WaitRow) → has_near_queue w x ≡ true → has_near_queue w (accepted reply x) ≡ true
+accepted-near w reply = by_kind (λ x. has_near_queue w x ≡ true → has_near_queue w (accepted reply x) ≡ true) (λ x m is. is) (λ x is. is) (λ x is. is) (λ x m offer is. is) (λ x m r is. is)
 
 put-all : (p : HandleRow → Bool) (h : HandleRow) (rows : List HandleRow) → p h ≡ true → every p rows ≡ true → every p (put_handle h rows) ≡ true
 put-all p h rows own all =
@@ -109,7 +120,7 @@ is_naming w (Enters m) = has (is_port m.sender) w.ports
 is_naming w (AddsHandle pid h) = names_object w h
 is_naming w (AddsThread t) = every (port_stands w) (registered_by t)
 is_naming w (Registers who b) = port_stands w b
-is_naming w (Maps pid x) = section_stands w x.section
+is_naming w (Maps pid x) = shows_standing w x
 is_naming w (Joins client server context) = false
 is_naming w (Cuts b) = false
 is_naming w (Frees o) = false
@@ -130,18 +141,19 @@ step-kept w v (Takes q) s is = messages-kept v _ (every-without_first (sent_on_p
 step-kept w v (TakesConnect q) s is = messages-kept v _ (every-without_first (sent_on_port v) (is_queued_connect q) v.messages)
 step-kept w v (Withdraws who) s is = messages-kept v _ (every-without (sent_on_port v) (is_own_of who) v.messages)
 step-kept w v (Empties q) s is = messages-kept v _ (every-without (sent_on_port v) (is_queued q) v.messages)
-step-kept w v (DrawsIdentifier who) s is = kept v (basic v (DrawsIdentifier who)) (record { sections = λ d is. is; ports = λ c is. is; queues = λ x is. is; processes = λ c is. is; threads = λ c is. rw (has-change (is_born_thread c) (is_thread who) past_identifier (λ t. refl) v.threads) is }) (λ all. all) (λ all. all) (λ all. all) (all-changed (port_stands v) (is_thread who) past_identifier (λ t all. all) v.threads) (λ all. all)
-step-kept w v (DrawsOrdinal who) s is = kept v (basic v (DrawsOrdinal who)) (record { sections = λ d is. is; ports = λ c is. is; queues = λ x is. is; processes = λ c is. is; threads = λ c is. rw (has-change (is_born_thread c) (is_thread who) past_ordinal (λ t. refl) v.threads) is }) (λ all. all) (λ all. all) (λ all. all) (all-changed (port_stands v) (is_thread who) past_ordinal (λ t all. all) v.threads) (λ all. all)
-step-kept w v (Dies who status) s is = kept v (basic v (Dies who status)) (record { sections = λ d is. is; ports = λ c is. is; queues = λ x is. is; processes = λ c is. is; threads = λ c is. rw (has-change (is_born_thread c) (is_thread who) ended (λ t. refl) v.threads) is }) (λ all. all) (λ all. all) (every-without (has_near_queue v) (waits_as who) v.waits) (all-changed (port_stands v) (is_thread who) ended (λ t all. refl) v.threads) (λ all. all)
-step-kept w v (Registers who b) s is = kept v (basic v (Registers who b)) (record { sections = λ d is. is; ports = λ c is. is; queues = λ x is. is; processes = λ c is. is; threads = λ c is. rw (has-change (is_born_thread c) (is_thread who) (registering b) (λ t. refl) v.threads) is }) (λ all. all) (λ all. all) (λ all. all) (all-changed (port_stands v) (is_thread who) (registering b) (registering-all (port_stands v) b (s.ports b is)) v.threads) (λ all. all)
-step-kept w v (Unregisters who b) s is = kept v (basic v (Unregisters who b)) (record { sections = λ d is. is; ports = λ c is. is; queues = λ x is. is; processes = λ c is. is; threads = λ c is. rw (has-change (is_born_thread c) (is_thread who) (unregistering b) (λ t. refl) v.threads) is }) (λ all. all) (λ all. all) (λ all. all) (all-changed (port_stands v) (is_thread who) (unregistering b) (unregistering-all (port_stands v) b) v.threads) (λ all. all)
-step-kept w v (AddsProcess p) s is = kept v (basic v (AddsProcess p)) (record { sections = λ d is. is; ports = λ b is. is; queues = λ x is. is; processes = λ b is. has-kept (is_born_process b) v.processes p is; threads = λ b is. is }) (λ all. every-push (tables_to_objects v) v.handles (no_handles p.number) all refl) (λ all. all) (λ all. all) (λ all. all) (λ all. every-push (shows_sections v) v.views (no_views p.number) all refl)
-step-kept w v (AddsThread t) s is = kept v (basic v (AddsThread t)) (record { sections = λ d is. is; ports = λ b is. is; queues = λ x is. is; processes = λ b is. is; threads = λ b is. has-kept (is_born_thread b) v.threads t is }) (λ all. all) (λ all. all) (λ all. all) (λ all. all-pushed (port_stands v) v.threads t (every-more (port_stands w) (port_stands v) s.ports (registered_by t) is) all) (λ all. all)
-step-kept w v (Makes p) s is = kept v (basic v (Makes p)) (record { sections = λ d is. is; ports = λ b is. has-kept (is_port b) v.ports p is; queues = λ x is. push-passes v p x.port (is_near x) is; processes = λ b is. is; threads = λ b is. is }) (λ all. all) (λ all. all) (λ all. all) (λ all. all) (λ all. all)
+step-kept w v (DrawsIdentifier who) s is = kept v (basic v (DrawsIdentifier who)) (record { sections = λ d is. is; tokens = λ d is. is; ports = λ c is. is; queues = λ x is. is; processes = λ c is. is; threads = λ c is. rw (has-change (is_born_thread c) (is_thread who) past_identifier (λ t. refl) v.threads) is }) (λ all. all) (λ all. all) (λ all. all) (all-changed (port_stands v) (is_thread who) past_identifier (λ t all. all) v.threads) (λ all. all)
+step-kept w v (DrawsOrdinal who) s is = kept v (basic v (DrawsOrdinal who)) (record { sections = λ d is. is; tokens = λ d is. is; ports = λ c is. is; queues = λ x is. is; processes = λ c is. is; threads = λ c is. rw (has-change (is_born_thread c) (is_thread who) past_ordinal (λ t. refl) v.threads) is }) (λ all. all) (λ all. all) (λ all. all) (all-changed (port_stands v) (is_thread who) past_ordinal (λ t all. all) v.threads) (λ all. all)
+step-kept w v (Dies who status) s is = kept v (basic v (Dies who status)) (record { sections = λ d is. is; tokens = λ d is. is; ports = λ c is. is; queues = λ x is. is; processes = λ c is. is; threads = λ c is. rw (has-change (is_born_thread c) (is_thread who) ended (λ t. refl) v.threads) is }) (λ all. all) (λ all. all) (every-without (has_near_queue v) (waits_as who) v.waits) (all-changed (port_stands v) (is_thread who) ended (λ t all. refl) v.threads) (λ all. all)
+step-kept w v (Registers who b) s is = kept v (basic v (Registers who b)) (record { sections = λ d is. is; tokens = λ d is. is; ports = λ c is. is; queues = λ x is. is; processes = λ c is. is; threads = λ c is. rw (has-change (is_born_thread c) (is_thread who) (registering b) (λ t. refl) v.threads) is }) (λ all. all) (λ all. all) (λ all. all) (all-changed (port_stands v) (is_thread who) (registering b) (registering-all (port_stands v) b (s.ports b is)) v.threads) (λ all. all)
+step-kept w v (Unregisters who b) s is = kept v (basic v (Unregisters who b)) (record { sections = λ d is. is; tokens = λ d is. is; ports = λ c is. is; queues = λ x is. is; processes = λ c is. is; threads = λ c is. rw (has-change (is_born_thread c) (is_thread who) (unregistering b) (λ t. refl) v.threads) is }) (λ all. all) (λ all. all) (λ all. all) (all-changed (port_stands v) (is_thread who) (unregistering b) (unregistering-all (port_stands v) b) v.threads) (λ all. all)
+step-kept w v (AddsProcess p) s is = kept v (basic v (AddsProcess p)) (record { sections = λ d is. is; tokens = λ d is. is; ports = λ b is. is; queues = λ x is. is; processes = λ b is. has-kept (is_born_process b) v.processes p is; threads = λ b is. is }) (λ all. every-push (tables_to_objects v) v.handles (no_handles p.number) all refl) (λ all. all) (λ all. all) (λ all. all) (λ all. every-push (shows_sections v) v.views (no_views p.number) all refl)
+step-kept w v (AddsThread t) s is = kept v (basic v (AddsThread t)) (record { sections = λ d is. is; tokens = λ d is. is; ports = λ b is. is; queues = λ x is. is; processes = λ b is. is; threads = λ b is. has-kept (is_born_thread b) v.threads t is }) (λ all. all) (λ all. all) (λ all. all) (λ all. all-pushed (port_stands v) v.threads t (every-more (port_stands w) (port_stands v) s.ports (registered_by t) is) all) (λ all. all)
+step-kept w v (Makes p) s is = kept v (basic v (Makes p)) (record { sections = λ d is. is; tokens = λ d is. is; ports = λ b is. has-kept (is_port b) v.ports p is; queues = λ x is. push-passes v p x.port (is_near x) is; processes = λ b is. is; threads = λ b is. is }) (λ all. all) (λ all. all) (λ all. all) (λ all. all) (λ all. all)
 step-kept w v (Joins client server context) s is = absurd (cc)
 step-kept w v (Completes b) s is =
     kept v (basic v (Completes b)) (record {
       sections = λ d is. is;
+      tokens = λ d is. is;
       ports = λ c is. rw (has-change (is_port c) (is_port b) completed (λ p. refl) v.ports) is;
       queues = λ x is. rw (passes-change (is_port x.port) (is_near x) (is_port b) completed (λ p. refl) (λ p. refl) v.ports) is;
       processes = λ c is. is;
@@ -149,19 +161,33 @@ step-kept w v (Completes b) s is =
     }) (λ all. all) (λ all. all) (λ all. all) (λ all. all) (λ all. all)
 step-kept w v (Cuts b) s is = absurd (cc)
 step-kept w v (Frees o) s is = absurd (cc)
-step-kept w v (Binds path node) s is = kept v (basic v (Binds path node)) (record { sections = λ d is. is; ports = λ b is. is; queues = λ x is. is; processes = λ b is. is; threads = λ b is. is }) (λ all. all) (λ all. all) (λ all. all) (λ all. all) (λ all. all)
-step-kept w v (Unbinds b) s is = kept v (basic v (Unbinds b)) (record { sections = λ d is. is; ports = λ b is. is; queues = λ x is. is; processes = λ b is. is; threads = λ b is. is }) (λ all. all) (λ all. all) (λ all. all) (λ all. all) (λ all. all)
+step-kept w v (Binds path node) s is = kept v (basic v (Binds path node)) (record { sections = λ d is. is; tokens = λ d is. is; ports = λ b is. is; queues = λ x is. is; processes = λ b is. is; threads = λ b is. is }) (λ all. all) (λ all. all) (λ all. all) (λ all. all) (λ all. all)
+step-kept w v (Unbinds b) s is = kept v (basic v (Unbinds b)) (record { sections = λ d is. is; tokens = λ d is. is; ports = λ b is. is; queues = λ x is. is; processes = λ b is. is; threads = λ b is. is }) (λ all. all) (λ all. all) (λ all. all) (λ all. all) (λ all. all)
 step-kept w v (AddsHandle pid h) s is = handles-kept v _ (every-change (tables_to_objects v) (is_table pid) (with_handle h) (λ t all. put-all (names_object v) h t.rows (to-object-kept w v s h is) all) v.handles)
 step-kept w v (DropsHandle pid value) s is = handles-kept v _ (every-change (tables_to_objects v) (is_table pid) (without_handle value) (λ t all. every-without_first (names_object v) (has_value value) t.rows all) v.handles)
-step-kept w v (AddsSection x) s is = kept v (basic v (AddsSection x)) (record { sections = λ d is. has-kept (is_section d) v.sections x is; ports = λ b is. is; queues = λ x is. is; processes = λ b is. is; threads = λ b is. is }) (λ all. all) (λ all. all) (λ all. all) (λ all. all) (λ all. all)
-step-kept w v (Writes b place new) s is = kept v (basic v (Writes b place new)) (record { sections = λ d is. is; ports = λ b is. is; queues = λ x is. is; processes = λ b is. is; threads = λ b is. is }) (λ all. all) (λ all. all) (λ all. all) (λ all. all) (λ all. all)
-step-kept w v (Maps pid x) s is = views-kept v _ (every-change (shows_sections v) (is_space pid) (with_view x) (λ t all. every-push (shows_standing v) t.rows x all (s.sections x.section is)) v.views)
+step-kept w v (Secures b y) s is =
+    kept v (basic v (Secures b y)) (record {
+      sections = λ d is. is;
+      tokens = λ d is. is;
+      ports = λ c is. rw (has-change (is_port c) (is_port b) (secured y) (λ p. refl) v.ports) is;
+      queues = λ x is. rw (passes-change (is_port x.port) (is_near x) (is_port b) (secured y) (λ p. refl) (λ p. refl) v.ports) is;
+      processes = λ c is. is;
+      threads = λ c is. is;
+    }) (λ all. all) (λ all. all) (λ all. all) (λ all. all) (λ all. all)
+step-kept w v (Acts who own) s is = kept v (basic v (Acts who own)) (record { sections = λ d is. is; tokens = λ d is. is; ports = λ c is. is; queues = λ x is. is; processes = λ c is. is; threads = λ c is. rw (has-change (is_born_thread c) (is_thread who) (acting own) (λ t. refl) v.threads) is }) (λ all. all) (λ all. all) (λ all. all) (all-changed (port_stands v) (is_thread who) (acting own) (λ t all. all) v.threads) (λ all. all)
+step-kept w v (AddsToken x) s is = kept v (basic v (AddsToken x)) (record { sections = λ d is. is; tokens = λ d is. has-kept (is_token d) v.tokens x is; ports = λ b is. is; queues = λ x is. is; processes = λ b is. is; threads = λ b is. is }) (λ all. all) (λ all. all) (λ all. all) (λ all. all) (λ all. all)
+step-kept w v (NamesToken n) s is = kept v (basic v (NamesToken n)) (record { sections = λ d is. is; tokens = λ d is. is; ports = λ b is. is; queues = λ x is. is; processes = λ b is. is; threads = λ b is. is }) (λ all. all) (λ all. all) (λ all. all) (λ all. all) (λ all. all)
+step-kept w v (AddsSection x) s is = kept v (basic v (AddsSection x)) (record { sections = λ d is. has-kept (is_section d) v.sections x is; tokens = λ d is. is; ports = λ b is. is; queues = λ x is. is; processes = λ b is. is; threads = λ b is. is }) (λ all. all) (λ all. all) (λ all. all) (λ all. all) (λ all. all)
+step-kept w v (Writes b place new) s is = kept v (basic v (Writes b place new)) (record { sections = λ d is. is; tokens = λ d is. is; ports = λ b is. is; queues = λ x is. is; processes = λ b is. is; threads = λ b is. is }) (λ all. all) (λ all. all) (λ all. all) (λ all. all) (λ all. all)
+step-kept w v (Maps pid x) s is = views-kept v _ (every-change (shows_sections v) (is_space pid) (with_view x) (λ t all. every-push (shows_standing v) t.rows x all (shows-kept w v s.sections s.ports x is)) v.views)
 step-kept w v (Unmaps pid base) s is = views-kept v _ (every-change (shows_sections v) (is_space pid) (without_view base) (λ t all. every-without (shows_standing v) (lies_at base) t.rows all) v.views)
+step-kept w v (DropsOwned b) s is = views-kept v _ (every-mapped (shows_sections v) (without_owned b) (λ t all. every-without (shows_standing v) (is_owned_by b) t.rows all) v.views)
 step-kept w v (DropsViewsOf pid) s is = views-kept v _ (every-change (shows_sections v) (is_space pid) without_views (λ t all. refl) v.views)
 
 near-then : (w v u : World) → StaysNear w v → StaysNear v u → StaysNear w u
 near-then w v u a b = record {
   sections = λ c is. b.sections c (a.sections c is);
+  tokens = λ c is. b.tokens c (a.tokens c is);
   ports = λ c is. b.ports c (a.ports c is);
   queues = λ x is. b.queues x (a.queues x is);
   processes = λ c is. b.processes c (a.processes c is);
@@ -206,11 +232,11 @@ cut-names w b free n =
     let v = basic w (Cuts b) in
     let stands = λ (c : Birth) (is : has (is_port c) w.ports ≡ true). subst (λ h. h ≡ true) (sym (has-change (is_port c) (is_end_of b) cut (λ p. refl) w.ports)) is in
     record {
-      handles = every-more (tables_to_objects w) (tables_to_objects v) (λ t is. every-more (names_object w) (names_object v) (object-kept w v stands (λ c is. is) (λ c is. is) (λ c is. is)) t.rows is) w.handles n.handles;
+      handles = every-more (tables_to_objects w) (tables_to_objects v) (λ t is. every-more (names_object w) (names_object v) (object-kept w v stands (λ c is. is) (λ c is. is) (λ c is. is) (λ c is. is)) t.rows is) w.handles n.handles;
       senders = every-more (sent_on_port w) (sent_on_port v) (λ m. stands m.sender) w.messages n.senders;
       queues = every-both (λ x. not (is_cut_request w b x)) (has_near_queue w) (has_near_queue v) (λ x none is. cut-near w b x none is) w.waits free n.queues;
       registrations = every-more (port_stands w) (port_stands v) stands (all_registrations w) n.registrations;
-      views = n.views;
+      views = every-more (shows_sections w) (shows_sections v) (λ t is. every-more (shows_standing w) (shows_standing v) (shows-kept w v (λ c is. is) stands) t.rows is) w.views n.views;
     }
 
 -- A row that goes
@@ -221,7 +247,7 @@ port-left w b c off is = has-without (is_port c) (is_port b) w.ports (every-any 
     apart : (d : Birth) → (not (same_birth d b) || not (same_birth d c)) ≡ true
     apart d = grind (arith, nat_tests)
 
--- so with a process, a thread and a section
+-- so with a process, a thread, a section and a token
 born-left : {X : Type 0} (birth : X → Birth) (b c : Birth) (xs : List X) → same_birth c b ≡ false → has (λ x. same_birth (birth x) c) xs ≡ true → has (λ x. same_birth (birth x) c) (without (λ x. same_birth (birth x) b) xs) ≡ true
 born-left birth b c xs off is = has-without (λ x. same_birth (birth x) c) (λ x. same_birth (birth x) b) xs (every-any (λ x. not (same_birth (birth x) b) || not (same_birth (birth x) c)) (λ x. apart (birth x)) xs) is
   where
@@ -238,22 +264,29 @@ handle-left w o h is off = at o.kind o.birth h.object.kind h.object.birth is off
     at : (k : ObjectKind) (b : Birth) (l : ObjectKind) (c : Birth) → stands_as w l c ≡ true → not (same_kind l k && same_birth c b) ≡ true → stands_as (freed w k b) l c ≡ true
     at kind.Port b kind.Port c is off = port-left w b c (apart (same_birth c b) off) is
     at kind.Port b kind.Section c is off = is
+    at kind.Port b kind.Token c is off = is
     at kind.Port b kind.Process c is off = is
     at kind.Port b kind.Thread c is off = is
     at kind.Section b kind.Port c is off = is
     at kind.Section b kind.Section c is off = born-left (λ (s : SectionRow). s.birth) b c w.sections (apart (same_birth c b) off) is
+    at kind.Section b kind.Token c is off = is
     at kind.Section b kind.Process c is off = is
     at kind.Section b kind.Thread c is off = is
-    at kind.Token b l c is off = is
+    at kind.Token b kind.Port c is off = is
+    at kind.Token b kind.Section c is off = is
+    at kind.Token b kind.Token c is off = born-left (λ (t : TokenRow). t.birth) b c w.tokens (apart (same_birth c b) off) is
+    at kind.Token b kind.Process c is off = is
+    at kind.Token b kind.Thread c is off = is
     at kind.Process b kind.Port c is off = is
     at kind.Process b kind.Section c is off = is
+    at kind.Process b kind.Token c is off = is
     at kind.Process b kind.Process c is off = born-left (λ (p : ProcessRow). p.birth) b c w.processes (apart (same_birth c b) off) is
     at kind.Process b kind.Thread c is off = is
     at kind.Thread b kind.Port c is off = is
     at kind.Thread b kind.Section c is off = is
+    at kind.Thread b kind.Token c is off = is
     at kind.Thread b kind.Process c is off = is
     at kind.Thread b kind.Thread c is off = born-left (λ (t : ThreadRow). t.birth) b c w.threads (apart (same_birth c b) off) is
-    at k b kind.Token c is off = absurd (cc)
 
 -- where no row counts for an object, no handle names it, and those that are left name what stands
 handles-left : (w : World) (o : ObjectName) → pointer_count w o ≤ 0 → NamesWhatStands w → every (tables_to_objects (basic w (Frees o))) w.handles ≡ true
@@ -266,24 +299,32 @@ handles-left w o few n =
 port-names : (w : World) (b : Birth) → pointer_count w (port_name b) ≤ 0 → NamesWhatStands w → NamesWhatStands (basic w (Frees (port_name b)))
 port-names w b few n =
     let v = basic w (Frees (port_name b)) in
-    let held : count (is_paired_to b) w.ports + (count (is_connected_to b) w.ports + (count (is_sent_on b) w.messages + (count (is_made_on b) w.waits + count (same_birth b) (all_registrations w)))) ≤ 0 = sum-second _ _ few in
+    let held : count (is_paired_to b) w.ports + (count (is_connected_to b) w.ports + (count (is_sent_on b) w.messages + (count (is_made_on b) w.waits + (count (same_birth b) (all_registrations w) + count (is_owned_by b) (all_views w))))) ≤ 0 = sum-second _ _ few in
     let made = none-pass (is_made_on b) w.waits (omega (arith, held)) in
     let sent = none-pass (is_sent_on b) w.messages (omega (arith, held)) in
     let unregistered = none-pass (same_birth b) (all_registrations w) (omega (arith, held)) in
+    let unowned = none-pass (is_owned_by b) (all_views w) (omega (arith, held)) in
     record {
       handles = handles-left w (port_name b) few n;
       senders = every-both (sent_on_port w) (λ m. not (is_sent_on b m)) (sent_on_port v) (λ m is off. port-left w b m.sender (not-true (same_birth m.sender b) off) is) w.messages n.senders sent;
       queues = every-both (has_near_queue w) (λ x. not (is_made_on b x)) (has_near_queue v) (λ x is off. rw (row-freed w b x.port (not-true (same_birth x.port b) off)) is) w.waits n.queues made;
       registrations = every-both (port_stands w) (λ c. not (same_birth b c)) (port_stands v) (λ c is off. port-left w b c (births-apart b c (not-true (same_birth b c) off)) is) (all_registrations w) n.registrations unregistered;
-      views = n.views;
+      views = every-both (shows_sections w) (λ t. every (λ x. not (is_owned_by b x)) t.rows) (shows_sections v) (λ t is off. every-both (shows_standing w) (λ x. not (is_owned_by b x)) (shows_standing v) (λ x is off. left x is (owned x.owner off (second-true (section_stands w x.section) _ is))) t.rows is off) w.views n.views (sym (every-each (λ x. not (is_owned_by b x)) (λ (t : ViewTable). t.rows) w.views) ∙ unowned);
     }
+  where
+    left : (x : ViewRow) → shows_standing w x ≡ true → passes_or_none x.owner (port_stands (basic w (Frees (port_name b)))) ≡ true → shows_standing (basic w (Frees (port_name b))) x ≡ true
+    left x is owns = and_from (section_stands w x.section) _ (first-true (section_stands w x.section) _ is) owns
+
+    owned : (o : Option Birth) → not (is_the b o) ≡ true → passes_or_none o (port_stands w) ≡ true → passes_or_none o (port_stands (basic w (Frees (port_name b)))) ≡ true
+    owned None off is = refl
+    owned (Some c) off is = port-left w b c (births-apart b c (not-true (same_birth b c) off)) is
 
 -- a section that no row counts for goes: no view shows it
 section-names : (w : World) (b : Birth) → pointer_count w (section_name b) ≤ 0 → NamesWhatStands w → NamesWhatStands (basic w (Frees (section_name b)))
 section-names w b few n =
     let gone = basic w (Frees (section_name b)) in
-    let unshown = none-pass (shows_section b) (all_views w) (sum-second (handle_count w (section_name b)) (count (shows_section b) (all_views w)) few) in
-    let left = λ (x : ViewRow) (is : section_stands w x.section ≡ true) (off : not (shows_section b x) ≡ true). born-left (λ (s : SectionRow). s.birth) b x.section w.sections (not-true (same_birth x.section b) off) is in
+    let unshown = none-pass (shows_section b) (all_views w) (sum-first (count (shows_section b) (all_views w)) (count (offers_section b) w.waits) (sum-second (handle_count w (section_name b)) _ few)) in
+    let left = λ (x : ViewRow) (is : shows_standing w x ≡ true) (off : not (shows_section b x) ≡ true). and_from (section_stands gone x.section) _ (born-left (λ (s : SectionRow). s.birth) b x.section w.sections (not-true (same_birth x.section b) off) (first-true (section_stands w x.section) _ is)) (second-true (section_stands w x.section) _ is) in
     record {
       handles = handles-left w (section_name b) few n;
       senders = n.senders;
@@ -298,7 +339,7 @@ gone-names w o none n = at o.kind o.birth (is-zero (pointer_count w o) none)
     at : (k : ObjectKind) (b : Birth) → pointer_count w (record { kind = k; birth = b }) ≤ 0 → NamesWhatStands (basic w (Frees (record { kind = k; birth = b })))
     at kind.Port b few = port-names w b few n
     at kind.Section b few = section-names w b few n
-    at kind.Token b few = n
+    at kind.Token b few = record { handles = handles-left w (token_name b) few n; senders = n.senders; queues = n.queues; registrations = n.registrations; views = n.views }
     at kind.Process b few = record { handles = handles-left w (process_name b) few n; senders = n.senders; queues = n.queues; registrations = n.registrations; views = n.views }
     at kind.Thread b few = record { handles = handles-left w (thread_name b) few n; senders = n.senders; queues = n.queues; registrations = all-left (port_stands w) (λ t. same_birth t.birth b) w.threads n.registrations; views = n.views }
 
@@ -320,7 +361,7 @@ swept-names w n =
 pub unheld_no_queue : (w : World) (b : Birth) → NamesWhatStands w → is_unheld w (port_name b) ≡ true → every (λ x. not (same_birth x.queue b)) w.waits ≡ true
 unheld_no_queue w b n none =
     let few = is-zero (pointer_count w (port_name b)) none in
-    let held : count (is_paired_to b) w.ports + (count (is_connected_to b) w.ports + (count (is_sent_on b) w.messages + (count (is_made_on b) w.waits + count (same_birth b) (all_registrations w)))) ≤ 0 = sum-second _ _ few in
+    let held : count (is_paired_to b) w.ports + (count (is_connected_to b) w.ports + (count (is_sent_on b) w.messages + (count (is_made_on b) w.waits + (count (same_birth b) (all_registrations w) + count (is_owned_by b) (all_views w))))) ≤ 0 = sum-second _ _ few in
     let made = none-pass (is_made_on b) w.waits (omega (arith, held)) in
     let unpaired = none-pass (is_paired_to b) w.ports (omega (arith, held)) in
     let unconnected = none-pass (is_connected_to b) w.ports (omega (arith, held)) in

@@ -3,11 +3,12 @@ use Rattle.std.proofs.Common.{◌≡◌, ◌∙◌, ℕ, ◌≤◌, List, [], �
 use Rattle.lpc_base.specs.Rows.{count, each, every, which}
 use Rattle.lpc_base.proofs.RowWords.{count-left, every-append, every-more, every-without}
 use Rattle.lpc_base.specs.declared.status.TheConstants.{LPC_REPLY_LOST, PORT_DISCONNECTED}
+use Rattle.lpc_base.proofs.RowMaps.{every-mapped}
 use Rattle.lpc_names.specs.Binding.{is_name}
-use Rattle.lpc_model.specs.World.{Birth, MessageRow, Node, Path, WaitRow, World}
-use Rattle.lpc_model.specs.Found.{is_own_of, is_queued, same_birth, waits_as}
-use Rattle.lpc_model.specs.Basics.{Basic, Cuts, Empties, Steps, Unbinds, Wakes, Withdraws, basic, doing, end_each, world_after, ◌▹◌}
-use Rattle.lpc_model.specs.Close.{close_port, cut_pair, drop_name, empty_queue, end_accepted, end_offered, end_receives, end_request, end_requests, is_accepted_across, is_offered_to, is_queued_request, is_receive_across, is_receiver, is_request_across, is_request_on, post_closed, wake}
+use Rattle.lpc_model.specs.World.{Birth, MessageRow, Node, Path, ViewRow, WaitRow, World}
+use Rattle.lpc_model.specs.Found.{is_own_of, is_owned_by, is_queued, same_birth, waits_as}
+use Rattle.lpc_model.specs.Basics.{Basic, Cuts, DropsOwned, Empties, Steps, Unbinds, Wakes, Withdraws, basic, doing, end_each, without_owned, world_after, ◌▹◌}
+use Rattle.lpc_model.specs.Close.{close_port, cut_pair, drop_name, drop_owned, empty_queue, end_accepted, end_offered, end_receives, end_request, end_requests, is_accepted_across, is_offered_to, is_queued_request, is_receive_across, is_receiver, is_request_across, is_request_on, post_closed, wake}
 use Rattle.lpc_model.proofs.Steps.Rows.{every-left}
 use Rattle.lpc_model.proofs.Steps.InTurn.{after-append}
 
@@ -16,7 +17,7 @@ use Rattle.lpc_model.proofs.Steps.InTurn.{after-append}
 pub then-holds : (P : World → Type 0) (f g : Steps) (w : World) → P (world_after (world_after w (f w)) (g (world_after w (f w)))) → P (world_after w ((f ▹ g) w))
 then-holds P f g w is = subst P (sym (after-append w (f w) (g (world_after w (f w))))) is
 
--- the worlds behind the first five steps
+-- the worlds behind the first six steps
 abbrev pub behind : Steps → World → World
 behind f w = world_after w (f w)
 
@@ -34,6 +35,9 @@ stage_four w b = behind (empty_queue b) (stage_three w b)
 
 abbrev pub stage_five : World → Birth → World
 stage_five w b = behind (cut_pair b) (stage_four w b)
+
+abbrev pub stage_six : World → Birth → World
+stage_six w b = behind (post_closed b) (stage_five w b)
 
 -- the parts of the fourth and of the fifth
 abbrev unrequested : World → Birth → World
@@ -70,24 +74,26 @@ cut-is w b =
     (then-holds P receives (accepts ▹ last) (unasked w b)
     (then-holds P accepts last (unreceived w b) refl))
 
--- the six steps leave what the post leaves behind the fifth
-pub closed-is : (w : World) (b : Birth) → world_after w (close_port b w) ≡ behind (post_closed b) (stage_five w b)
+-- the seven steps leave what the post leaves behind the fifth, without the views that the port owned
+pub closed-is : (w : World) (b : Birth) → world_after w (close_port b w) ≡ basic (stage_six w b) (DropsOwned b)
 unfolding close_port
 closed-is w b =
-    let P : World → Type 0 = λ u. u ≡ behind (post_closed b) (stage_five w b) in
-    then-holds P (drop_name b) (end_receives b ▹ (end_requests b ▹ (empty_queue b ▹ (cut_pair b ▹ post_closed b)))) w
-    (then-holds P (end_receives b) (end_requests b ▹ (empty_queue b ▹ (cut_pair b ▹ post_closed b))) (stage_one w b)
-    (then-holds P (end_requests b) (empty_queue b ▹ (cut_pair b ▹ post_closed b)) (stage_two w b)
-    (then-holds P (empty_queue b) (cut_pair b ▹ post_closed b) (stage_three w b)
-    (then-holds P (cut_pair b) (post_closed b) (stage_four w b) refl))))
+    let P : World → Type 0 = λ u. u ≡ basic (stage_six w b) (DropsOwned b) in
+    then-holds P (drop_name b) (end_receives b ▹ (end_requests b ▹ (empty_queue b ▹ (cut_pair b ▹ (post_closed b ▹ drop_owned b))))) w
+    (then-holds P (end_receives b) (end_requests b ▹ (empty_queue b ▹ (cut_pair b ▹ (post_closed b ▹ drop_owned b)))) (stage_one w b)
+    (then-holds P (end_requests b) (empty_queue b ▹ (cut_pair b ▹ (post_closed b ▹ drop_owned b))) (stage_two w b)
+    (then-holds P (empty_queue b) (cut_pair b ▹ (post_closed b ▹ drop_owned b)) (stage_three w b)
+    (then-holds P (cut_pair b) (post_closed b ▹ drop_owned b) (stage_four w b)
+    (then-holds P (post_closed b) (drop_owned b) (stage_five w b) refl)))))
 
 -- Steps that take away
--- a step takes waits, messages or names away, and nothing else
+-- a step takes waits, messages, names or views away, and nothing else
 abbrev pub takes_away : Basic → Bool
 takes_away (Wakes who call status fields) = true
 takes_away (Withdraws who) = true
 takes_away (Empties q) = true
 takes_away (Unbinds b) = true
+takes_away (DropsOwned b) = true
 takes_away b = false
 
 abbrev TakeAway : List Basic → Type 0
@@ -133,18 +139,19 @@ module _ (p : Basic → Bool) (away : (x : Basic) → takes_away x ≡ true → 
       (then-pass accepts last (behind receives (behind requests w)) (ends-pass (is_accepted_across b) end_accepted (λ x. refl) (behind receives (behind requests w)))
       (one-step (Cuts b) cuts)))
 
-  -- the six steps pass where the cut does, and the post behind the fifth
+  -- the seven steps pass where the cut does, and the post behind the fifth
   pub close-pass : (b : Birth) (w : World) → p (Cuts b) ≡ true → all_pass (post_closed b (stage_five w b)) → all_pass (close_port b w)
   unfolding close_port
   close-pass b w cuts posts =
-      then-pass (drop_name b) (end_receives b ▹ (end_requests b ▹ (empty_queue b ▹ (cut_pair b ▹ post_closed b)))) w (passing (Unbinds b ∷ []) refl)
-      (then-pass (end_receives b) (end_requests b ▹ (empty_queue b ▹ (cut_pair b ▹ post_closed b))) (stage_one w b) (ends-pass (λ w. is_receiver b) (wake PORT_DISCONNECTED) (λ x. refl) (stage_one w b))
-      (then-pass (end_requests b) (empty_queue b ▹ (cut_pair b ▹ post_closed b)) (stage_two w b) (ends-pass (λ w. is_request_on b) (end_request PORT_DISCONNECTED) (λ x. refl) (stage_two w b))
-      (then-pass (empty_queue b) (cut_pair b ▹ post_closed b) (stage_three w b) (queue-pass b (stage_three w b))
-      (then-pass (cut_pair b) (post_closed b) (stage_four w b) (pair-pass b (stage_four w b) cuts) posts))))
+      then-pass (drop_name b) (end_receives b ▹ (end_requests b ▹ (empty_queue b ▹ (cut_pair b ▹ (post_closed b ▹ drop_owned b))))) w (passing (Unbinds b ∷ []) refl)
+      (then-pass (end_receives b) (end_requests b ▹ (empty_queue b ▹ (cut_pair b ▹ (post_closed b ▹ drop_owned b)))) (stage_one w b) (ends-pass (λ w. is_receiver b) (wake PORT_DISCONNECTED) (λ x. refl) (stage_one w b))
+      (then-pass (end_requests b) (empty_queue b ▹ (cut_pair b ▹ (post_closed b ▹ drop_owned b))) (stage_two w b) (ends-pass (λ w. is_request_on b) (end_request PORT_DISCONNECTED) (λ x. refl) (stage_two w b))
+      (then-pass (empty_queue b) (cut_pair b ▹ (post_closed b ▹ drop_owned b)) (stage_three w b) (queue-pass b (stage_three w b))
+      (then-pass (cut_pair b) (post_closed b ▹ drop_owned b) (stage_four w b) (pair-pass b (stage_four w b) cuts)
+      (then-pass (post_closed b) (drop_owned b) (stage_five w b) posts (passing (DropsOwned b ∷ []) refl))))))
 
 -- Worlds with fewer rows
--- what holds of each wait, message and name still does, and all other rows that a closing touches are as they were
+-- what holds of each wait, message, name and view still does, and all other rows that a closing touches are as they were
 pub record IsFewer (w v : World) : Type 0 where
   pub waits : (f : WaitRow → Bool) → every f w.waits ≡ true → every f v.waits ≡ true
   pub messages : (f : MessageRow → Bool) → every f w.messages ≡ true → every f v.messages ≡ true
@@ -155,10 +162,11 @@ pub record IsFewer (w v : World) : Type 0 where
   pub processes : v.processes ≡ w.processes
   pub threads : v.threads ≡ w.threads
   pub sections : v.sections ≡ w.sections
-  pub views : v.views ≡ w.views
+  pub tokens : v.tokens ≡ w.tokens
+  pub views : (f : ViewRow → Bool) → every (λ t. every f t.rows) w.views ≡ true → every (λ t. every f t.rows) v.views ≡ true
 
 fewer-none : (w : World) → IsFewer w w
-fewer-none w = record { waits = λ f all. all; messages = λ f all. all; counts = λ f. omega arith; bindings = λ f all. all; ports = refl; handles = refl; processes = refl; threads = refl; sections = refl; views = refl }
+fewer-none w = record { waits = λ f all. all; messages = λ f all. all; counts = λ f. omega arith; bindings = λ f all. all; ports = refl; handles = refl; processes = refl; threads = refl; sections = refl; tokens = refl; views = λ f all. all }
 
 fewer-then : (w v u : World) → IsFewer w v → IsFewer v u → IsFewer w u
 fewer-then w v u a b = record {
@@ -171,17 +179,19 @@ fewer-then w v u a b = record {
   processes = b.processes ∙ a.processes;
   threads = b.threads ∙ a.threads;
   sections = b.sections ∙ a.sections;
-  views = b.views ∙ a.views;
+  tokens = b.tokens ∙ a.tokens;
+  views = λ f all. b.views f (a.views f all);
 }
   where
     at-most : (k n m : ℕ) → k ≤ n → n ≤ m → k ≤ m
     at-most k n m one two = omega (arith, one, two)
 
 fewer-step : (w : World) (x : Basic) → takes_away x ≡ true → IsFewer w (basic w x)
-fewer-step w (Wakes who call status fields) is = record { waits = λ f all. every-without f (waits_as who) w.waits all; messages = λ f all. all; counts = λ f. omega arith; bindings = λ f all. all; ports = refl; handles = refl; processes = refl; threads = refl; sections = refl; views = refl }
-fewer-step w (Withdraws who) is = record { waits = λ f all. all; messages = λ f all. every-without f (is_own_of who) w.messages all; counts = λ f. count-left f (is_own_of who) w.messages; bindings = λ f all. all; ports = refl; handles = refl; processes = refl; threads = refl; sections = refl; views = refl }
-fewer-step w (Empties q) is = record { waits = λ f all. all; messages = λ f all. every-without f (is_queued q) w.messages all; counts = λ f. count-left f (is_queued q) w.messages; bindings = λ f all. all; ports = refl; handles = refl; processes = refl; threads = refl; sections = refl; views = refl }
-fewer-step w (Unbinds b) is = record { waits = λ f all. all; messages = λ f all. all; counts = λ f. omega arith; bindings = λ f all. every-without f (is_name same_birth b) w.bindings all; ports = refl; handles = refl; processes = refl; threads = refl; sections = refl; views = refl }
+fewer-step w (Wakes who call status fields) is = record { waits = λ f all. every-without f (waits_as who) w.waits all; messages = λ f all. all; counts = λ f. omega arith; bindings = λ f all. all; ports = refl; handles = refl; processes = refl; threads = refl; sections = refl; tokens = refl; views = λ f all. all }
+fewer-step w (Withdraws who) is = record { waits = λ f all. all; messages = λ f all. every-without f (is_own_of who) w.messages all; counts = λ f. count-left f (is_own_of who) w.messages; bindings = λ f all. all; ports = refl; handles = refl; processes = refl; threads = refl; sections = refl; tokens = refl; views = λ f all. all }
+fewer-step w (Empties q) is = record { waits = λ f all. all; messages = λ f all. every-without f (is_queued q) w.messages all; counts = λ f. count-left f (is_queued q) w.messages; bindings = λ f all. all; ports = refl; handles = refl; processes = refl; threads = refl; sections = refl; tokens = refl; views = λ f all. all }
+fewer-step w (Unbinds b) is = record { waits = λ f all. all; messages = λ f all. all; counts = λ f. omega arith; bindings = λ f all. every-without f (is_name same_birth b) w.bindings all; ports = refl; handles = refl; processes = refl; threads = refl; sections = refl; tokens = refl; views = λ f all. all }
+fewer-step w (DropsOwned b) is = record { waits = λ f all. all; messages = λ f all. all; counts = λ f. omega arith; bindings = λ f all. all; ports = refl; handles = refl; processes = refl; threads = refl; sections = refl; tokens = refl; views = λ f all. every-mapped (λ t. every f t.rows) (without_owned b) (λ t is. every-without f (is_owned_by b) t.rows is) w.views all }
 fewer-step w x is = absurd (cc)
 
 fewer-all : (w : World) (bs : List Basic) → TakeAway bs → IsFewer w (world_after w bs)

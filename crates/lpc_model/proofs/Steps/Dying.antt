@@ -5,12 +5,12 @@ use Rattle.lpc_base.specs.Rows.{change, each, every, which, without}
 use Rattle.lpc_base.specs.declared.status.Status.{Status}
 use Rattle.lpc_base.specs.declared.status.TheConstants.{LPC_REPLY_LOST, PORT_DISCONNECTED}
 use Rattle.lpc_base.proofs.RowWords.{which-without}
-use Rattle.lpc_model.specs.World.{Birth, MessageRow, ThreadRow, WaitRow, World}
+use Rattle.lpc_model.specs.World.{Birth, MessageRow, ThreadRow, ViewTable, WaitRow, World}
 use Rattle.lpc_model.specs.Found.{is_own_of, is_thread, waits_as}
 use Rattle.lpc_model.specs.Basics.{Cuts, Steps, basic, doing, end_each, ended, world_after, ◌▹◌}
 use Rattle.lpc_model.specs.Close.{cut_pair, end_accepted, end_request, is_accepted_across, is_receive_across, is_request_across, wake}
 use Rattle.lpc_model.proofs.Steps.Closing.{behind, then-holds}
-use Rattle.lpc_model.proofs.Sound.Cuts.{ended-world, rest}
+use Rattle.lpc_model.proofs.Sound.Cuts.{disowned, ended-world, rest}
 use Rattle.std.proofs.lemmas.Bool.{eqb-true}
 
 -- Rows that go by two tests
@@ -65,12 +65,20 @@ rest-less n (x ∷ xs) ws = at (waits_as n x) refl (rest-less n xs)
     at false is later =
         rw is (ap (λ vs. rest (without (waits_as n) xs) vs) (without-swap (waits_as x.thread) (waits_as n) ws) ∙ later (without (waits_as x.thread) ws))
 
-gone-accepted : (n : ℕ) (b : Birth) (w : World) → behind (end_each (is_accepted_across b) end_accepted) (gone n w) ≡ gone n (behind (end_each (is_accepted_across b) end_accepted) w)
+-- the tables of views, without those of the client ports of the other threads
+abbrev pub others_left : ℕ → Birth → World → List ViewTable
+others_left n b w = disowned (which (is_accepted_across b w) (without (waits_as n) w.waits)) w.views
+
+-- a world with other tables of views
+abbrev pub showing : List ViewTable → World → World
+showing views w = record w { views = views }
+
+gone-accepted : (n : ℕ) (b : Birth) (w : World) → behind (end_each (is_accepted_across b) end_accepted) (gone n w) ≡ showing (others_left n b w) (gone n (behind (end_each (is_accepted_across b) end_accepted) w))
 gone-accepted n b w =
     let xs = which (is_accepted_across b w) w.waits in
     ended-world (which (is_accepted_across b w) (without (waits_as n) w.waits)) (gone n w)
-    ∙ (gone-same w _ _ (without (is_own_of n) w.messages) _ (change (is_thread n) ended w.threads) (ap (λ vs. rest vs (without (waits_as n) w.waits)) (which-without (is_accepted_across b w) (waits_as n) w.waits) ∙ rest-less n xs w.waits) refl
-    ∙ ap (gone n) (sym (ended-world xs w)))
+    ∙ (ap (showing (others_left n b w)) (gone-same w _ _ (without (is_own_of n) w.messages) _ (change (is_thread n) ended w.threads) (ap (λ vs. rest vs (without (waits_as n) w.waits)) (which-without (is_accepted_across b w) (waits_as n) w.waits) ∙ rest-less n xs w.waits) refl)
+    ∙ ap (λ v. showing (others_left n b w) (gone n v)) (sym (ended-world xs w)))
 
 -- so a connection is cut behind it as before it
 abbrev pub asked_across : Birth → World → World
@@ -94,7 +102,7 @@ cut-parts b w =
     (then-holds P accepts last (received_across b w) refl))
 
 pub gone-cut : (n : ℕ) (b : Birth) (w : World) → every (λ z. not (waits_as n z) || not (is_request_across b w z)) w.waits ≡ true → every (λ z. not (waits_as n z) || not (is_receive_across b (asked_across b w) z)) (asked_across b w).waits ≡ true
-    → behind (cut_pair b) (gone n w) ≡ gone n (behind (cut_pair b) w)
+    → behind (cut_pair b) (gone n w) ≡ showing (others_left n b (received_across b w)) (gone n (behind (cut_pair b) w))
 gone-cut n b w one two =
     let v = asked_across b w in
     let first = ap (λ xs. world_after (gone n w) (each (end_request LPC_REPLY_LOST) xs)) (which-apart (is_request_across b w) (waits_as n) w.waits one) ∙ gone-request LPC_REPLY_LOST n (which (is_request_across b w) w.waits) w in
@@ -103,4 +111,4 @@ gone-cut n b w one two =
     ∙ (ap (λ u. basic (behind (end_each (is_accepted_across b) end_accepted) (behind (end_each (is_receive_across b) (wake PORT_DISCONNECTED)) u)) (Cuts b)) first
     ∙ (ap (λ u. basic (behind (end_each (is_accepted_across b) end_accepted) u) (Cuts b)) second
     ∙ (ap (λ u. basic u (Cuts b)) (gone-accepted n b (received_across b w))
-    ∙ ap (gone n) (sym (cut-parts b w)))))
+    ∙ ap (λ v. showing (others_left n b (received_across b w)) (gone n v)) (sym (cut-parts b w)))))

@@ -2,7 +2,7 @@
 use Rattle.std.proofs.Common.{Bool, List, None, Option, Some, [], ap, arith, cond, false, not, refl, subst, sym, true, ℕ, ◌++◌, ◌∙◌, ◌∷◌, ◌≡◌}
 use Rattle.std.specs.Prelude.{Ok, option_and_then, option_map, ◌&&◌, ◌==◌}
 use Rattle.std.proofs.lemmas.Bool.Decides.{nat_tests}
-use Rattle.std.proofs.lemmas.Bool.{not-false}
+use Rattle.std.proofs.lemmas.Bool.{and_from, not-false}
 use Rattle.lpc_base.specs.Rows.{change, every, first, given, has, when, without_first}
 use Rattle.lpc_base.specs.declared.status.Status.{Status}
 use Rattle.lpc_base.specs.declared.status.TheConstants.{INVALID_CID}
@@ -11,14 +11,14 @@ use Rattle.lpc_base.proofs.Births.{birth-same}
 use Rattle.lpc_model.specs.declared.entry.CallName.{CallName}
 use Rattle.lpc_model.specs.declared.entry.CallName.TheVariants.{NtTerminateThread}
 use Rattle.lpc_model.specs.World.{Birth, Creator, HandleRow, HandleTable, MessageRow, PortRow, ThreadRow, WaitRow, World}
-use Rattle.lpc_model.specs.Found.{handle_at, handles_of, has_value, is_accepted, is_live, is_open, is_port, is_table, port_row, route, rows_in, wait_of, way}
-use Rattle.lpc_model.specs.Basics.{Accepts, AddsHandle, AddsProcess, AddsSection, AddsThread, Awaits, Basic, Binds, Completes, Cuts, Dies, DrawsIdentifier, DrawsOrdinal, DropsHandle, DropsViewsOf, Empties, Frees, Joins, Makes, Maps, Receives, Registers, Steps, Takes, TakesConnect, Unbinds, Unmaps, Unregisters, Wakes, Withdraws, Writes, basic, doing, in_turn, provided, without_handle, world_after, ◌▹◌}
+use Rattle.lpc_model.specs.Found.{handle_at, handles_of, has_value, is_accepted, is_connect, is_live, is_open, is_port, is_table, port_row, route, rows_in, wait_of, way}
+use Rattle.lpc_model.specs.Basics.{Accepts, AddsHandle, AddsProcess, AddsSection, AddsThread, Awaits, Basic, Binds, Completes, Cuts, Dies, DrawsIdentifier, DrawsOrdinal, DropsHandle, DropsOwned, DropsViewsOf, Empties, Frees, Joins, Makes, Maps, Receives, Registers, Steps, Takes, TakesConnect, Unbinds, Unmaps, Unregisters, Wakes, Withdraws, Writes, basic, doing, in_turn, provided, without_handle, world_after, ◌▹◌, Acts, AddsToken, NamesToken, Secures}
 use Rattle.lpc_model.specs.Entering.{enter, received_steps, row_of}
 use Rattle.lpc_model.specs.Refusal.{refuse_if}
 use Rattle.lpc_model.specs.Lines.{ProcArg}
 use Rattle.lpc_model.specs.Close.{close_handle, close_port, closed_row, cut_pair, is_last, post_closed, server_of, closing_post}
 use Rattle.lpc_model.specs.Targets.{thread_target}
-use Rattle.lpc_model.specs.Death.{answer_unless, code_status, cut_accepted, die, died_message, end_process, end_threads, nt_terminate_thread, post_death, post_deaths, death_post}
+use Rattle.lpc_model.specs.Death.{answer_unless, code_status, end_client, die, died_message, end_process, end_threads, nt_terminate_thread, post_death, post_deaths, death_post}
 use Rattle.lpc_model.specs.SoundWaits.{IsSoundWorld}
 use Rattle.lpc_model.proofs.Calls.Holding.{Holds, bind_holds, not_refused}
 use Rattle.lpc_model.proofs.Steps.Closing.{behind, close-pass, pair-pass, stage_five, takes_away, then-holds}
@@ -58,6 +58,10 @@ is_ending (AddsSection s) = false
 is_ending (Writes b place new) = false
 is_ending (Maps pid v) = false
 is_ending (Unmaps pid base) = false
+is_ending (Secures b s) = false
+is_ending (Acts who own) = false
+is_ending (AddsToken t) = false
+is_ending (NamesToken n) = false
 is_ending b = true
 
 abbrev pub AreEnding : List Basic → Type 0
@@ -68,6 +72,7 @@ away-ending (Wakes who call status fields) is = refl
 away-ending (Withdraws who) is = refl
 away-ending (Empties q) is = refl
 away-ending (Unbinds b) is = refl
+away-ending (DropsOwned b) is = refl
 away-ending x is = absurd (cc)
 
 taking-ending : (b : Basic) → is_taking b ≡ true → is_ending b ≡ true
@@ -83,18 +88,22 @@ ending-receipt m = every-more is_taking is_ending taking-ending (received_steps 
 pub ending-enter : (m : MessageRow) (w : World) → AreEnding (enter m w)
 ending-enter m w = every-more is_taking is_ending taking-ending (taken_at_once m w) (taking-entered m w)
 
-ending-accepted : (o : Option WaitRow) (w : World) → AreEnding (cut_accepted o w)
+ending-accepted : (o : Option WaitRow) (w : World) → AreEnding (end_client o w)
 ending-accepted None w = refl
-ending-accepted (Some x) w = at (is_accepted x)
+ending-accepted (Some x) w = every-append is_ending (when (is_accepted x) (cut_pair x.port w)) _ (at (is_accepted x)) (own (is_connect x))
   where
     at : (a : Bool) → AreEnding (when a (cut_pair x.port w))
     at true = pair-pass is_ending away-ending x.port w refl
     at false = refl
 
+    own : (c : Bool) → AreEnding (when c (DropsOwned x.port ∷ []))
+    own true = refl
+    own false = refl
+
 pub die-ending : (code : Status) (t : ThreadRow) (w : World) → AreEnding (die code t w)
 die-ending code t w =
     let first = Dies t.number code ∷ Withdraws t.number ∷ [] in
-    every-append is_ending first (cut_accepted (wait_of w t.number) (world_after w first)) refl (ending-accepted (wait_of w t.number) (world_after w first))
+    every-append is_ending first (end_client (wait_of w t.number) (world_after w first)) refl (ending-accepted (wait_of w t.number) (world_after w first))
 
 ending-told : (o : Option MessageRow) (w : World) → AreEnding (given o (λ m. enter m w))
 ending-told None w = refl
@@ -139,18 +148,22 @@ end-ending pid code ts w =
     at false v = refl
 
 -- so of another test
-pub accepted-pass : (p : Basic → Bool) → ((x : Basic) → takes_away x ≡ true → p x ≡ true) → ((b : Birth) → p (Cuts b) ≡ true) → (o : Option WaitRow) (w : World) → every p (cut_accepted o w) ≡ true
+pub accepted-pass : (p : Basic → Bool) → ((x : Basic) → takes_away x ≡ true → p x ≡ true) → ((b : Birth) → p (Cuts b) ≡ true) → (o : Option WaitRow) (w : World) → every p (end_client o w) ≡ true
 accepted-pass p away cuts None w = refl
-accepted-pass p away cuts (Some x) w = at (is_accepted x)
+accepted-pass p away cuts (Some x) w = every-append p (when (is_accepted x) (cut_pair x.port w)) _ (at (is_accepted x)) (own (is_connect x))
   where
     at : (a : Bool) → every p (when a (cut_pair x.port w)) ≡ true
     at true = pair-pass p away x.port w (cuts x.port)
     at false = refl
 
+    own : (c : Bool) → every p (when c (DropsOwned x.port ∷ [])) ≡ true
+    own true = and_from _ _ (away (DropsOwned x.port) refl) refl
+    own false = refl
+
 pub die-pass : (p : Basic → Bool) → ((x : Basic) → takes_away x ≡ true → p x ≡ true) → ((n : ℕ) (code : Status) → p (Dies n code) ≡ true) → ((b : Birth) → p (Cuts b) ≡ true) → (code : Status) (t : ThreadRow) (w : World) → every p (die code t w) ≡ true
 die-pass p away dies cuts code t w =
     let first = Dies t.number code ∷ Withdraws t.number ∷ [] in
-    every-append p first (cut_accepted (wait_of w t.number) (world_after w first)) (both (p (Dies t.number code)) (p (Withdraws t.number)) (dies t.number code) (away (Withdraws t.number) refl)) (accepted-pass p away cuts (wait_of w t.number) (world_after w first))
+    every-append p first (end_client (wait_of w t.number) (world_after w first)) (both (p (Dies t.number code)) (p (Withdraws t.number)) (dies t.number code) (away (Withdraws t.number) refl)) (accepted-pass p away cuts (wait_of w t.number) (world_after w first))
   where
     both : (a b : Bool) → a ≡ true → b ≡ true → (a && (b && true)) ≡ true
     both a b one two = grind arith

@@ -33,7 +33,7 @@ steady-given m x =
     (λ x r. every-append is_steady (received_steps m) _ (steady-receipt m) refl)
     (λ x. every-append is_steady (received_steps m) _ (steady-receipt m) refl)
     (λ x. every-append is_steady (received_steps m) _ (steady-receipt m) refl)
-    (λ x r. every-append is_steady (received_steps m) _ (steady-receipt m) refl)
+    (λ x r offer. every-append is_steady (received_steps m) _ (steady-receipt m) refl)
     (λ x r reply. every-append is_steady (received_steps m) _ (steady-receipt m) refl) x
 
 pub steady-enter : (m : MessageRow) (w : World) → AreSteady (enter m w)

@@ -9,14 +9,14 @@ use Rattle.lpc_base.proofs.RowMaps.{every-both, push-map, unseen-change}
 use Rattle.lpc_base.proofs.Births.{birth-same}
 use Rattle.lpc_model.specs.World.{Birth, ContentRow, Contents, HandleTable, Known, ObjectKind, ObjectName, SectionRow, Unknown, ViewRow, ViewTable, World}
 use Rattle.lpc_model.specs.declared.entry.ObjectKind.TheVariants as kind
-use Rattle.lpc_model.specs.Found.{all_views, handle_count, is_content, is_section, is_space, is_table, lies_at, pointer_count, same_birth, section_name, shows_section, views_of}
-use Rattle.lpc_model.specs.Basics.{AddsHandle, AddsProcess, AddsSection, Basic, DropsHandle, DropsViewsOf, Frees, Maps, Unmaps, Writes, basic, freed, in_known, no_handles, no_views, overwritten, with_handle, without_handle, world_after, written}
+use Rattle.lpc_model.specs.Found.{all_views, handle_count, is_content, is_owned_by, is_section, is_space, is_table, lies_at, pointer_count, same_birth, section_name, shows_section, views_of, offers_section}
+use Rattle.lpc_model.specs.Basics.{AddsHandle, AddsProcess, AddsSection, Basic, DropsHandle, DropsOwned, DropsViewsOf, Frees, Maps, Unmaps, Writes, basic, freed, in_known, no_handles, no_views, overwritten, with_handle, without_handle, without_owned, world_after, written}
 use Rattle.lpc_model.specs.Sweep.{free_unheld, is_unheld, sweep, unheld}
 use Rattle.lpc_model.specs.SoundViews.{AreSoundViews, HasSoundViews, are_apart, is_inside, is_placed, is_sized, length_of, lengths_of, lies_apart, shows_part, size_of}
-use Rattle.lpc_model.proofs.Sound.Frees.{is-zero, less-held, none-pass, sum-second, which-all}
+use Rattle.lpc_model.proofs.Sound.Frees.{is-zero, less-held, none-pass, sum-second, which-all, sum-first}
 use Rattle.lpc_model.proofs.Steps.InTurn.{after-append, steps-keep}
 use Rattle.lpc_model.proofs.Steps.Registrations.{every-each}
-use Rattle.lpc_model.proofs.Views.Tables.{reworked, views-among, views-made, views-reworked}
+use Rattle.lpc_model.proofs.Views.Tables.{reworked, views-among, views-all_reworked, views-made, views-reworked}
 
 -- Bytes
 -- bytes that are written are as many as before
@@ -104,6 +104,16 @@ views-step : (w : World) (b : Basic) → keeps_views b ≡ true → HasSoundView
 views-step w (Writes b place new) is s = record { contents = written-lengths b place new w.contents ∙ s.contents; sizes = s.sizes; tables = s.tables; views = λ pid. moved w (basic w (Writes b place new)) refl _ (s.views pid) }
 views-step w (Unmaps pid base) is s = views-changed w pid (without (lies_at base)) (rows-without w (lies_at base) (views_of w pid)) s
 views-step w (DropsViewsOf pid) is s = views-changed w pid (λ vs. []) (λ _. no-rows w) s
+views-step w (DropsOwned b) is s = let v = basic w (DropsOwned b) in record {
+  contents = s.contents;
+  sizes = s.sizes;
+  tables = mapped-processes w.views ∙ s.tables;
+  views = λ pid. views-all_reworked (AreSoundViews v) (without (is_owned_by b)) pid w.views (no-rows v) (rows-without v (is_owned_by b) (views_of w pid)) (moved w v refl _ (s.views pid));
+}
+  where
+    mapped-processes : (ts : List ViewTable) → map (λ (t : ViewTable). t.process) (map (without_owned b) ts) ≡ map (λ (t : ViewTable). t.process) ts
+    mapped-processes [] = refl
+    mapped-processes (t ∷ ts) = ap (λ ns. t.process ∷ ns) (mapped-processes ts)
 views-step w (AddsProcess p) is s = record {
   contents = s.contents;
   sizes = s.sizes;
@@ -122,7 +132,7 @@ views-all = steps-keep keeps_views HasSoundViews views-step
 
 -- Sections that go
 -- a section that another's end leaves is found as before
-first-left : {X : Type 0} (p gone : X → Bool) → ((x : X) → p x ≡ true → gone x ≡ false) → (xs : List X) → first p (without gone xs) ≡ first p xs
+pub first-left : {X : Type 0} (p gone : X → Bool) → ((x : X) → p x ≡ true → gone x ≡ false) → (xs : List X) → first p (without gone xs) ≡ first p xs
 first-left p gone apart [] = refl
 first-left p gone apart (x ∷ xs) = grind (arith, apart x, first-left p gone apart xs)
 
@@ -142,7 +152,7 @@ left-lengths b (Known rows) ss is =
 
 section-gone : (w : World) (b : Birth) → pointer_count w (section_name b) ≤ 0 → HasSoundViews w → HasSoundViews (basic w (Frees (section_name b)))
 section-gone w b none s =
-    let unshown = none-pass (shows_section b) (all_views w) (sum-second (handle_count w (section_name b)) (count (shows_section b) (all_views w)) none) in
+    let unshown = none-pass (shows_section b) (all_views w) (sum-first (count (shows_section b) (all_views w)) (count (offers_section b) w.waits) (sum-second (handle_count w (section_name b)) _ none)) in
     let others = sym (every-each (λ x. not (shows_section b x)) (λ (t : ViewTable). t.rows) w.views) ∙ unshown in
     record {
       contents = left-lengths b w.contents w.sections s.contents;
@@ -165,7 +175,7 @@ gone-views w o none s = at o.kind o.birth (is-zero (pointer_count w o) none)
     at : (k : ObjectKind) (b : Birth) → pointer_count w (record { kind = k; birth = b }) ≤ 0 → HasSoundViews (freed w k b)
     at kind.Port b few = record { contents = s.contents; sizes = s.sizes; tables = s.tables; views = λ pid. moved w (freed w kind.Port b) refl _ (s.views pid) }
     at kind.Section b few = section-gone w b few s
-    at kind.Token b few = s
+    at kind.Token b few = record { contents = s.contents; sizes = s.sizes; tables = s.tables; views = λ pid. moved w (freed w kind.Token b) refl _ (s.views pid) }
     at kind.Process b few = record { contents = s.contents; sizes = s.sizes; tables = s.tables; views = λ pid. moved w (freed w kind.Process b) refl _ (s.views pid) }
     at kind.Thread b few = record { contents = s.contents; sizes = s.sizes; tables = s.tables; views = λ pid. moved w (freed w kind.Thread b) refl _ (s.views pid) }
 

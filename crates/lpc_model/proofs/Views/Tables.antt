@@ -1,5 +1,5 @@
 -- The views of a process, where tables of views change or are made.
-use Rattle.std.proofs.Common.{◌≡◌, ℕ, List, [], ◌∷◌, ◌++◌, Bool, true, false, cond, Some, refl, sym, ◌∙◌}
+use Rattle.std.proofs.Common.{◌≡◌, ℕ, List, [], ◌∷◌, ◌++◌, Bool, true, false, cond, map, None, Some, refl, sym, ◌∙◌}
 use Rattle.std.specs.Prelude.{◌==◌}
 use Rattle.std.proofs.lemmas.Bool.{eqb-true}
 use Rattle.lpc_base.specs.Rows.{change, every, first}
@@ -27,6 +27,18 @@ views-reworked P g q pid (t ∷ ts) more is = at (is_space q t) (is_space pid t)
     at true false its own more is later = rw own (later more is)
     at false true its own more is later = rw own is
     at false false its own more is later = rw own (later more is)
+
+-- and where the rows of all tables change
+pub views-all_reworked : (P : List ViewRow → Type 0) (g : List ViewRow → List ViewRow) (pid : ℕ) (ts : List ViewTable) → P (views_in None) → (P (views_in (first (is_space pid) ts)) → P (g (views_in (first (is_space pid) ts)))) → P (views_in (first (is_space pid) ts)) → P (views_in (first (is_space pid) (map (reworked g) ts)))
+views-all_reworked P g pid [] none more is = none
+views-all_reworked P g pid (t ∷ ts) none more is = at (is_space pid t) refl more is (views-all_reworked P g pid ts none)
+  where
+    at : (b : Bool) → is_space pid t ≡ b → (P (views_in (cond b (Some t) (first (is_space pid) ts))) → P (g (views_in (cond b (Some t) (first (is_space pid) ts)))))
+        → P (views_in (cond b (Some t) (first (is_space pid) ts)))
+        → ((P (views_in (first (is_space pid) ts)) → P (g (views_in (first (is_space pid) ts)))) → P (views_in (first (is_space pid) ts)) → P (views_in (first (is_space pid) (map (reworked g) ts))))
+        → P (views_in (first (is_space pid) (map (reworked g) (t ∷ ts))))
+    at true own more is later = rw own (more is)
+    at false own more is later = rw own (later more is)
 
 -- a table that is made has no rows
 pub views-made : (q pid : ℕ) (ts : List ViewTable) → views_in (first (is_space pid) (ts ++ no_views q ∷ [])) ≡ views_in (first (is_space pid) ts)

@@ -1,5 +1,6 @@
 use Rattle.lpc_model.proofs.Views.Lines.{views_none, views_step}
-use Rattle.lpc_model.proofs.Runs.{views_run}
+use Rattle.lpc_model.proofs.Views.Offers.{offers_step}
+use Rattle.lpc_model.proofs.Runs.{offers_run, views_run}
 use Rattle.lpc_model.proofs.laws.law_views.Goals as goal
 
 pub returns-clause-first : goal.returns-clause-first
@@ -10,3 +11,9 @@ returns-clause-steps c = views_step
 
 pub returns-clause-runs : goal.returns-clause-runs
 returns-clause-runs c = views_run
+
+pub returns-clause-offers_steps : goal.returns-clause-offers_steps
+returns-clause-offers_steps c = offers_step
+
+pub returns-clause-offers_runs : goal.returns-clause-offers_runs
+returns-clause-offers_runs c = offers_run
