@@ -3,6 +3,7 @@ pub mod Firm
 pub mod Fair
 pub mod Kept
 pub mod Paths
+pub mod Clients
 pub mod Sent
 pub mod Ways
 pub mod Ids

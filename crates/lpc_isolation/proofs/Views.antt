@@ -4,6 +4,7 @@ pub mod Filters
 pub mod View
 pub mod Basics
 pub mod Seen
+pub mod Places
 pub mod Apart
 pub mod Callers
 pub mod Mine

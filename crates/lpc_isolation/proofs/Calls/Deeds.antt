@@ -1,14 +1,15 @@
 -- What calls come to in the machine whose rows never go, each with its steps and what its tests found. What holds of each deed
 -- holds of each call that is served.
+use Rattle.lpc_tokens.specs.declared.security.Security.TheVariants.{Guarded}
 use Rattle.lpc_model.specs.Ranges.{Described, described_test, read_range_steps, write_range_steps}
 use Rattle.lpc_base.specs.Views.{whole_pages}
 use Rattle.lpc_base.specs.declared.limits.TheConstants.{SECTION_LIMIT}
 use Rattle.lpc_model.specs.Refusal.{refuse_if}
 use Rattle.lpc_model.specs.Register.{is_registered, register_steps}
 use Rattle.lpc_model.specs.Counts.{asked, counts_of, duplicate_steps}
-use Rattle.lpc_model.specs.declared.entry.CallName.TheVariants.{NtDuplicateObject, NtMapViewOfSection, NtQueryObject, NtReadVirtualMemory, NtRegisterThreadTerminatePort, NtUnmapViewOfSection, NtWriteVirtualMemory, NtReadRequestData, NtWriteRequestData}
+use Rattle.lpc_model.specs.declared.entry.CallName.TheVariants.{NtDuplicateObject, NtMapViewOfSection, NtQueryObject, NtReadVirtualMemory, NtRegisterThreadTerminatePort, NtUnmapViewOfSection, NtWriteVirtualMemory, NtReadRequestData, NtWriteRequestData, NtOpenProcessToken, NtOpenThreadToken, NtQueryInformationToken, NtSetInformationThread}
 use Rattle.lpc_model.specs.Memory.{map_steps, mapped_view, memory_test, read_steps, section_steps, section_test, mapping_right, unmap_steps, write_steps, protection_test, is_transfer}
-use Rattle.lpc_model.proofs.Calls.Outcomes.{IsMapping}
+use Rattle.lpc_model.proofs.Calls.Outcomes.{IsMapping, IsConnecting, IsAccepting, IsAllowed}
 use Rattle.lpc_base.specs.Rows.{first, when}
 use Rattle.lpc_base.specs.declared.status.Status.{Status}
 use Rattle.lpc_base.specs.declared.status.TheConstants.{INVALID_HANDLE, SUCCESS, INVALID_PARAMETER_4, SECTION_TOO_BIG, ACCESS_VIOLATION, INVALID_PARAMETER}
@@ -17,26 +18,30 @@ use Rattle.lpc_message.specs.declared.kind.TheConstants.{DATAGRAM, REQUEST}
 use Rattle.lpc_model.proofs.Steps.Ending.{answered_end}
 use Rattle.lpc_model.proofs.Calls.Holding.{Holds, bind_holds, holds-more, found_ok, found_holds, not_refused}
 use Rattle.lpc_model.proofs.Calls.Outcomes.{AreDoomed, EndCall, IsReceiving, Outcomes, end_call, of_process, of_thread, service-does}
-use Rattle.lpc_model.specs.Basics.{AddsHandle, Basic, DrawsIdentifier, Maps, Registers, Tells, Unmaps, Writes}
+use Rattle.lpc_model.specs.Basics.{AddsHandle, Basic, DrawsIdentifier, Maps, Registers, Tells, Unmaps, Writes, Acts, Secures}
 use Rattle.lpc_model.specs.Close.{close_steps}
-use Rattle.lpc_model.specs.Connect.{Completable, ConnectAnswer, accept_steps, answer_test, complete_steps, complete_test, connect_steps, connection_request, create_steps, listen_steps, named_steps, refuse_steps, unnamed_steps}
+use Rattle.lpc_model.specs.Connect.{Completable, ConnectAnswer, accept_steps, answer_test, complete_steps, complete_test, connect_steps, connection_request, create_steps, listen_steps, named_steps, refuse_steps, unnamed_steps, allow_steps, guard_steps}
 use Rattle.lpc_model.specs.Found.{free_handle, handle_at, is_queued, is_queued_connect, view_holding}
-use Rattle.lpc_model.specs.Lines.{ScriptCall, accept_connect_port, close, complete_connect_port, connect_port, create_port, create_process, create_thread, listen_port, query_object, reply_port, reply_wait_receive_port, request_port, request_wait_reply_port, terminate_process, terminate_thread, duplicate_object, register_thread_terminate_port, create_section, map_view_of_section, unmap_view_of_section, read_virtual_memory, write_virtual_memory, read_request_data, write_request_data}
+use Rattle.lpc_model.specs.Lines.{ScriptCall, accept_connect_port, close, complete_connect_port, connect_port, create_port, create_process, create_thread, listen_port, query_object, reply_port, reply_wait_receive_port, request_port, request_wait_reply_port, terminate_process, terminate_thread, duplicate_object, register_thread_terminate_port, create_section, map_view_of_section, unmap_view_of_section, read_virtual_memory, write_virtual_memory, read_request_data, write_request_data, impersonate_client_of_port, open_process_token, open_thread_token, query_information_token, set_information_thread}
 use Rattle.lpc_model.specs.Message.{message_test}
-use Rattle.lpc_model.specs.Named.{free_name, named_port}
+use Rattle.lpc_model.specs.Named.{free_name}
 use Rattle.lpc_model.specs.Request.{Sendable, datagram_send_test, datagram_steps, receive_steps, reply_steps, reply_test, request_steps, send_test, sent_by}
 use Rattle.lpc_model.specs.Tests.{next_birth, own_handle, port_test, handles_test}
-use Rattle.lpc_model.specs.World.{Birth, HandleRow, MessageRow, Path, PortRow, SectionRow, ThreadRow, ViewRow, WaitRow, World}
+use Rattle.lpc_model.specs.World.{Birth, HandleRow, MessageRow, Path, PortRow, SectionRow, ThreadRow, ViewRow, WaitRow, World, Offer, Dacl, Impersonation, Qos, TokenRow, Security}
 use Rattle.lpc_model.specs.declared.entry.CallName.{CallName}
 use Rattle.lpc_model.specs.declared.entry.Entry.TheVariants.{Answer}
 use Rattle.lpc_model.specs.declared.entry.Field.{Field}
 use Rattle.lpc_model.specs.declared.message.Message.{Message}
-use Rattle.std.proofs.Common.{Bool, List, None, Option, Some, [], false, refl, true, ℕ, ◌∷◌, ◌≡◌, not, subst}
+use Rattle.std.proofs.Common.{Bool, List, None, Option, Some, [], false, refl, true, ℕ, ◌∷◌, ◌≡◌, not, subst, ◌++◌}
 use Rattle.std.specs.Prelude.{Ok, length, ◌==◌, nat_lt}
+use Rattle.lpc_model.specs.Offers.{SharedViews}
+use Rattle.lpc_model.specs.declared.line.ViewWord.{ViewWord}
+use Rattle.lpc_model.specs.Impersonation.{held_content, impersonate_steps, own_test, process_content, revert_steps, told_of, told_steps, token_steps, token_test}
 
 -- Tame calls: they tell an answer, and change rows of their own process alone, or bytes that views show
 -- a step of such a call: a further handle to an object that a handle of the process names, a port registered that one names, a number drawn;
--- a view of a section that such a handle names, a view of the process that goes, bytes of a section written
+-- a view of a section that such a handle names, a view of the process that goes, bytes of a section written; the thread acts as
+-- another or as itself
 pub data IsTame (w : World) (by : ThreadRow) : Basic → Type 0 where
   gives : (h r : HandleRow) (value : ℕ) → handle_at w by.process value ≡ Some r → r.object ≡ h.object → IsTame w by (AddsHandle by.process h)
   registers : (p : PortRow) (value : ℕ) → port_test w by value ≡ Ok p → IsTame w by (Registers by.number p.birth)
@@ -44,6 +49,7 @@ pub data IsTame (w : World) (by : ThreadRow) : Basic → Type 0 where
   maps : (v : ViewRow) (s : SectionRow) (rights value : ℕ) → section_test w by rights value ≡ Ok s → v.section ≡ s.birth → v.owner ≡ None → IsTame w by (Maps by.process v)
   unmaps : (base : ℕ) → IsTame w by (Unmaps by.process base)
   writes : (b : Birth) (place : ℕ) (new : List ℕ) → IsTame w by (Writes b place new)
+  acts : (own : Option Impersonation) → IsTame w by (Acts by.number own)
 
 pub data AreTame (w : World) (by : ThreadRow) : List Basic → Type 0 where
   none : AreTame w by []
@@ -72,6 +78,8 @@ is_tame (read_virtual_memory address n) = true
 is_tame (write_virtual_memory address new) = true
 is_tame (read_request_data handle bytes index n) = true
 is_tame (write_request_data handle bytes index new) = true
+is_tame (set_information_thread class) = true
+is_tame (query_information_token handle class) = true
 is_tame call = false
 
 pub ends-some : (call : EndCall) → spares (end_call call) ≡ false
@@ -89,6 +97,8 @@ pub record Tames (w : World) (by : ThreadRow) (P : ScriptCall → List Basic →
   pub of_write : (address : ℕ) (new : List ℕ) (v : ViewRow) → memory_test w by address (length new) ≡ Ok v → v.writable ≡ true → P (write_virtual_memory address new) (write_steps by address new v)
   pub of_read_range : (handle : ℕ) (bytes : List ℕ) (index n : ℕ) (d : Described) → described_test w by handle bytes index n ≡ Ok d → P (read_request_data handle bytes index n) (read_range_steps w.contents by n d)
   pub of_write_range : (handle : ℕ) (bytes : List ℕ) (index : ℕ) (new : List ℕ) (d : Described) → described_test w by handle bytes index (length new) ≡ Ok d → d.view.writable ≡ true → P (write_request_data handle bytes index new) (write_range_steps by new d)
+  pub of_revert : (class : ℕ) → P (set_information_thread class) (revert_steps by)
+  pub of_ask : (handle class : ℕ) (t : TokenRow) (field : Field) → token_test w by handle ≡ Ok t → told_of t class ≡ Some field → P (query_information_token handle class) (told_steps by field)
 
 -- the view in which the bytes of a call lie
 pub memory-held : (w : World) (by : ThreadRow) (address n : ℕ) → Holds (λ v. view_holding w by.process address n ≡ Some v) (memory_test w by address n)
@@ -108,20 +118,27 @@ any-tame {w} {by} {P} all = record {
   of_write = λ address new v at may. all (write_virtual_memory address new) NtWriteVirtualMemory [] _ refl (more (writes _ _ _) none);
   of_read_range = λ handle bytes index n d at. all (read_request_data handle bytes index n) NtReadRequestData _ [] refl none;
   of_write_range = λ handle bytes index new d at may. all (write_request_data handle bytes index new) NtWriteRequestData [] _ refl (more (writes _ _ _) none);
+  of_revert = λ class. all (set_information_thread class) NtSetInformationThread [] _ refl (more (acts None) none);
+  of_ask = λ handle class t field at told. all (query_information_token handle class) NtQueryInformationToken (field ∷ []) [] refl none;
 }
   where
     at_most : (handle : ℕ) (port : PortRow) → port_test w by handle ≡ Ok port → (new : Bool) → AreTame w by (when new (Registers by.number port.birth ∷ []))
     at_most handle port at true = more (registers port handle at) none
     at_most handle port at false = none
 
+-- the steps behind those that make a port: whom it may be opened by
+pub guarded : (P : List Basic → Type 0) (b : Birth) (name : List ℕ) (dacl : Option Dacl) → P [] → ((s : Security) → P (Secures b s ∷ [])) → P (guard_steps b (Some name) dacl)
+guarded P b name None bare one = bare
+guarded P b name (Some d) bare one = one (Guarded d)
+
 -- What such calls of a thread come to in a world
 pub record Deeds (w : World) (by : ThreadRow) (P : ScriptCall → List Basic → Type 0) : Type 0 where
-  pub creates : P (create_port None) (create_steps by (unnamed_steps (next_birth by)) (free_handle w by.process))
-  pub founds : (name : List ℕ) (path : Path) → free_name w name ≡ Ok path → P (create_port (Some name)) (create_steps by (named_steps (next_birth by) path) (free_handle w by.process))
-  pub connects : (name bytes : List ℕ) (connection : Birth) → named_port w name ≡ Ok connection → P (connect_port name bytes) (connect_steps by connection (connection_request by bytes) w)
+  pub creates : (dacl : Option Dacl) → P (create_port None dacl) (create_steps by (unnamed_steps (next_birth by)) (free_handle w by.process))
+  pub founds : (name : List ℕ) (dacl : Option Dacl) (path : Path) → free_name w name ≡ Ok path → P (create_port (Some name) dacl) (create_steps by (named_steps (next_birth by) path) (free_handle w by.process) ++ guard_steps (next_birth by) (Some name) dacl)
+  pub connects : (name : List ℕ) (quality : Qos) (word : Option ViewWord) (bytes : List ℕ) (offer : Option Offer) (own : Option ViewRow) (connection : Birth) → IsConnecting w by name word offer own connection → P (connect_port name quality word bytes) (connect_steps by connection offer own (connection_request by offer bytes) w ++ allow_steps w by quality)
   pub listens : (handle : ℕ) (port : PortRow) (o : Option MessageRow) → port_test w by handle ≡ Ok port → first (is_queued_connect port.birth) w.messages ≡ o → P (listen_port handle) (listen_steps by port.birth o)
-  pub refuses : (context : ℕ) (bytes : List ℕ) (a : ConnectAnswer) → answer_test w by bytes ≡ Ok a → P (accept_connect_port context bytes false) (refuse_steps by a)
-  pub accepts : (context : ℕ) (bytes : List ℕ) (a : ConnectAnswer) → answer_test w by bytes ≡ Ok a → P (accept_connect_port context bytes true) (accept_steps by context (free_handle w by.process) a)
+  pub refuses : (context : ℕ) (bytes : List ℕ) (word : Option ViewWord) (a : ConnectAnswer) → answer_test w by bytes ≡ Ok a → P (accept_connect_port context bytes false word) (refuse_steps by a)
+  pub accepts : (context : ℕ) (bytes : List ℕ) (word : Option ViewWord) (offer : Option Offer) (a : ConnectAnswer) (views : SharedViews) → IsAccepting w by bytes word offer a views → P (accept_connect_port context bytes true word) (accept_steps by context (free_handle w by.process) a views)
   pub completes : (handle : ℕ) (r : Completable) → complete_test w by handle ≡ Ok r → P (complete_connect_port handle) (complete_steps by (free_handle w r.wait.process) r)
   pub sends : (handle : ℕ) (bytes : List ℕ) (s : Sendable) → datagram_send_test w by handle bytes ≡ Ok s → P (request_port handle bytes) (datagram_steps by s.port s.queue (sent_by by DATAGRAM s.message) w)
   pub asks : (handle : ℕ) (bytes : List ℕ) (s : Sendable) → send_test w by handle bytes ≡ Ok s → P (request_wait_reply_port handle bytes) (request_steps by s.port s.queue (sent_by by REQUEST s.message) w)
@@ -129,6 +146,9 @@ pub record Deeds (w : World) (by : ThreadRow) (P : ScriptCall → List Basic →
   pub receives : (handle : ℕ) (bytes : Option (List ℕ)) (a : Option Message) (port : PortRow) (queue : Birth) (replied : List Basic) (o : Option MessageRow) → IsReceiving w by handle bytes a port queue replied → first (is_queued queue) w.messages ≡ o → P (reply_wait_receive_port handle bytes) (receive_steps by port queue replied o)
   pub closes : (handle : ℕ) (r : HandleRow) → handle_at w by.process handle ≡ Some r → P (close handle) (close_steps by r w)
   pub makes_section : (size prot : ℕ) → P (create_section size prot) (section_steps by size prot (free_handle w by.process))
+  pub impersonates : (handle : ℕ) (bytes : List ℕ) (own : Impersonation) → IsAllowed w by handle bytes own → P (impersonate_client_of_port handle bytes) (impersonate_steps by own)
+  pub opens_own : (own : Impersonation) → own_test by ≡ Ok own → P open_thread_token (token_steps by NtOpenThreadToken (held_content own) (free_handle w by.process))
+  pub opens_primary : P open_process_token (token_steps by NtOpenProcessToken (process_content w by) (free_handle w by.process))
   pub tames : Tames w by P
   pub ends : (call : EndCall) (name : CallName) (own : Bool) (pid : ℕ) (code : Status) (ts : List ThreadRow) → AreDoomed w by own pid ts → P (end_call call) (answered_end by name own pid code ts w)
 
@@ -155,13 +175,13 @@ module _ (w : World) (by : ThreadRow) (P : ScriptCall → List Basic → Type 0)
   -- calls that are tame are so here, for all laws
   outcomes-of : Outcomes w by (λ call bs. is_calm call ≡ true → P call bs)
   outcomes-of = record {
-    creates = λ _. d.creates;
-    founds = λ name path free _. d.founds name path free;
-    connects = λ name bytes connection at _. d.connects name bytes connection at;
+    creates = λ dacl _. d.creates dacl;
+    founds = λ name dacl path free _. d.founds name dacl path free;
+    connects = λ name quality word bytes offer own connection is _. d.connects name quality word bytes offer own connection is;
     listens = λ handle port m l at _. d.listens handle port (Some m) l.port_found at;
     awaits_connect = λ handle port l at _. d.listens handle port None l.port_found at;
-    refuses = λ context bytes a at _. d.refuses context bytes a at;
-    accepts = λ context bytes a at _. d.accepts context bytes a at;
+    refuses = λ context bytes word a at _. d.refuses context bytes word a at;
+    accepts = λ context bytes word offer a views is _. d.accepts context bytes word offer a views is;
     completes = λ handle r at _. d.completes handle r at;
     sends = λ handle bytes s at _. d.sends handle bytes s at;
     asks = λ handle bytes s at _. d.asks handle bytes s at;
@@ -182,6 +202,11 @@ module _ (w : World) (by : ThreadRow) (P : ScriptCall → List Basic → Type 0)
     writes_memory = λ address new v at may _. d.tames.of_write address new v at may;
     reads_range = λ handle bytes index n x at _. d.tames.of_read_range handle bytes index n x at;
     writes_range = λ handle bytes index new x at may _. d.tames.of_write_range handle bytes index new x at may;
+    impersonates = λ handle bytes own is _. d.impersonates handle bytes own is;
+    reverts = λ class _. d.tames.of_revert class;
+    opens_own = λ own at _. d.opens_own own at;
+    opens_primary = λ _. d.opens_primary;
+    asks_token = λ handle class t field at told _. d.tames.of_ask handle class t field at told;
     ends = λ call name own pid code ts doomed _. d.ends call name own pid code ts doomed;
   }
 

@@ -78,6 +78,7 @@ is_home u call n = false
 pub record Room (k : Alive) (u : World) (by : ThreadRow) (call : ScriptCall) : Type 0 where
   pub port : k.ports (next_birth by) ≡ true
   pub section : k.sections (next_birth by) ≡ true
+  pub token : k.tokens (next_birth by) ≡ true
   pub process : k.processes (next_birth by) ≡ true
   pub thread : k.threads (next_birth by) ≡ true
   pub second : k.threads (second_birth by) ≡ true
@@ -104,6 +105,6 @@ pub record Lawful (call : ScriptCall) : Type 0 where
   pub hears : (m : Group) (c : ℕ) (d : Whose) (w : World) (by : ThreadRow) (known : List ℕ → Birth) (memo : List Heard) → At m c w by known → Owned w w → Numbered w → Asked w → AllKnown m memo w → m by.process ≡ false → Holds (λ bs. HasFineRows m c (world_after w bs) → Hears m c (world_after w bs) d w memo bs) (served w by call)
   pub notes : (m : Group) (c : ℕ) (w : World) (by : ThreadRow) (known : List ℕ → Birth) (memo : List Heard) → At m c w by known → Owned w w → Numbered w → Asked w → AllKnown m memo w → m by.process ≡ true → Holds (λ bs. AllKnown m (cond (by.process == c) memo (call_memo m (view m w) by call (own_entry bs) memo)) (world_after w bs)) (served w by call)
   -- it answers alike where rows that nothing names have gone, names what stands alone, and makes processes and ports as the circle has them
-  pub alike : (k : Alive) (u : World) (by : ThreadRow) → live_thread u by.number ≡ Some by → Closed k u → served (thin k u) by call ≡ served u by call
+  pub alike : (k : Alive) (u : World) (by : ThreadRow) → live_thread u by.number ≡ Some by → IsSoundWorld u → Closed k u → served (thin k u) by call ≡ served u by call
   pub stands : (k : Alive) (u : World) (by : ThreadRow) → live_thread u by.number ≡ Some by → IsSoundWorld u → Closed k u → Room k u by call → Holds (AreClosed k) (served u by call)
   pub fine : (m : Group) (c : ℕ) (after u : World) (by : ThreadRow) → wait_of u by.number ≡ None → HasFineRows m c after → Holds (FineAfter m c after u) (served u by call)

@@ -2,22 +2,22 @@
 use Rattle.std.proofs.Common.{◌≡◌, ℕ, List, [], ◌∷◌, ◌++◌, Bool, true, false, cond, not, Option, Some, None, refl, ap, sym, subst, ◌∙◌, arith}
 use Rattle.std.specs.Prelude.{◌&&◌, ◌==◌, Result, Ok, Err}
 use Rattle.std.proofs.lemmas.Bool.{and_from, eqb-true}
-use Rattle.lpc_base.specs.Rows.{every, passes}
+use Rattle.lpc_base.specs.Rows.{every, passes, which, given}
 use Rattle.lpc_base.specs.declared.status.Status.{Status}
 use Rattle.lpc_base.specs.declared.status.TheConstants.{SUCCESS}
 use Rattle.lpc_base.proofs.RowMaps.{every-both}
 use Rattle.lpc_base.proofs.Bools.{first-true, same-number, second-true}
 use Rattle.lpc_model.specs.declared.entry.Entry.{Entry}
 use Rattle.lpc_model.specs.declared.entry.Entry.TheVariants as entry
-use Rattle.lpc_model.specs.World.{Contents, ThreadRow, WaitRow, World}
+use Rattle.lpc_model.specs.World.{Contents, ThreadRow, WaitRow, World, Impersonation}
 use Rattle.lpc_model.specs.Found.{live_thread, wait_of, waits_as}
-use Rattle.lpc_model.specs.Basics.{Accepts, AddsHandle, AddsProcess, AddsSection, AddsThread, Awaits, Basic, Binds, Completes, Cuts, DrawsIdentifier, DrawsOrdinal, DropsHandle, DropsViewsOf, Empties, Enters, Frees, Joins, Makes, Maps, Receives, Takes, TakesConnect, Tells, Unbinds, Unmaps, Wakes, Withdraws, Writes, entries_of, world_after, told, Dies, Registers, Unregisters}
+use Rattle.lpc_model.specs.Basics.{Accepts, AddsHandle, AddsProcess, AddsSection, AddsThread, Awaits, Basic, Binds, Completes, Cuts, DrawsIdentifier, DrawsOrdinal, DropsHandle, DropsViewsOf, Empties, Enters, Frees, Joins, Makes, Maps, Receives, Takes, TakesConnect, Tells, Unbinds, Unmaps, Wakes, Withdraws, Writes, entries_of, world_after, told, Dies, Registers, Unregisters, DropsOwned, Acts, AddsToken, NamesToken, Secures}
 use Rattle.lpc_model.specs.Lines.{ScriptCall, run, read_virtual_memory, read_request_data}
 use Rattle.lpc_model.specs.Machine.{name_of_call, settled, bare_steps}
 use Rattle.lpc_isolation.proofs.Gone.Served.{served, served_step, served_steps}
 use Rattle.lpc_model.proofs.Calls.Holding.{Holds, holds_ok}
 use Rattle.lpc_model.proofs.Calls.Usable.{live-number}
-use Rattle.lpc_model.specs.Circle.{Everyone, Group, Item, Nobody, Of, Told, Whose, entry_whose, is_seen, is_told_to, owned, owner, thread_whose}
+use Rattle.lpc_model.specs.Circle.{Everyone, Group, Item, Nobody, Of, Told, Whose, entry_whose, is_seen, is_told_to, owned, owner, thread_whose, Gave, given_in}
 use Rattle.lpc_isolation.proofs.Views.Alone.{HasFineRows, alone}
 use Rattle.lpc_isolation.proofs.Views.Filters.{first-where}
 use Rattle.lpc_isolation.proofs.Views.View.{our_wait, view}
@@ -26,8 +26,8 @@ use Rattle.lpc_isolation.proofs.Views.Seen.{live-owner, live-view}
 use Rattle.lpc_isolation.proofs.Views.Apart.{Owned, are_apart, is_heard, is_owned, owned-by}
 use Rattle.lpc_isolation.proofs.Views.Callers.{Answered, Led, c-wait, led-same}
 use Rattle.lpc_isolation.proofs.Each.Listens.{own_entry}
-use Rattle.lpc_isolation.proofs.Plays.Play.{told_inputs, told_items}
-use Rattle.lpc_isolation.proofs.Plays.Lines.{Leads, Owes, accepts, is_done, led_line, next_entry, seeing}
+use Rattle.lpc_isolation.proofs.Plays.Play.{told_inputs, told_items, gave_items, given_inputs, is_given_input}
+use Rattle.lpc_isolation.proofs.Plays.Lines.{Leads, Owes, accepts, is_done, led_line, next_entry, seeing, own_given, IsGiven, next_given}
 use Rattle.lpc_isolation.proofs.Calls.Serves.{is_call_of, is_orderly, orderly-done, orderly-used, tells_thread, same_owner}
 
 -- a call's list begins with an entry that tells its caller's process, and at its end no thread waits that it woke
@@ -57,7 +57,10 @@ seeing-wait k v tid call = refl
 pub record Serves (led : Leads) (m : Group) (c : ℕ) (w : World) (by : ThreadRow) (call : ScriptCall) : Type 0 where
   pub apart : (d : Whose) → m by.process ≡ false → Holds (λ bs. HasFineRows m c (world_after w bs) → are_apart m c (world_after w bs) d w bs ≡ true) (served w by call)
   pub own : (d : Whose) → by.process ≡ c → Answered (λ bs led. HasFineRows m c (world_after w bs) → Led m c (world_after w bs) d w bs led) (served w by call) (served (seeing led.bytes (view m w) call) by call)
-  pub leads : (d : Whose) → m by.process ≡ true → (by.process == c) ≡ false → Holds (λ bs. HasFineRows m c (world_after w bs) → Led m c (world_after w bs) d w bs (led.lead (view m w) by call (own_entry bs))) (served w by call)
+  pub leads : (d : Whose) → m by.process ≡ true → (by.process == c) ≡ false → Holds (λ bs. HasFineRows m c (world_after w bs) → Led m c (world_after w bs) d w bs (led.lead (view m w) by call (own_entry bs) (own_given bs))) (served w by call)
+  -- the token that it lets its thread have, by the next of the inputs; c's as in the world
+  pub gives : Holds (λ bs. (v : World) (e : Entry) (o : Option Impersonation) → IsGiven o (given_in bs) → led.lead v by call e o ≡ led.lead v by call e (own_given bs)) (served w by call)
+  pub own_gives : by.process ≡ c → Answered (λ bs led. given_in led ≡ given_in bs) (served w by call) (served (seeing led.bytes (view m w) call) by call)
   pub begins : Holds (Begins w by.number) (served w by call)
   pub refuses : (s : Status) → served w by call ≡ Err s → (s.0 == SUCCESS.0) ≡ false
 
@@ -65,7 +68,9 @@ pub record Serves (led : Leads) (m : Group) (c : ℕ) (w : World) (by : ThreadRo
 record OwesAt (led : Leads) (m : Group) (c : ℕ) (w : World) (tid : ℕ) (call : ScriptCall) (bs : List Basic) : Type 0 where
   apart : is_seen m (thread_whose w tid) ≡ false → are_apart m c (world_after w bs) (thread_whose w tid) w bs ≡ true
   own : is_seen (alone c) (thread_whose w tid) ≡ true → Led m c (world_after w bs) (thread_whose w tid) w bs (served_steps (run tid call) (seeing led.bytes (view m w) call))
-  leads : is_seen m (thread_whose w tid) ≡ true → is_seen (alone c) (thread_whose w tid) ≡ false → Led m c (world_after w bs) (thread_whose w tid) w bs (led_line led (view m w) tid call (own_entry bs))
+  leads : is_seen m (thread_whose w tid) ≡ true → is_seen (alone c) (thread_whose w tid) ≡ false → Led m c (world_after w bs) (thread_whose w tid) w bs (led_line led (view m w) tid call (own_entry bs) (own_given bs))
+  gives : is_seen m (thread_whose w tid) ≡ true → is_seen (alone c) (thread_whose w tid) ≡ false → (is : List Item) → led_line led (view m w) tid call (own_entry bs) (next_given (told_items (told_inputs m c (world_after w bs) (thread_whose w tid) (entries_of bs)) ++ (gave_items (given_inputs m c (thread_whose w tid) (given_in bs)) ++ is))) ≡ led_line led (view m w) tid call (own_entry bs) (own_given bs)
+  own_gives : is_seen (alone c) (thread_whose w tid) ≡ true → given_in (served_steps (run tid call) (seeing led.bytes (view m w) call)) ≡ given_in bs
   first : is_seen m (thread_whose w tid) ≡ true → is_seen (alone c) (thread_whose w tid) ≡ false → (is : List Item) → next_entry (told_items (told_inputs m c (world_after w bs) (thread_whose w tid) (entries_of bs)) ++ is) ≡ own_entry bs
   done : every (is_done (world_after w bs)) (entries_of bs) ≡ true
 
@@ -73,7 +78,7 @@ owes-of : (led : Leads) (m : Group) (c : ℕ) (w : World) (tid : ℕ) (call : Sc
 owes-of led m c w tid call bs is o = from (subst (OwesAt led m c w tid call) (sym is) o)
   where
     from : OwesAt led m c w tid call (served_steps (run tid call) w) → Owes led m c w tid call
-    from o = record { apart = o.apart; own = o.own; leads = o.leads; first = o.first; done = o.done }
+    from o = record { apart = o.apart; own = o.own; leads = o.leads; gives = o.gives; own_gives = o.own_gives; first = o.first; done = o.done }
 
 -- a member's entry, other than c's, is the next of its inputs
 not-told : (c : ℕ) (whose : Whose) (e : Entry) → is_seen (alone c) whose ≡ false → is_told_to c whose (Told e) ≡ false
@@ -95,6 +100,8 @@ owes-lone led m c w tid call e whose off done same = record {
   apart = λ out. let gone : is_heard m w (thread_whose w tid) e ≡ false = ap (is_seen m) whose ∙ out in rw gone refl;
   own = λ is. subst (Led m c w (thread_whose w tid) w (Tells e ∷ [])) (sym (same is)) (led-same m c w (thread_whose w tid) w (Tells e ∷ []) refl);
   leads = λ seen other. let none : is_heard (alone c) w (thread_whose w tid) e ≡ false = ap (is_seen (alone c)) whose ∙ other in record { world = rw off refl; told = rw (none, off) refl };
+  gives = λ seen other is. rw off refl;
+  own_gives = λ is. ap given_in (same is);
   first = λ seen other is. next-is m c w (thread_whose w tid) e [] is (ap (is_seen m) whose ∙ seen) (ap (is_seen (alone c)) whose ∙ other);
   done = rw done refl;
 }
@@ -211,6 +218,11 @@ headed w tid (Writes a b d ∷ bs) is = absurd (cc)
 headed w tid (Maps a v ∷ bs) is = absurd (cc)
 headed w tid (Unmaps a b ∷ bs) is = absurd (cc)
 headed w tid (DropsViewsOf a ∷ bs) is = absurd (cc)
+headed w tid (DropsOwned a ∷ bs) is = absurd (cc)
+headed w tid (Secures a b ∷ bs) is = absurd (cc)
+headed w tid (Acts a b ∷ bs) is = absurd (cc)
+headed w tid (AddsToken a ∷ bs) is = absurd (cc)
+headed w tid (NamesToken a ∷ bs) is = absurd (cc)
 
 -- an orderly list begins so
 pub begins-of : (w : World) (tid : ℕ) (bs : List Basic) → is_call_of w tid bs ≡ true → Begins w tid bs
@@ -254,6 +266,24 @@ c-called led m c w tid call by r is =
 c-calls : (m : Group) (c : ℕ) (w : World) (tid : ℕ) (by : ThreadRow) → Ready m c w tid by → is_seen (alone c) (thread_whose w tid) ≡ true → by.process ≡ c
 c-calls m c w tid by r is = let both_own : Some by.process ≡ Some c = sym (live-owner m c w tid by r.fair r.live) ∙ owner-c c w tid is in cc
 
+-- a member's token, other than c's, is the next of its inputs
+given-in : (m : Group) (c : ℕ) (d : Whose) (gs : List Impersonation) → is_seen m d ≡ true → is_seen (alone c) d ≡ false → given_inputs m c d gs ≡ gs
+given-in m c d [] seen other = refl
+given-in m c d (own ∷ gs) seen other = at d seen other (given-in m c d gs seen other)
+  where
+    at : (e : Whose) → is_seen m e ≡ true → is_seen (alone c) e ≡ false → which (is_given_input m c d) gs ≡ gs → cond (is_seen m e && not (is_told_to c e (Gave own))) (own ∷ which (is_given_input m c d) gs) (which (is_given_input m c d) gs) ≡ own ∷ gs
+    at (Of pid) seen other rest = rw (seen, other, rest) refl
+    at Everyone seen other rest = absurd (cc)
+    at Nobody seen other rest = absurd (cc)
+
+next-given : (m : Group) (c : ℕ) (d : Whose) (es : List Entry) (gs : List Impersonation) (is : List Item) → is_seen m d ≡ true → is_seen (alone c) d ≡ false → IsGiven (next_given (told_items es ++ (gave_items (given_inputs m c d gs) ++ is))) gs
+next-given m c d [] gs is seen other = subst (λ hs. IsGiven (next_given (gave_items hs ++ is)) gs) (sym (given-in m c d gs seen other)) (at gs)
+  where
+    at : (gs : List Impersonation) → IsGiven (next_given (gave_items gs ++ is)) gs
+    at [] = tt
+    at (own ∷ gs) = refl
+next-given m c d (e ∷ es) gs is seen other = next-given m c d es gs is seen other
+
 owes-ok : (led : Leads) (m : Group) (c : ℕ) (w : World) (tid : ℕ) (call : ScriptCall) (by : ThreadRow) (bs : List Basic) → Ready m c w tid by → Serves led m c w by call → served w by call ≡ Ok bs → HasFineRows m c (world_after w bs) → OwesAt led m c w tid call bs
 owes-ok led m c w tid call by bs r s at fine =
     let number : by.number ≡ tid = live-number w tid by r.live in
@@ -272,7 +302,17 @@ owes-ok led m c w tid call by bs r s at fine =
           let by_in : m by.process ≡ true = sym (owner-in m w tid by own) ∙ seen in
           let by_other : (by.process == c) ≡ false = sym (owner-in (alone c) w tid by own) ∙ other in
           let accepted : accepts (own_entry bs) ≡ true = ap accepts (own-is w tid bs head) ∙ head.accepted in
-          rw (accepted, live-view m c w tid by.process r.fair own by_in, r.live) (holds_ok (λ bs. HasFineRows m c (world_after w bs) → Led m c (world_after w bs) d w bs (led.lead (view m w) by call (own_entry bs))) (served w by call) bs (s.leads d by_in by_other) at fine);
+          rw (accepted, live-view m c w tid by.process r.fair own by_in, r.live) (holds_ok (λ bs. HasFineRows m c (world_after w bs) → Led m c (world_after w bs) d w bs (led.lead (view m w) by call (own_entry bs) (own_given bs))) (served w by call) bs (s.leads d by_in by_other) at fine);
+      gives = λ seen other is.
+          let by_in : m by.process ≡ true = sym (owner-in m w tid by own) ∙ seen in
+          let accepted : accepts (own_entry bs) ≡ true = ap accepts (own-is w tid bs head) ∙ head.accepted in
+          let o : Option Impersonation = next_given (told_items (told_inputs m c u d (entries_of bs)) ++ (gave_items (given_inputs m c d (given_in bs)) ++ is)) in
+          let lead = holds_ok (λ bs. (v : World) (e : Entry) (o : Option Impersonation) → IsGiven o (given_in bs) → led.lead v by call e o ≡ led.lead v by call e (own_given bs)) (served w by call) bs s.gives at in
+          gives-line (accepts (own_entry bs)) (live_thread (view m w) tid) accepted (live-view m c w tid by.process r.fair own by_in ∙ r.live) o (lead (view m w) (own_entry bs) o (next-given m c d (told_inputs m c u d (entries_of bs)) (given_in bs) is seen other));
+      own_gives = λ is.
+          let P : List Basic → List Basic → Type 0 = λ bs led. given_in led ≡ given_in bs in
+          let answered : Answered P (Ok bs) (served (seeing led.bytes (view m w) call) by call) = subst (λ r. Answered P r (served (seeing led.bytes (view m w) call) by call)) at (s.own_gives (c-calls m c w tid by r is)) in
+          ap given_in (c-called led m c w tid call by r is) ∙ given_too (served (seeing led.bytes (view m w) call) by call) answered;
       first = λ seen other is.
           ap (λ bs'. next_entry (told_items (told_inputs m c u d (entries_of bs')) ++ is)) head.is
           ∙ ap (λ es. next_entry (told_items (told_inputs m c u d (es ++ entries_of head.rest)) ++ is)) head.told
@@ -284,6 +324,13 @@ owes-ok led m c w tid call by bs r s at fine =
     taken : (t : Result (List Basic) Status) → Answered (λ bs led. HasFineRows m c (world_after w bs) → Led m c (world_after w bs) (thread_whose w tid) w bs led) (Ok bs) t → Led m c (world_after w bs) (thread_whose w tid) w bs (settled by (name_of_call call) t)
     taken (Ok led) is = is fine
     taken (Err e) is = absurd is
+
+    given_too : (t : Result (List Basic) Status) → Answered (λ bs led. given_in led ≡ given_in bs) (Ok bs) t → given_in (settled by (name_of_call call) t) ≡ given_in bs
+    given_too (Ok led) is = is
+    given_too (Err e) is = absurd is
+
+    gives-line : (b : Bool) (l : Option ThreadRow) → b ≡ true → l ≡ Some by → (o : Option Impersonation) → led.lead (view m w) by call (own_entry bs) o ≡ led.lead (view m w) by call (own_entry bs) (own_given bs) → cond b (given l (λ by. led.lead (view m w) by call (own_entry bs) o)) [] ≡ cond b (given l (λ by. led.lead (view m w) by call (own_entry bs) (own_given bs))) []
+    gives-line b l one two o same = rw (one, two) same
 
 owes-settled : (led : Leads) (m : Group) (c : ℕ) (w : World) (tid : ℕ) (call : ScriptCall) (by : ThreadRow) (t : Result (List Basic) Status) → Ready m c w tid by → Serves led m c w by call → served w by call ≡ t → HasFineRows m c (world_after w (settled by (name_of_call call) t)) → OwesAt led m c w tid call (settled by (name_of_call call) t)
 owes-settled led m c w tid call by (Ok bs) r s at fine = owes-ok led m c w tid call by bs r s at fine

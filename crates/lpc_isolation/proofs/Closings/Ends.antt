@@ -1,6 +1,6 @@
 -- Waits that end one after the other, and what that owes as a stage of a closing.
-use Rattle.std.proofs.Common.{◌≡◌, ℕ, List, [], ◌∷◌, Bool, true, false, not, refl, ap, sym, subst, ◌∙◌, arith}
-use Rattle.std.proofs.lemmas.Bool.{and_from, false_from_ne_true, not-true}
+use Rattle.std.proofs.Common.{◌≡◌, ℕ, List, [], ◌∷◌, Bool, true, false, not, refl, ap, sym, subst, ◌∙◌, arith, map}
+use Rattle.std.proofs.lemmas.Bool.{and_from, false_from_ne_true, not-true, eqb-true, or_parts}
 use Rattle.std.specs.Prelude.{◌&&◌, ◌||◌, ◌==◌}
 use Rattle.lpc_base.specs.Rows.{each, every, has, which, without}
 use Rattle.lpc_base.specs.declared.status.Status.{Status}
@@ -9,21 +9,22 @@ use Rattle.lpc_base.proofs.RowMaps.{every-both}
 use Rattle.lpc_base.proofs.Bools.{first-true, second-true}
 use Rattle.lpc_model.specs.declared.entry.Entry.TheVariants as entry
 use Rattle.lpc_model.specs.declared.entry.Field.{Field}
-use Rattle.lpc_model.specs.World.{Birth, MessageRow, WaitRow, World}
-use Rattle.lpc_model.specs.Found.{is_own_of, waits_as}
-use Rattle.lpc_model.specs.Basics.{Basic, Steps, Withdraws, basic, end_each, entries_of, world_after}
+use Rattle.lpc_model.specs.World.{Birth, MessageRow, WaitRow, World, ViewRow, ViewTable}
+use Rattle.lpc_model.specs.Found.{is_own_of, waits_as, all_views, is_connect, is_owned_by}
+use Rattle.lpc_model.specs.Basics.{Basic, Steps, Withdraws, basic, end_each, entries_of, world_after, DropsOwned, without_owned}
 use Rattle.lpc_model.specs.Entering.{woken}
-use Rattle.lpc_model.proofs.Steps.Rows.{count-less}
+use Rattle.lpc_model.proofs.Steps.Rows.{count-less, has-append}
 use Rattle.lpc_model.specs.Circle.{Group, Whose}
 use Rattle.lpc_isolation.proofs.Views.Alone.{alone}
 use Rattle.lpc_isolation.proofs.Views.View.{our_message, our_wait, view}
-use Rattle.lpc_isolation.proofs.Views.Basics.{run-ours, sees_own}
-use Rattle.lpc_isolation.proofs.Rows.Fair.{is_fair_wait}
-use Rattle.lpc_isolation.proofs.Views.Apart.{Owned, are_apart, end-apart, heard, is_heard, is_owned}
-use Rattle.lpc_isolation.proofs.Views.Callers.{Led, c-wait}
+use Rattle.lpc_isolation.proofs.Views.Basics.{run-ours, sees_own, none-owned, sees}
+use Rattle.lpc_isolation.proofs.Rows.Fair.{is_fair_wait, Fair, keeps-fair}
+use Rattle.lpc_isolation.proofs.Views.Apart.{Owned, are_apart, end-apart, heard, is_heard, is_owned, is_apart}
+use Rattle.lpc_isolation.proofs.Views.Callers.{Led, c-wait, unseen-owned}
 use Rattle.lpc_isolation.proofs.Each.Reply.{wake-not-c}
 use Rattle.lpc_isolation.proofs.Plays.Play.{is_told_input, told_inputs}
 use Rattle.lpc_isolation.proofs.Rows.Paths.{is_path}
+use Rattle.lpc_isolation.proofs.Rows.Clients.{is_client_wait}
 use Rattle.lpc_isolation.proofs.Rows.Asked.{Asked, asks_of, basic-asked, has_own, is_own, is_quiet, is_settled, is_sort, still-own}
 use Rattle.lpc_isolation.proofs.Memory.Heard.{Heard, entries_memo, entries-silent, is_silent, takes_any}
 use Rattle.lpc_isolation.proofs.Gone.Thin.{Alive, Closed, thin, wait_closed}
@@ -32,28 +33,34 @@ use Rattle.lpc_isolation.proofs.Closings.Mild.{AreLosses, Sure, losses-fair, los
 use Rattle.lpc_isolation.proofs.Closings.Lone.{is_lone, is_mute, lone-all, mute-all, quiet-all}
 use Rattle.lpc_isolation.proofs.Closings.Stages.{Stage}
 
--- a wait ends, and where it is for an answer, its message leaves its queue
-abbrev pub ended : Bool → Status → List Field → WaitRow → List Basic
-ended false status fields x = woken status fields x ∷ []
-ended true status fields x = woken status fields x ∷ Withdraws x.thread ∷ []
+-- a wait ends; where it is for an answer, its message leaves its queue; and where it is a connect, the views of its port go
+abbrev pub ended : Bool → Bool → Status → List Field → WaitRow → List Basic
+ended false false status fields x = woken status fields x ∷ []
+ended true false status fields x = woken status fields x ∷ Withdraws x.thread ∷ []
+ended false true status fields x = woken status fields x ∷ DropsOwned x.port ∷ []
+ended true true status fields x = woken status fields x ∷ Withdraws x.thread ∷ DropsOwned x.port ∷ []
 
-abbrev pub all_ended : Bool → Status → List Field → List WaitRow → List Basic
-all_ended draws status fields xs = each (ended draws status fields) xs
+abbrev pub all_ended : Bool → Bool → Status → List Field → List WaitRow → List Basic
+all_ended draws drops status fields xs = each (ended draws drops status fields) xs
 
 -- what is known of a wait that stands
 abbrev pub is_known_wait : Group → ℕ → World → World → WaitRow → Bool
-is_known_wait m c u w x = is_fair_wait m c x && (is_path w x && is_owned u x)
+is_known_wait m c u w x = is_fair_wait m c x && (is_path w x && (is_owned u x && is_client_wait w x))
 
 known-waits : (m : Group) (c : ℕ) (u w : World) → Sure m c u w → every (is_known_wait m c u w) w.waits ≡ true
-known-waits m c u w s = every-both (is_fair_wait m c) (λ x. is_path w x && is_owned u x) (is_known_wait m c u w) (λ x a b. and_from _ _ a b) w.waits s.fair.waits
-    (every-both (is_path w) (is_owned u) _ (λ x a b. and_from _ _ a b) w.waits s.paths s.owned)
+known-waits m c u w s = every-both (is_fair_wait m c) (λ x. is_path w x && (is_owned u x && is_client_wait w x)) (is_known_wait m c u w) (λ x a b. and_from _ _ a b) w.waits s.fair.waits
+    (every-both (is_path w) (λ x. is_owned u x && is_client_wait w x) _ (λ x a b. and_from _ _ a b) w.waits s.paths
+    (every-both (is_owned u) (is_client_wait w) _ (λ x a b. and_from _ _ a b) w.waits s.owned s.clients))
 
 -- what is asked of the test by which waits end that a port's closing concerns
-pub record IsEnd (m : Group) (c : ℕ) (b : Birth) (draws : Bool) (test : World → WaitRow → Bool) : Type 0 where
+pub record IsEnd (m : Group) (c : ℕ) (b : Birth) (draws drops : Bool) (test : World → WaitRow → Bool) : Type 0 where
   -- whose message isn't drawn, has none; an outsider's closing ends no wait of c, and none in the view for messages
   pub settled : draws ≡ false → (w : World) (x : WaitRow) → test w x ≡ true → is_settled x ≡ true
   pub other : m b.process ≡ false → (u w : World) (x : WaitRow) → Sure m c u w → is_known_wait m c u w x ≡ true → test w x ≡ true → (x.process == c) ≡ false
   pub unseen : m b.process ≡ false → (u w : World) (x : WaitRow) → Sure m c u w → is_known_wait m c u w x ≡ true → test w x ≡ true → (our_wait m x && (draws || takes_any x)) ≡ false
+  -- whose port's views go, is a connect; in an outsider's closing on an outsider's port
+  pub connects : drops ≡ true → (w : World) (x : WaitRow) → test w x ≡ true → is_connect x ≡ true
+  pub away : drops ≡ true → m b.process ≡ false → (u w : World) (x : WaitRow) → Sure m c u w → is_known_wait m c u w x ≡ true → test w x ≡ true → m x.port.process ≡ false
   -- a member's closing ends in the view what it ends there in the world, and c's closing no other
   pub agree : m b.process ≡ true → (u w : World) (x : WaitRow) → Sure m c u w → is_known_wait m c u w x ≡ true → our_wait m x ≡ true → test (view m w) x ≡ test w x
   pub inside : b.process ≡ c → (u w : World) (x : WaitRow) → Sure m c u w → is_known_wait m c u w x ≡ true → test w x ≡ true → our_wait m x ≡ true
@@ -77,15 +84,19 @@ which-same p s t same [] all = refl
 which-same p s t same (x ∷ xs) all = grind (arith, same x, which-same p s t same xs)
 
 -- Rows go
-pub losses-ended : (b : Birth) (draws : Bool) (status : Status) (fields : List Field) (xs : List WaitRow) → AreLosses b (all_ended draws status fields xs)
-losses-ended b draws status fields [] = refl
-losses-ended b true status fields (x ∷ xs) = losses-ended b true status fields xs
-losses-ended b false status fields (x ∷ xs) = losses-ended b false status fields xs
+pub losses-ended : (b : Birth) (draws drops : Bool) (status : Status) (fields : List Field) (xs : List WaitRow) → AreLosses b (all_ended draws drops status fields xs)
+losses-ended b draws drops status fields [] = refl
+losses-ended b true true status fields (x ∷ xs) = losses-ended b true true status fields xs
+losses-ended b true false status fields (x ∷ xs) = losses-ended b true false status fields xs
+losses-ended b false true status fields (x ∷ xs) = losses-ended b false true status fields xs
+losses-ended b false false status fields (x ∷ xs) = losses-ended b false false status fields xs
 
-closed-ended : (k : Alive) (draws : Bool) (status : Status) (fields : List Field) (xs : List WaitRow) → AreClosed k (all_ended draws status fields xs)
-closed-ended k draws status fields [] = refl
-closed-ended k true status fields (x ∷ xs) = closed-ended k true status fields xs
-closed-ended k false status fields (x ∷ xs) = closed-ended k false status fields xs
+closed-ended : (k : Alive) (draws drops : Bool) (status : Status) (fields : List Field) (xs : List WaitRow) → AreClosed k (all_ended draws drops status fields xs)
+closed-ended k draws drops status fields [] = refl
+closed-ended k true true status fields (x ∷ xs) = closed-ended k true true status fields xs
+closed-ended k true false status fields (x ∷ xs) = closed-ended k true false status fields xs
+closed-ended k false true status fields (x ∷ xs) = closed-ended k false true status fields xs
+closed-ended k false false status fields (x ∷ xs) = closed-ended k false false status fields xs
 
 -- a queued message that asks is still its thread's own
 pub drawn-asked : (w : World) (tid : ℕ) → Asked w → Asked (record w { waits = without (waits_as tid) w.waits; messages = without (is_own_of tid) w.messages })
@@ -103,17 +114,28 @@ drawn-asked w tid a = record {
     none-left t [] = refl
     none-left t (y ∷ ys) = grind (arith, none-left t ys)
 
-ended-asked : (draws : Bool) (status : Status) (fields : List Field) (xs : List WaitRow) (w : World) → every (λ x. draws || is_quiet w.messages x.thread) xs ≡ true → Asked w → Asked (world_after w (all_ended draws status fields xs))
-ended-asked draws status fields [] w quiet a = a
-ended-asked true status fields (x ∷ xs) w quiet a = ended-asked true status fields xs (world_after w (ended true status fields x)) (any xs) (as-after (drawn-asked w x.thread a))
+ended-asked : (draws drops : Bool) (status : Status) (fields : List Field) (xs : List WaitRow) (w : World) → every (λ x. draws || is_quiet w.messages x.thread) xs ≡ true → Asked w → Asked (world_after w (all_ended draws drops status fields xs))
+ended-asked draws drops status fields [] w quiet a = a
+ended-asked true true status fields (x ∷ xs) w quiet a = ended-asked true true status fields xs (world_after w (ended true true status fields x)) (any xs) (as-after (drawn-asked w x.thread a))
   where
-    as-after : Asked (record w { waits = without (waits_as x.thread) w.waits; messages = without (is_own_of x.thread) w.messages }) → Asked (world_after w (ended true status fields x))
+    as-after : Asked (record w { waits = without (waits_as x.thread) w.waits; messages = without (is_own_of x.thread) w.messages }) → Asked (world_after w (ended true true status fields x))
     as-after a = record { sorts = a.sorts; own = a.own; one = a.one }
 
     any : (xs : List WaitRow) → every (λ x. true) xs ≡ true
     any [] = refl
     any (x ∷ xs) = any xs
-ended-asked false status fields (x ∷ xs) w quiet a = ended-asked false status fields xs (basic w (woken status fields x)) (second-true _ _ quiet) (basic-asked w (woken status fields x) (first-true _ _ quiet) a)
+ended-asked true false status fields (x ∷ xs) w quiet a = ended-asked true false status fields xs (world_after w (ended true false status fields x)) (any xs) (as-after (drawn-asked w x.thread a))
+  where
+    as-after : Asked (record w { waits = without (waits_as x.thread) w.waits; messages = without (is_own_of x.thread) w.messages }) → Asked (world_after w (ended true false status fields x))
+    as-after a = record { sorts = a.sorts; own = a.own; one = a.one }
+
+    any : (xs : List WaitRow) → every (λ x. true) xs ≡ true
+    any [] = refl
+    any (x ∷ xs) = any xs
+ended-asked false true status fields (x ∷ xs) w quiet a =
+    let v : World = basic w (woken status fields x) in
+    ended-asked false true status fields xs (basic v (DropsOwned x.port)) (second-true _ _ quiet) (basic-asked v (DropsOwned x.port) refl (basic-asked w (woken status fields x) (first-true _ _ quiet) a))
+ended-asked false false status fields (x ∷ xs) w quiet a = ended-asked false false status fields xs (basic w (woken status fields x)) (second-true _ _ quiet) (basic-asked w (woken status fields x) (first-true _ _ quiet) a)
 
 -- By an outsider
 abbrev is_free : Group → ℕ → World → Bool → World → WaitRow → Bool
@@ -129,25 +151,57 @@ free-less m c u w x y is = at (sees_own m w y.thread) refl
     at true seen = absurd (grind arith)
     at false none = rw (own-less m w (is_own_of x.thread) y.thread none) (grind arith)
 
-ended-apart : (m : Group) (c : ℕ) (u : World) (d : Whose) (draws : Bool) (status : Status) (fields : List Field) (xs : List WaitRow) (w : World) → Owned u w → every (is_free m c u draws w) xs ≡ true → are_apart m c u d w (all_ended draws status fields xs) ≡ true
-ended-apart m c u d draws status fields [] w owned free = refl
-ended-apart m c u d false status fields (x ∷ xs) w owned free =
+abbrev is_out : Group → Bool → WaitRow → Bool
+is_out m drops x = not drops || not (m x.port.process)
+
+ended-apart : (m : Group) (c : ℕ) (u : World) (d : Whose) (draws drops : Bool) (status : Status) (fields : List Field) (xs : List WaitRow) (w : World) → Owned u w → Fair m c w → every (is_free m c u draws w) xs ≡ true → every (is_out m drops) xs ≡ true → are_apart m c u d w (all_ended draws drops status fields xs) ≡ true
+ended-apart m c u d draws drops status fields [] w owned f free outs = refl
+ended-apart m c u d false false status fields (x ∷ xs) w owned f free outs =
     let here : is_free m c u false w x ≡ true = first-true _ _ free in
-    and_from _ _ (and_from _ _ (end-apart m c u d w x status fields owned (first-true _ _ here) (not-true _ (first-true _ _ (second-true (is_owned u x) _ here)))) refl)
-    (ended-apart m c u d false status fields xs (basic w (woken status fields x)) (every-without (is_owned u) (waits_as x.thread) w.waits owned) (second-true _ _ free))
-ended-apart m c u d true status fields (x ∷ xs) w owned free =
+    let v : World = basic w (woken status fields x) in
+    let fv : Fair m c v = keeps-fair m c w (woken status fields x) refl f in
+    let still : Owned u v = every-without (is_owned u) (waits_as x.thread) w.waits owned in
+    let one : is_apart m c u d w (woken status fields x) ≡ true = end-apart m c u d w x status fields owned (first-true _ _ here) (not-true _ (first-true _ _ (second-true (is_owned u x) _ here))) in
+    and_from _ _ (and_from _ _ one refl) (ended-apart m c u d false false status fields xs v still fv (second-true _ _ free) (second-true (is_out m false x) _ outs))
+ended-apart m c u d false true status fields (x ∷ xs) w owned f free outs =
+    let here : is_free m c u false w x ≡ true = first-true _ _ free in
+    let v : World = basic w (woken status fields x) in
+    let fv : Fair m c v = keeps-fair m c w (woken status fields x) refl f in
+    let still : Owned u v = every-without (is_owned u) (waits_as x.thread) w.waits owned in
+    let one : is_apart m c u d w (woken status fields x) ≡ true = end-apart m c u d w x status fields owned (first-true _ _ here) (not-true _ (first-true _ _ (second-true (is_owned u x) _ here))) in
+    let none : sees m v (DropsOwned x.port) ≡ false = unseen-owned m c v x.port fv (not-true (m x.port.process) (first-true _ _ outs)) in
+    and_from _ _ (and_from _ _ one refl) (and_from _ _ (and_from _ _ (rw none refl) refl)
+    (ended-apart m c u d false true status fields xs (basic v (DropsOwned x.port)) still (keeps-fair m c v (DropsOwned x.port) refl fv) (second-true _ _ free) (second-true _ _ outs)))
+ended-apart m c u d true false status fields (x ∷ xs) w owned f free outs =
     let here : is_free m c u true w x ≡ true = first-true _ _ free in
     let v : World = basic w (woken status fields x) in
-    let none : sees_own m w x.thread ≡ false = not-true _ (second-true (not (x.process == c)) _ (second-true (is_owned u x) _ here)) in
-    and_from _ _ (and_from _ _ (end-apart m c u d w x status fields owned (first-true _ _ here) (not-true _ (first-true _ _ (second-true (is_owned u x) _ here)))) refl)
-    (and_from _ _ (and_from _ _ (rw none refl) refl)
-    (ended-apart m c u d true status fields xs (basic v (Withdraws x.thread)) (every-without (is_owned u) (waits_as x.thread) w.waits owned)
-    (every-more (is_free m c u true w) (is_free m c u true (basic v (Withdraws x.thread))) (λ y is. free-less m c u w x y is) xs (second-true _ _ free))))
+    let fv : Fair m c v = keeps-fair m c w (woken status fields x) refl f in
+    let still : Owned u v = every-without (is_owned u) (waits_as x.thread) w.waits owned in
+    let one : is_apart m c u d w (woken status fields x) ≡ true = end-apart m c u d w x status fields owned (first-true _ _ here) (not-true _ (first-true _ _ (second-true (is_owned u x) _ here))) in
+    let own : sees_own m w x.thread ≡ false = not-true _ (second-true (not (x.process == c)) _ (second-true (is_owned u x) _ here)) in
+    and_from _ _ (and_from _ _ one refl) (and_from _ _ (and_from _ _ (rw own refl) refl)
+    (ended-apart m c u d true false status fields xs (basic v (Withdraws x.thread)) still (keeps-fair m c v (Withdraws x.thread) refl fv)
+    (every-more (is_free m c u true w) (is_free m c u true (basic v (Withdraws x.thread))) (λ y is. free-less m c u w x y is) xs (second-true _ _ free)) (second-true (is_out m false x) _ outs)))
+ended-apart m c u d true true status fields (x ∷ xs) w owned f free outs =
+    let here : is_free m c u true w x ≡ true = first-true _ _ free in
+    let v : World = basic w (woken status fields x) in
+    let fv : Fair m c v = keeps-fair m c w (woken status fields x) refl f in
+    let still : Owned u v = every-without (is_owned u) (waits_as x.thread) w.waits owned in
+    let one : is_apart m c u d w (woken status fields x) ≡ true = end-apart m c u d w x status fields owned (first-true _ _ here) (not-true _ (first-true _ _ (second-true (is_owned u x) _ here))) in
+    let own : sees_own m w x.thread ≡ false = not-true _ (second-true (not (x.process == c)) _ (second-true (is_owned u x) _ here)) in
+    let t : World = basic v (Withdraws x.thread) in
+    let ft : Fair m c t = keeps-fair m c v (Withdraws x.thread) refl fv in
+    let none : sees m t (DropsOwned x.port) ≡ false = unseen-owned m c t x.port ft (not-true (m x.port.process) (first-true _ _ outs)) in
+    and_from _ _ (and_from _ _ one refl) (and_from _ _ (and_from _ _ (rw own refl) refl) (and_from _ _ (and_from _ _ (rw none refl) refl)
+    (ended-apart m c u d true true status fields xs (basic t (DropsOwned x.port)) still (keeps-fair m c t (DropsOwned x.port) refl ft)
+    (every-more (is_free m c u true w) (is_free m c u true (basic t (DropsOwned x.port))) (λ y is. free-less m c u w x y is) xs (second-true _ _ free)) (second-true _ _ outs))))
 
-ended-silent : (v : World) (draws : Bool) (status : Status) (fields : List Field) (xs : List WaitRow) → every (λ x. is_silent v (entry.Wakes x.thread x.call status fields)) xs ≡ true → every (is_silent v) (entries_of (all_ended draws status fields xs)) ≡ true
-ended-silent v draws status fields [] mute = refl
-ended-silent v true status fields (x ∷ xs) mute = and_from _ _ (first-true _ _ mute) (ended-silent v true status fields xs (second-true _ _ mute))
-ended-silent v false status fields (x ∷ xs) mute = and_from _ _ (first-true _ _ mute) (ended-silent v false status fields xs (second-true _ _ mute))
+ended-silent : (v : World) (draws drops : Bool) (status : Status) (fields : List Field) (xs : List WaitRow) → every (λ x. is_silent v (entry.Wakes x.thread x.call status fields)) xs ≡ true → every (is_silent v) (entries_of (all_ended draws drops status fields xs)) ≡ true
+ended-silent v draws drops status fields [] mute = refl
+ended-silent v true true status fields (x ∷ xs) mute = and_from _ _ (first-true _ _ mute) (ended-silent v true true status fields xs (second-true _ _ mute))
+ended-silent v true false status fields (x ∷ xs) mute = and_from _ _ (first-true _ _ mute) (ended-silent v true false status fields xs (second-true _ _ mute))
+ended-silent v false true status fields (x ∷ xs) mute = and_from _ _ (first-true _ _ mute) (ended-silent v false true status fields xs (second-true _ _ mute))
+ended-silent v false false status fields (x ∷ xs) mute = and_from _ _ (first-true _ _ mute) (ended-silent v false false status fields xs (second-true _ _ mute))
 
 -- By a member: what isn't in the view leaves it
 abbrev is_lost : Group → World → WaitRow → Bool
@@ -176,59 +230,131 @@ none-waits m v x out is = grind arith
 none-own : (m : Group) (v : World) (x : WaitRow) → our_wait m x ≡ false → is_lost m v x ≡ true → has (is_own_of x.thread) v.messages ≡ false
 none-own m v x out is = grind arith
 
-ended-left : (m : Group) (draws : Bool) (status : Status) (fields : List Field) (xs : List WaitRow) (v : World) → every (is_lost m v) xs ≡ true → world_after v (all_ended draws status fields xs) ≡ world_after v (all_ended draws status fields (which (our_wait m) xs))
-ended-left m draws status fields [] v lost = refl
-ended-left m false status fields (x ∷ xs) v lost = at (our_wait m x) refl (ended-left m false status fields xs (basic v (woken status fields x)) (every-more (is_lost m v) (is_lost m (basic v (woken status fields x))) (lost-waits m v (waits_as x.thread)) xs (second-true _ _ lost)))
+-- and its port owns nothing there
+abbrev is_bare : Group → Bool → World → WaitRow → Bool
+is_bare m drops v x = our_wait m x || (not drops || not (has (is_owned_by x.port) (all_views v)))
+
+less-owned : (p : ViewRow → Bool) (b : Birth) (ts : List ViewTable) → has p (each (λ (t : ViewTable). t.rows) ts) ≡ false → has p (each (λ (t : ViewTable). t.rows) (map (without_owned b) ts)) ≡ false
+less-owned p b [] none = refl
+less-owned p b (t ∷ ts) none =
+    let rest : List ViewRow = each (λ (t : ViewTable). t.rows) ts in
+    let parts = or_parts (has p t.rows) (has p rest) (sym (has-append p t.rows rest) ∙ none) in
+    has-append p (without (is_owned_by b) t.rows) (each (λ (t : ViewTable). t.rows) (map (without_owned b) ts)) ∙ rw (has_none-without p (is_owned_by b) t.rows parts.0, less-owned p b ts parts.1) refl
+
+bare-less : (m : Group) (v : World) (b : Birth) (y : WaitRow) → is_bare m true v y ≡ true → is_bare m true (basic v (DropsOwned b)) y ≡ true
+bare-less m v b y is = at (our_wait m y) (has (is_owned_by y.port) (all_views v)) refl refl
+  where
+    at : (a e : Bool) → our_wait m y ≡ a → has (is_owned_by y.port) (all_views v) ≡ e → is_bare m true (basic v (DropsOwned b)) y ≡ true
+    at true e ours owned = rw ours refl
+    at false true out owned = absurd (grind arith)
+    at false false out owned = rw (out, less-owned (is_owned_by y.port) b v.views owned) refl
+
+none-views : (m : Group) (v : World) (x : WaitRow) → our_wait m x ≡ false → is_bare m true v x ≡ true → basic v (DropsOwned x.port) ≡ v
+none-views m v x out is = let none : has (is_owned_by x.port) (all_views v) ≡ false = grind arith in ap (λ vs. record v { views = vs }) (none-owned x.port v.views none)
+
+ended-left : (m : Group) (draws drops : Bool) (status : Status) (fields : List Field) (xs : List WaitRow) (v : World) → every (is_lost m v) xs ≡ true → every (is_bare m drops v) xs ≡ true → world_after v (all_ended draws drops status fields xs) ≡ world_after v (all_ended draws drops status fields (which (our_wait m) xs))
+ended-left m draws drops status fields [] v lost bare = refl
+ended-left m false false status fields (x ∷ xs) v lost bare = at (our_wait m x) refl (ended-left m false false status fields xs (world_after v (ended false false status fields x)) (every-more (is_lost m v) (is_lost m (world_after v (ended false false status fields x))) (lost-waits m v (waits_as x.thread)) xs (second-true _ _ lost)) (second-true _ _ bare))
   where
     ws : List WaitRow
     ws = which (our_wait m) xs
 
-    gone : our_wait m x ≡ false → basic v (woken status fields x) ≡ v
-    gone out = rw (without-none (waits_as x.thread) v.waits (none-waits m v x out (first-true _ _ lost))) refl
+    left : our_wait m x ≡ false → basic v (woken status fields x) ≡ v
+    left out = rw (without-none (waits_as x.thread) v.waits (none-waits m v x out (first-true _ _ lost))) refl
 
-    at : (e : Bool) → our_wait m x ≡ e → world_after (basic v (woken status fields x)) (all_ended false status fields xs) ≡ world_after (basic v (woken status fields x)) (all_ended false status fields ws) → world_after v (all_ended false status fields (x ∷ xs)) ≡ world_after v (all_ended false status fields (which (our_wait m) (x ∷ xs)))
+    gone : our_wait m x ≡ false → world_after v (ended false false status fields x) ≡ v
+    gone out = left out
+
+    at : (e : Bool) → our_wait m x ≡ e → world_after (world_after v (ended false false status fields x)) (all_ended false false status fields xs) ≡ world_after (world_after v (ended false false status fields x)) (all_ended false false status fields ws) → world_after v (all_ended false false status fields (x ∷ xs)) ≡ world_after v (all_ended false false status fields (which (our_wait m) (x ∷ xs)))
     at true ours rest = rw ours rest
-    at false out rest = rw out (rest ∙ ap (λ v. world_after v (all_ended false status fields ws)) (gone out))
-ended-left m true status fields (x ∷ xs) v lost = at (our_wait m x) refl (ended-left m true status fields xs (world_after v (ended true status fields x)) (every-more (is_lost m v) (is_lost m (world_after v (ended true status fields x))) (lost-less m v (waits_as x.thread) (is_own_of x.thread)) xs (second-true _ _ lost)))
+    at false out rest = rw out (rest ∙ ap (λ v. world_after v (all_ended false false status fields ws)) (gone out))
+ended-left m false true status fields (x ∷ xs) v lost bare = at (our_wait m x) refl (ended-left m false true status fields xs (world_after v (ended false true status fields x)) (every-more (is_lost m v) (is_lost m (world_after v (ended false true status fields x))) (lost-waits m v (waits_as x.thread)) xs (second-true _ _ lost)) (every-more (is_bare m true v) (is_bare m true (world_after v (ended false true status fields x))) (λ y is. bare-less m v x.port y is) xs (second-true _ _ bare)))
   where
     ws : List WaitRow
     ws = which (our_wait m) xs
 
-    gone : our_wait m x ≡ false → world_after v (ended true status fields x) ≡ v
-    gone out = rw (without-none (waits_as x.thread) v.waits (none-waits m v x out (first-true _ _ lost)), without-none (is_own_of x.thread) v.messages (none-own m v x out (first-true _ _ lost))) refl
+    left : our_wait m x ≡ false → basic v (woken status fields x) ≡ v
+    left out = rw (without-none (waits_as x.thread) v.waits (none-waits m v x out (first-true _ _ lost))) refl
 
-    at : (e : Bool) → our_wait m x ≡ e → world_after (world_after v (ended true status fields x)) (all_ended true status fields xs) ≡ world_after (world_after v (ended true status fields x)) (all_ended true status fields ws) → world_after v (all_ended true status fields (x ∷ xs)) ≡ world_after v (all_ended true status fields (which (our_wait m) (x ∷ xs)))
+    gone : our_wait m x ≡ false → world_after v (ended false true status fields x) ≡ v
+    gone out = ap (λ v. basic v (DropsOwned x.port)) (left out) ∙ none-views m v x out (first-true _ _ bare)
+
+    at : (e : Bool) → our_wait m x ≡ e → world_after (world_after v (ended false true status fields x)) (all_ended false true status fields xs) ≡ world_after (world_after v (ended false true status fields x)) (all_ended false true status fields ws) → world_after v (all_ended false true status fields (x ∷ xs)) ≡ world_after v (all_ended false true status fields (which (our_wait m) (x ∷ xs)))
     at true ours rest = rw ours rest
-    at false out rest = rw out (rest ∙ ap (λ v. world_after v (all_ended true status fields ws)) (gone out))
+    at false out rest = rw out (rest ∙ ap (λ v. world_after v (all_ended false true status fields ws)) (gone out))
+ended-left m true false status fields (x ∷ xs) v lost bare = at (our_wait m x) refl (ended-left m true false status fields xs (world_after v (ended true false status fields x)) (every-more (is_lost m v) (is_lost m (world_after v (ended true false status fields x))) (lost-less m v (waits_as x.thread) (is_own_of x.thread)) xs (second-true _ _ lost)) (second-true _ _ bare))
+  where
+    ws : List WaitRow
+    ws = which (our_wait m) xs
+
+    left : our_wait m x ≡ false → world_after v (ended true false status fields x) ≡ v
+    left out = rw (without-none (waits_as x.thread) v.waits (none-waits m v x out (first-true _ _ lost)), without-none (is_own_of x.thread) v.messages (none-own m v x out (first-true _ _ lost))) refl
+
+    gone : our_wait m x ≡ false → world_after v (ended true false status fields x) ≡ v
+    gone out = left out
+
+    at : (e : Bool) → our_wait m x ≡ e → world_after (world_after v (ended true false status fields x)) (all_ended true false status fields xs) ≡ world_after (world_after v (ended true false status fields x)) (all_ended true false status fields ws) → world_after v (all_ended true false status fields (x ∷ xs)) ≡ world_after v (all_ended true false status fields (which (our_wait m) (x ∷ xs)))
+    at true ours rest = rw ours rest
+    at false out rest = rw out (rest ∙ ap (λ v. world_after v (all_ended true false status fields ws)) (gone out))
+ended-left m true true status fields (x ∷ xs) v lost bare = at (our_wait m x) refl (ended-left m true true status fields xs (world_after v (ended true true status fields x)) (every-more (is_lost m v) (is_lost m (world_after v (ended true true status fields x))) (lost-less m v (waits_as x.thread) (is_own_of x.thread)) xs (second-true _ _ lost)) (every-more (is_bare m true v) (is_bare m true (world_after v (ended true true status fields x))) (λ y is. bare-less m v x.port y is) xs (second-true _ _ bare)))
+  where
+    ws : List WaitRow
+    ws = which (our_wait m) xs
+
+    left : our_wait m x ≡ false → world_after v (ended true false status fields x) ≡ v
+    left out = rw (without-none (waits_as x.thread) v.waits (none-waits m v x out (first-true _ _ lost)), without-none (is_own_of x.thread) v.messages (none-own m v x out (first-true _ _ lost))) refl
+
+    gone : our_wait m x ≡ false → world_after v (ended true true status fields x) ≡ v
+    gone out = ap (λ v. basic v (DropsOwned x.port)) (left out) ∙ none-views m v x out (first-true _ _ bare)
+
+    at : (e : Bool) → our_wait m x ≡ e → world_after (world_after v (ended true true status fields x)) (all_ended true true status fields xs) ≡ world_after (world_after v (ended true true status fields x)) (all_ended true true status fields ws) → world_after v (all_ended true true status fields (x ∷ xs)) ≡ world_after v (all_ended true true status fields (which (our_wait m) (x ∷ xs)))
+    at true ours rest = rw ours rest
+    at false out rest = rw out (rest ∙ ap (λ v. world_after v (all_ended true true status fields ws)) (gone out))
 
 -- and c isn't told of it
 abbrev is_unheard : Group → ℕ → World → Whose → Status → List Field → WaitRow → Bool
 is_unheard m c u d status fields x = our_wait m x || not (is_heard (alone c) u d (entry.Wakes x.thread x.call status fields))
 
-ended-told : (m : Group) (c : ℕ) (u : World) (d : Whose) (draws : Bool) (status : Status) (fields : List Field) (xs : List WaitRow) → every (is_unheard m c u d status fields) xs ≡ true
-    → heard (alone c) u d (entries_of (all_ended draws status fields xs)) ≡ heard (alone c) u d (entries_of (all_ended draws status fields (which (our_wait m) xs)))
-ended-told m c u d draws status fields [] unheard = refl
-ended-told m c u d false status fields (x ∷ xs) unheard = at (our_wait m x) (is_heard (alone c) u d (entry.Wakes x.thread x.call status fields)) refl refl (first-true _ _ unheard) (ended-told m c u d false status fields xs (second-true _ _ unheard))
+ended-told : (m : Group) (c : ℕ) (u : World) (d : Whose) (draws drops : Bool) (status : Status) (fields : List Field) (xs : List WaitRow) → every (is_unheard m c u d status fields) xs ≡ true
+    → heard (alone c) u d (entries_of (all_ended draws drops status fields xs)) ≡ heard (alone c) u d (entries_of (all_ended draws drops status fields (which (our_wait m) xs)))
+ended-told m c u d draws drops status fields [] unheard = refl
+ended-told m c u d false false status fields (x ∷ xs) unheard = at (our_wait m x) (is_heard (alone c) u d (entry.Wakes x.thread x.call status fields)) refl refl (first-true _ _ unheard) (ended-told m c u d false false status fields xs (second-true _ _ unheard))
   where
-    at : (a e : Bool) → our_wait m x ≡ a → is_heard (alone c) u d (entry.Wakes x.thread x.call status fields) ≡ e → is_unheard m c u d status fields x ≡ true → heard (alone c) u d (entries_of (all_ended false status fields xs)) ≡ heard (alone c) u d (entries_of (all_ended false status fields (which (our_wait m) xs)))
-        → heard (alone c) u d (entries_of (all_ended false status fields (x ∷ xs))) ≡ heard (alone c) u d (entries_of (all_ended false status fields (which (our_wait m) (x ∷ xs))))
+    at : (a e : Bool) → our_wait m x ≡ a → is_heard (alone c) u d (entry.Wakes x.thread x.call status fields) ≡ e → is_unheard m c u d status fields x ≡ true → heard (alone c) u d (entries_of (all_ended false false status fields xs)) ≡ heard (alone c) u d (entries_of (all_ended false false status fields (which (our_wait m) xs)))
+        → heard (alone c) u d (entries_of (all_ended false false status fields (x ∷ xs))) ≡ heard (alone c) u d (entries_of (all_ended false false status fields (which (our_wait m) (x ∷ xs))))
     at true true ours told is rest = rw (ours, told) (ap (λ es. entry.Wakes x.thread x.call status fields ∷ es) rest)
     at true false ours told is rest = rw (ours, told) rest
     at false true out told is rest = absurd (grind arith)
     at false false out told is rest = rw (out, told) rest
-ended-told m c u d true status fields (x ∷ xs) unheard = at (our_wait m x) (is_heard (alone c) u d (entry.Wakes x.thread x.call status fields)) refl refl (first-true _ _ unheard) (ended-told m c u d true status fields xs (second-true _ _ unheard))
+ended-told m c u d false true status fields (x ∷ xs) unheard = at (our_wait m x) (is_heard (alone c) u d (entry.Wakes x.thread x.call status fields)) refl refl (first-true _ _ unheard) (ended-told m c u d false true status fields xs (second-true _ _ unheard))
   where
-    at : (a e : Bool) → our_wait m x ≡ a → is_heard (alone c) u d (entry.Wakes x.thread x.call status fields) ≡ e → is_unheard m c u d status fields x ≡ true → heard (alone c) u d (entries_of (all_ended true status fields xs)) ≡ heard (alone c) u d (entries_of (all_ended true status fields (which (our_wait m) xs)))
-        → heard (alone c) u d (entries_of (all_ended true status fields (x ∷ xs))) ≡ heard (alone c) u d (entries_of (all_ended true status fields (which (our_wait m) (x ∷ xs))))
+    at : (a e : Bool) → our_wait m x ≡ a → is_heard (alone c) u d (entry.Wakes x.thread x.call status fields) ≡ e → is_unheard m c u d status fields x ≡ true → heard (alone c) u d (entries_of (all_ended false true status fields xs)) ≡ heard (alone c) u d (entries_of (all_ended false true status fields (which (our_wait m) xs)))
+        → heard (alone c) u d (entries_of (all_ended false true status fields (x ∷ xs))) ≡ heard (alone c) u d (entries_of (all_ended false true status fields (which (our_wait m) (x ∷ xs))))
+    at true true ours told is rest = rw (ours, told) (ap (λ es. entry.Wakes x.thread x.call status fields ∷ es) rest)
+    at true false ours told is rest = rw (ours, told) rest
+    at false true out told is rest = absurd (grind arith)
+    at false false out told is rest = rw (out, told) rest
+ended-told m c u d true false status fields (x ∷ xs) unheard = at (our_wait m x) (is_heard (alone c) u d (entry.Wakes x.thread x.call status fields)) refl refl (first-true _ _ unheard) (ended-told m c u d true false status fields xs (second-true _ _ unheard))
+  where
+    at : (a e : Bool) → our_wait m x ≡ a → is_heard (alone c) u d (entry.Wakes x.thread x.call status fields) ≡ e → is_unheard m c u d status fields x ≡ true → heard (alone c) u d (entries_of (all_ended true false status fields xs)) ≡ heard (alone c) u d (entries_of (all_ended true false status fields (which (our_wait m) xs)))
+        → heard (alone c) u d (entries_of (all_ended true false status fields (x ∷ xs))) ≡ heard (alone c) u d (entries_of (all_ended true false status fields (which (our_wait m) (x ∷ xs))))
+    at true true ours told is rest = rw (ours, told) (ap (λ es. entry.Wakes x.thread x.call status fields ∷ es) rest)
+    at true false ours told is rest = rw (ours, told) rest
+    at false true out told is rest = absurd (grind arith)
+    at false false out told is rest = rw (out, told) rest
+ended-told m c u d true true status fields (x ∷ xs) unheard = at (our_wait m x) (is_heard (alone c) u d (entry.Wakes x.thread x.call status fields)) refl refl (first-true _ _ unheard) (ended-told m c u d true true status fields xs (second-true _ _ unheard))
+  where
+    at : (a e : Bool) → our_wait m x ≡ a → is_heard (alone c) u d (entry.Wakes x.thread x.call status fields) ≡ e → is_unheard m c u d status fields x ≡ true → heard (alone c) u d (entries_of (all_ended true true status fields xs)) ≡ heard (alone c) u d (entries_of (all_ended true true status fields (which (our_wait m) xs)))
+        → heard (alone c) u d (entries_of (all_ended true true status fields (x ∷ xs))) ≡ heard (alone c) u d (entries_of (all_ended true true status fields (which (our_wait m) (x ∷ xs))))
     at true true ours told is rest = rw (ours, told) (ap (λ es. entry.Wakes x.thread x.call status fields ∷ es) rest)
     at true false ours told is rest = rw (ours, told) rest
     at false true out told is rest = absurd (grind arith)
     at false false out told is rest = rw (out, told) rest
 
 -- The stage
-module _ (m : Group) (c : ℕ) (b : Birth) (draws : Bool) (status : Status) (fields : List Field) (test : World → WaitRow → Bool) (e : IsEnd m c b draws test) where
+module _ (m : Group) (c : ℕ) (b : Birth) (draws drops : Bool) (status : Status) (fields : List Field) (test : World → WaitRow → Bool) (e : IsEnd m c b draws drops test) where
   abbrev ends : Steps
-  ends = end_each test (ended draws status fields)
+  ends = end_each test (ended draws drops status fields)
 
   abbrev ending : World → List WaitRow
   ending w = which (test w) w.waits
@@ -246,7 +372,7 @@ module _ (m : Group) (c : ℕ) (b : Birth) (draws : Bool) (status : Status) (fie
       at : (x : WaitRow) → (is_known_wait m c u w x && is_lone m w x) ≡ true → test w x ≡ true → is_free m c u draws w x ≡ true
       at x is on =
           let known : is_known_wait m c u w x ≡ true = first-true _ _ is in
-          let owned : is_owned u x ≡ true = second-true (is_path w x) _ (second-true (is_fair_wait m c x) _ known) in
+          let owned : is_owned u x ≡ true = first-true (is_owned u x) _ (second-true (is_path w x) _ (second-true (is_fair_wait m c x) _ known)) in
           let other : (x.process == c) ≡ false = e.other out u w x s known on in
           let unseen : (our_wait m x && (draws || takes_any x)) ≡ false = e.unseen out u w x s known on in
           let lone : is_lone m w x ≡ true = second-true (is_known_wait m c u w x) _ is in
@@ -257,10 +383,17 @@ module _ (m : Group) (c : ℕ) (b : Birth) (draws : Bool) (status : Status) (fie
           drawn true on true ours unseen lone = let never : true ≡ false = rw (on, ours) at unseen in absurd (cc)
           drawn true on false ours unseen lone = grind arith
 
+  outs : (u w : World) → Sure m c u w → m b.process ≡ false → every (is_out m drops) (ending w) ≡ true
+  outs u w s out = every-passing (is_known_wait m c u w) (test w) (is_out m drops) (λ x known on. at x known on drops refl) w.waits (known-waits m c u w s)
+    where
+      at : (x : WaitRow) → is_known_wait m c u w x ≡ true → test w x ≡ true → (a : Bool) → drops ≡ a → is_out m drops x ≡ true
+      at x known on false off = rw off refl
+      at x known on true is = rw (is, e.away is out u w x s known on) refl
+
   mute : (u : World) (d : Whose) (w : World) (memo : List Heard) → Sure m c u w → m b.process ≡ false → entries_memo m (view m w) memo (told_inputs m c u d (entries_of (ends w))) ≡ memo
   mute u d w memo s out =
       entries-silent m (view m w) memo (told_inputs m c u d (entries_of (ends w)))
-      (every-which (is_silent (view m w)) (is_told_input m c u d) (entries_of (ends w)) (ended-silent (view m w) draws status fields (ending w) all))
+      (every-which (is_silent (view m w)) (is_told_input m c u d) (entries_of (ends w)) (ended-silent (view m w) draws drops status fields (ending w) all))
     where
       at : (x : WaitRow) → (is_known_wait m c u w x && ((our_wait m x && takes_any x) || is_mute m w x)) ≡ true → test w x ≡ true → is_mute m w x ≡ true
       at x is on =
@@ -279,18 +412,32 @@ module _ (m : Group) (c : ℕ) (b : Birth) (draws : Bool) (status : Status) (fie
   seen u w s inside = which-seen (is_known_wait m c u w) (our_wait m) (test (view m w)) (test w) (λ x known ours. e.agree inside u w x s known ours) w.waits (known-waits m c u w s)
 
   led : (u : World) (d : Whose) (w : World) → Sure m c u w → m b.process ≡ true → Led m c u d w (ends w) (ends (view m w))
-  led u d w s inside = subst (λ xs. Led m c u d w (ends w) (all_ended draws status fields xs)) (sym (seen u w s inside)) (record {
-    world = run-ours m w (ends w) (losses-ours m b w (ends w) inside (losses-ended b draws status fields (ending w))) ∙ ended-left m draws status fields (ending w) (view m w) lost;
-    told = ended-told m c u d draws status fields (ending w) unheard;
+  led u d w s inside = subst (λ xs. Led m c u d w (ends w) (all_ended draws drops status fields xs)) (sym (seen u w s inside)) (record {
+    world = run-ours m w (ends w) (losses-ours m b w (ends w) inside (losses-ended b draws drops status fields (ending w))) ∙ ended-left m draws drops status fields (ending w) (view m w) lost bare;
+    told = ended-told m c u d draws drops status fields (ending w) unheard;
   })
     where
       lost : every (is_lost m (view m w)) (ending w) ≡ true
       lost = every-which (is_lost m (view m w)) (test w) w.waits (lone-all m c u w s)
 
+      bare : every (is_bare m drops (view m w)) (ending w) ≡ true
+      bare = every-passing (is_known_wait m c u w) (test w) (is_bare m drops (view m w)) (λ x known on. unowned x known on drops refl (our_wait m x) refl) w.waits (known-waits m c u w s)
+        where
+          outside : (x : WaitRow) → is_fair_wait m c x ≡ true → is_connect x ≡ true → our_wait m x ≡ false → m x.process ≡ false
+          outside x fair connect off = grind arith
+
+          unowned : (x : WaitRow) → is_known_wait m c u w x ≡ true → test w x ≡ true → (a : Bool) → drops ≡ a → (o : Bool) → our_wait m x ≡ o → is_bare m drops (view m w) x ≡ true
+          unowned x known on a is true ours = rw ours refl
+          unowned x known on false is false off = rw (off, is) refl
+          unowned x known on true is false off =
+              let fair : is_fair_wait m c x ≡ true = first-true _ _ known in
+              let out : m x.port.process ≡ false = ap m (eqb-true x.port.process x.process (first-true _ _ fair)) ∙ outside x fair (e.connects is w x on) off in
+              rw (off, is, unseen-owned m c w x.port s.fair out) refl
+
       at : (x : WaitRow) (o : Bool) → our_wait m x ≡ o → is_known_wait m c u w x ≡ true → is_unheard m c u d status fields x ≡ true
       at x true ours known = rw ours refl
       at x false off known =
-          let owned : is_owned u x ≡ true = second-true (is_path w x) _ (second-true (is_fair_wait m c x) _ known) in
+          let owned : is_owned u x ≡ true = first-true (is_owned u x) _ (second-true (is_path w x) _ (second-true (is_fair_wait m c x) _ known)) in
           rw (off, wake-not-c m c u d x x.call status fields owned (not-mine x off (first-true _ _ known))) refl
         where
           not-mine : (x : WaitRow) → our_wait m x ≡ false → is_fair_wait m c x ≡ true → (x.process == c) ≡ false
@@ -303,25 +450,25 @@ module _ (m : Group) (c : ℕ) (b : Birth) (draws : Bool) (status : Status) (fie
   same u w s mine =
       let inside : m b.process ≡ true = ap m mine ∙ s.c_in in
       let all : every (our_wait m) (ending w) ≡ true = every-passing (is_known_wait m c u w) (test w) (our_wait m) (λ x known on. e.inside mine u w x s known on) w.waits (known-waits m c u w s) in
-      ap (all_ended draws status fields) (seen u w s inside ∙ which-kept (our_wait m) (ending w) all)
+      ap (all_ended draws drops status fields) (seen u w s inside ∙ which-kept (our_wait m) (ending w) all)
 
   alike : (k : Alive) (u : World) → Closed k u → ends (thin k u) ≡ ends u
-  alike k u closed = ap (all_ended draws status fields) (which-same (wait_closed k) (test (thin k u)) (test u) (λ x live. e.thinly k u x closed live) u.waits closed.waits)
+  alike k u closed = ap (all_ended draws drops status fields) (which-same (wait_closed k) (test (thin k u)) (test u) (λ x live. e.thinly k u x closed live) u.waits closed.waits)
 
-  pub end-stage : Stage m c b (end_each test (ended draws status fields))
+  pub end-stage : Stage m c b (end_each test (ended draws drops status fields))
   end-stage = record {
-    losses = λ w. losses-ended b draws status fields (ending w);
+    losses = λ w. losses-ended b draws drops status fields (ending w);
     good = record {
-      mild = λ w. losses-mild b (ends w) (losses-ended b draws status fields (ending w));
-      sent = λ w. losses-sent b w (ends w) (losses-ended b draws status fields (ending w));
-      fair = λ u w s. losses-fair m c b w (ends w) (losses-ended b draws status fields (ending w));
-      asked = λ u w s. ended-asked draws status fields (ending w) w (quiet u w s) s.asked;
-      apart = λ u d w s out. ended-apart m c u d draws status fields (ending w) w s.owned (free u w s out);
+      mild = λ w. losses-mild b (ends w) (losses-ended b draws drops status fields (ending w));
+      sent = λ w. losses-sent b w (ends w) (losses-ended b draws drops status fields (ending w));
+      fair = λ u w s. losses-fair m c b w (ends w) (losses-ended b draws drops status fields (ending w));
+      asked = λ u w s. ended-asked draws drops status fields (ending w) w (quiet u w s) s.asked;
+      apart = λ u d w s out. ended-apart m c u d draws drops status fields (ending w) w s.owned s.fair (free u w s out) (outs u w s out);
       mute = λ u d w memo s n out. mute u d w memo s out;
-      ours = λ u w s inside. losses-ours m b w (ends w) inside (losses-ended b draws status fields (ending w));
+      ours = λ u w s inside. losses-ours m b w (ends w) inside (losses-ended b draws drops status fields (ending w));
       led = λ u d w s inside. led u d w s inside;
       same = λ u w s mine. same u w s mine;
       alike = λ k u closed live. alike k u closed;
-      stands = λ k u closed live. closed-ended k draws status fields (ending u);
+      stands = λ k u closed live. closed-ended k draws drops status fields (ending u);
     };
   }

@@ -6,7 +6,7 @@ use Rattle.lpc_base.proofs.RowWords.{every-more, every-without, has_none-without
 use Rattle.lpc_base.proofs.Bools.{first-true, second-true}
 use Rattle.lpc_model.specs.World.{Birth, MessageRow, WaitRow, World}
 use Rattle.lpc_model.specs.Found.{is_own_of, is_queued, same_birth, waits_as}
-use Rattle.lpc_model.specs.Basics.{Basic, Cuts, DropsHandle, DropsViewsOf, Empties, Enters, Takes, TakesConnect, Unbinds, Wakes, Withdraws, basic, world_after, Dies, Unregisters}
+use Rattle.lpc_model.specs.Basics.{Basic, Cuts, DropsHandle, DropsViewsOf, Empties, Enters, Takes, TakesConnect, Unbinds, Wakes, Withdraws, basic, world_after, Dies, Unregisters, DropsOwned}
 use Rattle.lpc_model.specs.Entering.{takes}
 use Rattle.lpc_model.specs.Circle.{Group}
 use Rattle.lpc_model.proofs.Steps.Rows.{count-less}
@@ -17,6 +17,7 @@ use Rattle.lpc_isolation.proofs.Rows.Fair.{Fair, are_fair, run-fair}
 use Rattle.lpc_isolation.proofs.Each.Enter.{Patient, is_patient}
 use Rattle.lpc_isolation.proofs.Views.Apart.{Owned, is_owned}
 use Rattle.lpc_isolation.proofs.Rows.Paths.{Paths, are_paths, run-paths}
+use Rattle.lpc_isolation.proofs.Rows.Clients.{Clients, cut-clients, is_client_wait}
 use Rattle.lpc_isolation.proofs.Rows.Sent.{are_sent, none-sent, sends_none}
 use Rattle.lpc_isolation.proofs.Rows.Asked.{Asked}
 use Rattle.lpc_isolation.proofs.Calls.Serves.{is_calm, is_orderly}
@@ -38,6 +39,7 @@ is_mild (TakesConnect q) = true
 is_mild (Dies who status) = true
 is_mild (Unregisters who b) = true
 is_mild (DropsViewsOf pid) = true
+is_mild (DropsOwned b) = true
 is_mild b = false
 
 abbrev pub AreMild : List Basic → Type 0
@@ -56,6 +58,7 @@ mild-calm who (TakesConnect q) is = refl
 mild-calm who (Dies a status) is = refl
 mild-calm who (Unregisters a b) is = refl
 mild-calm who (DropsViewsOf pid) is = refl
+mild-calm who (DropsOwned b) is = refl
 mild-calm who b is = absurd (cc)
 
 pub mild-orderly : (bs : List Basic) → AreMild bs → is_orderly bs ≡ true
@@ -72,6 +75,7 @@ mild-orderly (TakesConnect q ∷ bs) is = mild-orderly bs is
 mild-orderly (Dies a status ∷ bs) is = mild-orderly bs is
 mild-orderly (Unregisters a b ∷ bs) is = mild-orderly bs is
 mild-orderly (DropsViewsOf pid ∷ bs) is = mild-orderly bs is
+mild-orderly (DropsOwned b ∷ bs) is = mild-orderly bs is
 mild-orderly (b ∷ bs) is = absurd (cc)
 
 pub mild-fine : (m : Group) (c : ℕ) (b : Basic) → is_mild b ≡ true → makes_fine m c b ≡ true
@@ -87,6 +91,7 @@ mild-fine m c (TakesConnect q) is = refl
 mild-fine m c (Dies a status) is = refl
 mild-fine m c (Unregisters a b) is = refl
 mild-fine m c (DropsViewsOf pid) is = refl
+mild-fine m c (DropsOwned b) is = refl
 mild-fine m c b is = absurd (cc)
 
 pub mild-paths : (w : World) (bs : List Basic) → AreMild bs → are_paths w bs ≡ true
@@ -103,6 +108,7 @@ mild-paths w (TakesConnect q ∷ bs) is = mild-paths (basic w (TakesConnect q)) 
 mild-paths w (Dies a status ∷ bs) is = mild-paths (basic w (Dies a status)) bs is
 mild-paths w (Unregisters a b ∷ bs) is = mild-paths (basic w (Unregisters a b)) bs is
 mild-paths w (DropsViewsOf pid ∷ bs) is = mild-paths (basic w (DropsViewsOf pid)) bs is
+mild-paths w (DropsOwned b ∷ bs) is = mild-paths (basic w (DropsOwned b)) bs is
 mild-paths w (b ∷ bs) is = absurd (cc)
 
 pub mild-known : (m : Group) (memo : List Heard) (w : World) (bs : List Basic) → AreMild bs → are_known m memo w bs ≡ true
@@ -119,6 +125,7 @@ mild-known m memo w (TakesConnect q ∷ bs) is = mild-known m memo (basic w (Tak
 mild-known m memo w (Dies a status ∷ bs) is = mild-known m memo (basic w (Dies a status)) bs is
 mild-known m memo w (Unregisters a b ∷ bs) is = mild-known m memo (basic w (Unregisters a b)) bs is
 mild-known m memo w (DropsViewsOf pid ∷ bs) is = mild-known m memo (basic w (DropsViewsOf pid)) bs is
+mild-known m memo w (DropsOwned b ∷ bs) is = mild-known m memo (basic w (DropsOwned b)) bs is
 mild-known m memo w (b ∷ bs) is = absurd (cc)
 
 -- Steps by which rows go alone; of a port alone it is cut off
@@ -130,6 +137,7 @@ is_loss b (Unbinds x) = true
 is_loss b (Cuts x) = same_birth x b
 is_loss b (DropsHandle pid value) = true
 is_loss b (Dies who status) = true
+is_loss b (DropsOwned x) = true
 is_loss b step = false
 
 abbrev pub AreLosses : Birth → List Basic → Type 0
@@ -143,6 +151,7 @@ loss-mild b (Unbinds x) is = refl
 loss-mild b (Cuts x) is = refl
 loss-mild b (DropsHandle pid value) is = refl
 loss-mild b (Dies who status) is = refl
+loss-mild b (DropsOwned x) is = refl
 loss-mild b x is = absurd (cc)
 
 pub losses-mild : (b : Birth) (bs : List Basic) → AreLosses b bs → AreMild bs
@@ -156,6 +165,7 @@ loss-none b (Unbinds x) is = refl
 loss-none b (Cuts x) is = refl
 loss-none b (DropsHandle pid value) is = refl
 loss-none b (Dies who status) is = refl
+loss-none b (DropsOwned x) is = refl
 loss-none b x is = absurd (cc)
 
 pub losses-sent : (b : Birth) (w : World) (bs : List Basic) → AreLosses b bs → are_sent w bs ≡ true
@@ -170,6 +180,7 @@ losses-fair m c b w (Unbinds x ∷ bs) is = losses-fair m c b (basic w (Unbinds 
 losses-fair m c b w (Cuts x ∷ bs) is = losses-fair m c b (basic w (Cuts x)) bs (second-true _ _ is)
 losses-fair m c b w (DropsHandle pid value ∷ bs) is = losses-fair m c b (basic w (DropsHandle pid value)) bs is
 losses-fair m c b w (Dies who status ∷ bs) is = losses-fair m c b (basic w (Dies who status)) bs is
+losses-fair m c b w (DropsOwned x ∷ bs) is = losses-fair m c b (basic w (DropsOwned x)) bs is
 losses-fair m c b w (x ∷ bs) is = absurd (cc)
 
 pub losses-ours : (m : Group) (b : Birth) (w : World) (bs : List Basic) → m b.process ≡ true → AreLosses b bs → are_ours m w bs ≡ true
@@ -181,6 +192,7 @@ losses-ours m b w (Unbinds x ∷ bs) inside is = losses-ours m b (basic w (Unbin
 losses-ours m b w (Cuts x ∷ bs) inside is = rw (of_birth m x b (first-true _ _ is), inside) (losses-ours m b (basic w (Cuts x)) bs inside (second-true _ _ is))
 losses-ours m b w (DropsHandle pid value ∷ bs) inside is = losses-ours m b (basic w (DropsHandle pid value)) bs inside is
 losses-ours m b w (Dies who status ∷ bs) inside is = losses-ours m b (basic w (Dies who status)) bs inside is
+losses-ours m b w (DropsOwned x ∷ bs) inside is = losses-ours m b (basic w (DropsOwned x)) bs inside is
 losses-ours m b w (x ∷ bs) inside is = absurd (cc)
 
 losses-owned : (u : World) (b : Birth) (w : World) (bs : List Basic) → AreLosses b bs → Owned u w → Owned u (world_after w bs)
@@ -192,6 +204,7 @@ losses-owned u b w (Unbinds x ∷ bs) is o = losses-owned u b (basic w (Unbinds 
 losses-owned u b w (Cuts x ∷ bs) is o = losses-owned u b (basic w (Cuts x)) bs (second-true _ _ is) o
 losses-owned u b w (DropsHandle pid value ∷ bs) is o = losses-owned u b (basic w (DropsHandle pid value)) bs is o
 losses-owned u b w (Dies who status ∷ bs) is o = losses-owned u b (basic w (Dies who status)) bs is (every-without (is_owned u) (waits_as who) w.waits o)
+losses-owned u b w (DropsOwned x ∷ bs) is o = losses-owned u b (basic w (DropsOwned x)) bs is o
 losses-owned u b w (x ∷ bs) is o = absurd (cc)
 
 less-patient : (w : World) (test : MessageRow → Bool) (ws : List WaitRow) → every (is_patient w) ws ≡ true → every (is_patient (record w { messages = without test w.messages })) ws ≡ true
@@ -210,6 +223,7 @@ losses-patient b w (Unbinds x ∷ bs) is p = losses-patient b (basic w (Unbinds 
 losses-patient b w (Cuts x ∷ bs) is p = losses-patient b (basic w (Cuts x)) bs (second-true _ _ is) p
 losses-patient b w (DropsHandle pid value ∷ bs) is p = losses-patient b (basic w (DropsHandle pid value)) bs is p
 losses-patient b w (Dies who status ∷ bs) is p = losses-patient b (basic w (Dies who status)) bs is (every-without (is_patient w) (waits_as who) w.waits p)
+losses-patient b w (DropsOwned x ∷ bs) is p = losses-patient b (basic w (DropsOwned x)) bs is p
 losses-patient b w (x ∷ bs) is p = absurd (cc)
 
 abbrev pub Once : World → Type 0
@@ -224,7 +238,20 @@ losses-once b w (Unbinds x ∷ bs) is o = losses-once b (basic w (Unbinds x)) bs
 losses-once b w (Cuts x ∷ bs) is o = losses-once b (basic w (Cuts x)) bs (second-true _ _ is) o
 losses-once b w (DropsHandle pid value ∷ bs) is o = losses-once b (basic w (DropsHandle pid value)) bs is o
 losses-once b w (Dies who status ∷ bs) is o = losses-once b (basic w (Dies who status)) bs is (λ tid. count-less (waits_as tid) (waits_as who) w.waits 1 (o tid))
+losses-once b w (DropsOwned x ∷ bs) is o = losses-once b (basic w (DropsOwned x)) bs is o
 losses-once b w (x ∷ bs) is o = absurd (cc)
+
+losses-clients : (b : Birth) (w : World) (bs : List Basic) → AreLosses b bs → Clients w → Clients (world_after w bs)
+losses-clients b w [] is k = k
+losses-clients b w (Wakes who call status fields ∷ bs) is k = losses-clients b (basic w (Wakes who call status fields)) bs is (every-without (is_client_wait w) (waits_as who) w.waits k)
+losses-clients b w (Withdraws a ∷ bs) is k = losses-clients b (basic w (Withdraws a)) bs is k
+losses-clients b w (Empties q ∷ bs) is k = losses-clients b (basic w (Empties q)) bs is k
+losses-clients b w (Unbinds x ∷ bs) is k = losses-clients b (basic w (Unbinds x)) bs is k
+losses-clients b w (Cuts x ∷ bs) is k = losses-clients b (basic w (Cuts x)) bs (second-true _ _ is) (cut-clients w x k)
+losses-clients b w (DropsHandle pid value ∷ bs) is k = losses-clients b (basic w (DropsHandle pid value)) bs is k
+losses-clients b w (Dies who status ∷ bs) is k = losses-clients b (basic w (Dies who status)) bs is (every-without (is_client_wait w) (waits_as who) w.waits k)
+losses-clients b w (DropsOwned x ∷ bs) is k = losses-clients b (basic w (DropsOwned x)) bs is k
+losses-clients b w (x ∷ bs) is k = absurd (cc)
 
 losses-used : (b : Birth) (w : World) (bs : List Basic) → AreLosses b bs → (world_after w bs).used_threads ≡ w.used_threads
 losses-used b w [] is = refl
@@ -235,6 +262,7 @@ losses-used b w (Unbinds x ∷ bs) is = losses-used b (basic w (Unbinds x)) bs i
 losses-used b w (Cuts x ∷ bs) is = losses-used b (basic w (Cuts x)) bs (second-true _ _ is)
 losses-used b w (DropsHandle pid value ∷ bs) is = losses-used b (basic w (DropsHandle pid value)) bs is
 losses-used b w (Dies who status ∷ bs) is = losses-used b (basic w (Dies who status)) bs is
+losses-used b w (DropsOwned x ∷ bs) is = losses-used b (basic w (DropsOwned x)) bs is
 losses-used b w (x ∷ bs) is = absurd (cc)
 
 -- What is known of each world while a port is closed
@@ -247,6 +275,7 @@ pub record Sure (m : Group) (c : ℕ) (u w : World) : Type 0 where
   pub patient : Patient w
   pub once : Once w
   pub paths : Paths w
+  pub clients : Clients w
   pub asked : Asked w
 
 pub sure-losses : (m : Group) (c : ℕ) (u : World) (b : Birth) (w : World) (bs : List Basic) → AreLosses b bs → Sure m c u w → Asked (world_after w bs) → Sure m c u (world_after w bs)
@@ -259,5 +288,6 @@ sure-losses m c u b w bs is s a = record {
   patient = losses-patient b w bs is s.patient;
   once = losses-once b w bs is s.once;
   paths = run-paths w bs (mild-paths w bs (losses-mild b bs is)) s.paths;
+  clients = losses-clients b w bs is s.clients;
   asked = a;
 }

@@ -1,9 +1,9 @@
 -- The stages of a port's closing: which waits end, and what goes.
 use Rattle.std.proofs.Common.{◌≡◌, ℕ, [], ◌∷◌, ◌++◌, Bool, true, false, not, Option, Some, None, refl, ap, sym, subst, ◌∙◌, arith}
 use Rattle.std.specs.Prelude.{◌&&◌, ◌||◌, ◌==◌, option_and_then, option_map}
-use Rattle.std.proofs.lemmas.Bool.{and_from, and_left, eqb-true, false_from_ne_true, or_left}
+use Rattle.std.proofs.lemmas.Bool.{and_from, and_left, eqb-true, false_from_ne_true, not-true, or_left}
 use Rattle.std.proofs.Math.Bool.{and-false}
-use Rattle.lpc_base.specs.Rows.{passes}
+use Rattle.lpc_base.specs.Rows.{every, passes}
 use Rattle.lpc_base.proofs.RowWords.{first-passes}
 use Rattle.lpc_base.proofs.RowMaps.{every-first}
 use Rattle.lpc_base.proofs.Bools.{first-true, or-second, same-number, second-true}
@@ -11,14 +11,15 @@ use Rattle.lpc_base.proofs.Births.{birth-same, birth-self}
 use Rattle.lpc_base.specs.declared.port_kind.PortKind.TheVariants.{Server}
 use Rattle.lpc_base.specs.declared.status.TheConstants.{LPC_REPLY_LOST, PORT_CONNECTION_REFUSED, PORT_DISCONNECTED}
 use Rattle.lpc_model.specs.Fields.{info}
-use Rattle.lpc_model.specs.World.{Accepted, Birth, Listen, PortKind, PortRow, Receive, WaitKind, WaitRow, World}
-use Rattle.lpc_model.specs.Found.{is_accepted, is_client_port, is_listen, is_made_on, is_port, is_receive, is_request, is_server_port, is_the, pair_of, port_row, same_birth}
+use Rattle.lpc_model.specs.World.{Accepted, Birth, Listen, PortKind, PortRow, Receive, WaitKind, WaitRow, World, Connect}
+use Rattle.lpc_model.specs.Found.{is_accepted, is_client_port, is_listen, is_made_on, is_port, is_receive, is_request, is_server_port, is_the, pair_of, port_row, same_birth, is_connect, is_offered}
 use Rattle.lpc_model.specs.Basics.{Basic, Cuts, Empties, Unbinds, basic, doing, told}
-use Rattle.lpc_model.specs.Close.{close_port, cut_pair, drop_name, empty_queue, is_accepted_across, is_across, is_offered_to, is_queued_request, is_receive_across, is_receiver, is_request_across, is_request_on}
+use Rattle.lpc_model.specs.Close.{close_port, cut_pair, drop_name, empty_queue, is_accepted_across, is_across, is_offered_to, is_queued_request, is_receive_across, is_receiver, is_request_across, is_request_on, post_closed}
 use Rattle.lpc_model.specs.Circle.{Group, Whose}
 use Rattle.lpc_isolation.proofs.Views.View.{of_birth, our_wait, seen_port, view}
 use Rattle.lpc_isolation.proofs.Views.Basics.{is_regular}
-use Rattle.lpc_isolation.proofs.Rows.Fair.{is_fair_pair, is_fair_port, is_fair_wait, is_home}
+use Rattle.lpc_isolation.proofs.Rows.Fair.{is_fair_pair, is_fair_port, is_fair_wait, is_home, is_no_server_at}
+use Rattle.lpc_isolation.proofs.Rows.Clients.{is_client_wait}
 use Rattle.lpc_isolation.proofs.Views.Seen.{port-view}
 use Rattle.lpc_isolation.proofs.Views.Apart.{is_apart, is_owned}
 use Rattle.lpc_isolation.proofs.Views.Callers.{c-wait, led-same}
@@ -31,7 +32,7 @@ use Rattle.lpc_isolation.proofs.Gone.Thin.{Alive, is_closed, thin, wait_closed}
 use Rattle.lpc_isolation.proofs.Gone.ThinCalls.{row-thin}
 use Rattle.lpc_isolation.proofs.Closings.Mild.{AreLosses, Sure, is_loss, losses-fair, losses-mild, losses-ours, losses-sent}
 use Rattle.lpc_isolation.proofs.Closings.Stages.{Good, Stage, then-good, then-stage}
-use Rattle.lpc_isolation.proofs.Closings.Posts.{post-good}
+use Rattle.lpc_isolation.proofs.Closings.Posts.{post-good, disowns-good}
 use Rattle.lpc_isolation.proofs.Closings.Ends.{IsEnd, end-stage, is_known_wait}
 use Rattle.lpc_isolation.proofs.Each.Reply.{wait-not-c}
 
@@ -49,6 +50,17 @@ accepted-takes : (x : WaitRow) (k : WaitKind) → x.kind ≡ k → is_accepted x
 accepted-takes x Receive k is = let off : false ≡ true = rw k at is in absurd (cc)
 accepted-takes x Listen k is = let off : false ≡ true = rw k at is in absurd (cc)
 accepted-takes x b k is = rw k refl
+
+offered-connect : (x : WaitRow) (k : WaitKind) → x.kind ≡ k → is_offered x ≡ true → is_connect x ≡ true
+offered-connect x (Connect a offer) k is = rw k refl
+offered-connect x b k is = let off : false ≡ true = rw k at is in absurd (cc)
+
+accepted-connect : (x : WaitRow) (k : WaitKind) → x.kind ≡ k → is_accepted x ≡ true → is_connect x ≡ true
+accepted-connect x (Accepted a r) k is = rw k refl
+accepted-connect x b k is = let off : false ≡ true = rw k at is in absurd (cc)
+
+outside : (m : Group) (c : ℕ) (x : WaitRow) → is_fair_wait m c x ≡ true → is_connect x ≡ true → our_wait m x ≡ false → m x.process ≡ false
+outside m c x fair connect off = grind arith
 
 -- Whose a wait is
 queue-off : (m : Group) (x : WaitRow) (b : Birth) → m b.process ≡ false → same_birth x.queue b ≡ true → our_wait m x ≡ false
@@ -81,43 +93,53 @@ receiver-own m c x b fair is = at (is_made_on b x) refl
         let home : (x.queue.process == x.process) ≡ true = grind arith in
         sym (eqb-true _ _ home) ∙ ap (λ (b : Birth). b.process) (birth-same x.queue b queue)
 
-receivers-end : (m : Group) (c : ℕ) (b : Birth) → IsEnd m c b false (λ w. is_receiver b)
+receivers-end : (m : Group) (c : ℕ) (b : Birth) → IsEnd m c b false false (λ w. is_receiver b)
 receivers-end m c b = record {
   settled = λ no_draw w x is. receiver-settled x x.kind refl (first-true _ _ is);
   other = λ out u w x s known is. wait-not-c m c x s.c_in (first-true _ _ known) (process-off m x (ap m (receiver-own m c x b (first-true _ _ known) is) ∙ out));
   unseen = λ out u w x s known is. and_left (our_wait m x) _ (process-off m x (ap m (receiver-own m c x b (first-true _ _ known) is) ∙ out));
+  connects = λ no w x is. absurd (cc);
+  away = λ no out u w x s known is. absurd (cc);
   agree = λ inside u w x s known ours. refl;
   inside = λ mine u w x s known is. mine-seen m c x s.c_in (first-true _ _ known) (receiver-own m c x b (first-true _ _ known) is ∙ mine);
   thinly = λ k u x closed live. refl;
 }
 
 -- Requests that were sent on it
-requests-end : (m : Group) (c : ℕ) (b : Birth) → IsEnd m c b true (λ w. is_request_on b)
+requests-end : (m : Group) (c : ℕ) (b : Birth) → IsEnd m c b true false (λ w. is_request_on b)
 requests-end m c b = record {
   settled = λ no_draw w x is. absurd (cc);
   other = λ out u w x s known is. wait-not-c m c x s.c_in (first-true _ _ known) (process-off m x (ap m (made-own m c x b (first-true _ _ known) (second-true _ _ is)) ∙ out));
   unseen = λ out u w x s known is. and_left (our_wait m x) _ (process-off m x (ap m (made-own m c x b (first-true _ _ known) (second-true _ _ is)) ∙ out));
+  connects = λ no w x is. absurd (cc);
+  away = λ no out u w x s known is. absurd (cc);
   agree = λ inside u w x s known ours. refl;
   inside = λ mine u w x s known is. mine-seen m c x s.c_in (first-true _ _ known) (made-own m c x b (first-true _ _ known) (second-true _ _ is) ∙ mine);
   thinly = λ k u x closed live. refl;
 }
 
 -- Requests and connects in its queue
-queued-end : (m : Group) (c : ℕ) (b : Birth) → IsEnd m c b true (λ w. is_queued_request b)
+queued-end : (m : Group) (c : ℕ) (b : Birth) → IsEnd m c b true false (λ w. is_queued_request b)
 queued-end m c b = record {
   settled = λ no_draw w x is. absurd (cc);
   other = λ out u w x s known is. wait-not-c m c x s.c_in (first-true _ _ known) (queue-off m x b out (first-true _ _ (second-true _ _ is)));
   unseen = λ out u w x s known is. and_left (our_wait m x) _ (queue-off m x b out (first-true _ _ (second-true _ _ is)));
+  connects = λ no w x is. absurd (cc);
+  away = λ no out u w x s known is. absurd (cc);
   agree = λ inside u w x s known ours. refl;
   inside = λ mine u w x s known is. queue-seen m c x b s.c_in (first-true _ _ known) mine (first-true _ _ (second-true _ _ is));
   thinly = λ k u x closed live. refl;
 }
 
-offered-end : (m : Group) (c : ℕ) (b : Birth) → IsEnd m c b true (λ w. is_offered_to b)
+offered-end : (m : Group) (c : ℕ) (b : Birth) → IsEnd m c b true true (λ w. is_offered_to b)
 offered-end m c b = record {
   settled = λ no_draw w x is. absurd (cc);
   other = λ out u w x s known is. wait-not-c m c x s.c_in (first-true _ _ known) (queue-off m x b out (second-true _ _ is));
   unseen = λ out u w x s known is. and_left (our_wait m x) _ (queue-off m x b out (second-true _ _ is));
+  connects = λ yes w x is. offered-connect x x.kind refl (first-true _ _ is);
+  away = λ yes out u w x s known is.
+      let fair : is_fair_wait m c x ≡ true = first-true _ _ known in
+      ap m (eqb-true x.port.process x.process (first-true _ _ fair)) ∙ outside m c x fair (offered-connect x x.kind refl (first-true _ _ is)) (queue-off m x b out (second-true _ _ is));
   agree = λ inside u w x s known ours. refl;
   inside = λ mine u w x s known is. queue-seen m c x b s.c_in (first-true _ _ known) mine (second-true _ _ is);
   thinly = λ k u x closed live. refl;
@@ -184,7 +206,7 @@ across-view m c w b x inside fair ours =
     ap (is_the b) (pair-view m w x.port own) ∙ the-seen m b (pair_of w x.port) inside
 
 across-thin : (k : Alive) (u : World) (b : Birth) (x : WaitRow) → wait_closed k x ≡ true → is_across (thin k u) b x ≡ is_across u b x
-across-thin k u b x live = rw (row-thin k u x.port live) refl
+across-thin k u b x live = rw (row-thin k u x.port (first-true _ _ live)) refl
 
 -- a request across: on a server port its queue is the other end
 server-kind : (p : PortRow) (k : PortKind) → p.kind ≡ k → is_server_port p ≡ true → (q b : Birth) → p.pair ≡ Some b → leads q p ≡ true → same_birth q b ≡ true
@@ -228,14 +250,16 @@ request-in m c u w b x mine s known is way = at (across m c u w b x s (first-tru
 known-way : (m : Group) (c : ℕ) (u w : World) (x : WaitRow) → Sure m c u w → is_known_wait m c u w x ≡ true → is_way m w x ≡ true
 known-way m c u w x s known =
     let fair : is_fair_wait m c x ≡ true = first-true _ _ known in
-    let path : is_path w x ≡ true = first-true (is_path w x) (is_owned u x) (second-true (is_fair_wait m c x) _ known) in
+    let path : is_path w x ≡ true = first-true (is_path w x) _ (second-true (is_fair_wait m c x) _ known) in
     path-way m c w x s.fine (and_from _ _ fair path)
 
-requests-across : (m : Group) (c : ℕ) (b : Birth) → IsEnd m c b true (is_request_across b)
+requests-across : (m : Group) (c : ℕ) (b : Birth) → IsEnd m c b true false (is_request_across b)
 requests-across m c b = record {
   settled = λ no_draw w x is. absurd (cc);
   other = λ out u w x s known is. wait-not-c m c x s.c_in (first-true _ _ known) (request-off m c u w b x out s known is);
   unseen = λ out u w x s known is. and_left (our_wait m x) _ (request-off m c u w b x out s known is);
+  connects = λ no w x is. absurd (cc);
+  away = λ no out u w x s known is. absurd (cc);
   agree = λ inside u w x s known ours. ap (λ e. is_request x && e) (across-view m c w b x inside (first-true _ _ known) ours);
   inside = λ mine u w x s known is. request-in m c u w b x mine s known is (known-way m c u w x s known);
   thinly = λ k u x closed live. ap (λ e. is_request x && e) (across-thin k u b x live);
@@ -274,16 +298,18 @@ receive-in m c u w b x mine s known is = at (across m c u w b x s (first-true _ 
         receives-home : (x : WaitRow) → is_fair_wait m c x ≡ true → is_receive x ≡ true → (x.queue.process == x.process) ≡ true
         receives-home x fair is = grind arith
 
-receives-across : (m : Group) (c : ℕ) (b : Birth) → IsEnd m c b false (is_receive_across b)
+receives-across : (m : Group) (c : ℕ) (b : Birth) → IsEnd m c b false false (is_receive_across b)
 receives-across m c b = record {
   settled = λ no_draw w x is. receiver-settled x x.kind refl (or_left (is_receive x) (is_listen x) (first-true _ _ is));
   other = λ out u w x s known is. wait-not-c m c x s.c_in (first-true _ _ known) (receive-off m c u w b x out s known is);
   unseen = λ out u w x s known is. and_left (our_wait m x) _ (receive-off m c u w b x out s known is);
+  connects = λ no w x is. absurd (cc);
+  away = λ no out u w x s known is. absurd (cc);
   agree = λ inside u w x s known ours.
       let own : m x.port.process ≡ true = ap m (eqb-true _ _ (first-true _ _ (first-true _ _ known))) ∙ first-true _ _ ours in
       rw (row-client m w x.port own, across-view m c w b x inside (first-true _ _ known) ours) refl;
   inside = λ mine u w x s known is. receive-in m c u w b x mine s known is;
-  thinly = λ k u x closed live. rw (row-thin k u x.port live) refl;
+  thinly = λ k u x closed live. rw (row-thin k u x.port (first-true _ _ live)) refl;
 }
 
 -- accepted connects, on either end
@@ -314,11 +340,33 @@ accepted-in m c u w b x mine s known is = at (is_made_on b x) refl
     at true made = mine-seen m c x s.c_in (first-true _ _ known) (made-own m c x b (first-true _ _ known) made ∙ mine)
     at false off = over (across m c u w b x s (first-true _ _ known) (or-second (is_made_on b x) (is_across w b x) off (second-true _ _ is)))
 
-accepted-across : (m : Group) (c : ℕ) (b : Birth) → IsEnd m c b false (is_accepted_across b)
+-- a connect waits on a client port, whose other end is a member's where it is
+no-server : (m : Group) (c : ℕ) (u w : World) (x : WaitRow) (p : PortRow) → is_known_wait m c u w x ≡ true → is_connect x ≡ true → port_row w x.port ≡ Some p → is_server_port p ≡ false
+no-server m c u w x p known connect row =
+    let client : is_client_wait w x ≡ true = second-true (is_owned u x) _ (second-true (is_path w x) _ (second-true (is_fair_wait m c x) _ known)) in
+    let none : every (is_no_server_at x.port) w.ports ≡ true = rw connect at client in
+    let here : is_port x.port p ≡ true = first-passes (is_port x.port) w.ports p row in
+    let off : is_no_server_at x.port p ≡ true = every-first (is_no_server_at x.port) (is_port x.port) w.ports p none row in
+    let it : not (true && is_server_port p) ≡ true = rw here at off in
+    not-true (is_server_port p) it
+
+accepted-away : (m : Group) (c : ℕ) (u w : World) (b : Birth) (x : WaitRow) → m b.process ≡ false → Sure m c u w → is_known_wait m c u w x ≡ true → is_accepted_across b w x ≡ true → m x.port.process ≡ false
+accepted-away m c u w b x out s known is = ap m (eqb-true x.port.process x.process (first-true _ _ (first-true (is_fair_wait m c x) _ known))) ∙ at (is_made_on b x) refl
+  where
+    over : Across m c w b x → m x.process ≡ false
+    over a = sym (ap m a.own) ∙ client-out m c a.port b a.fair (no-server m c u w x a.port known (accepted-connect x x.kind refl (first-true _ _ is)) a.row) out
+
+    at : (e : Bool) → is_made_on b x ≡ e → m x.process ≡ false
+    at true made = ap m (made-own m c x b (first-true _ _ known) made) ∙ out
+    at false off = over (across m c u w b x s (first-true _ _ known) (or-second (is_made_on b x) (is_across w b x) off (second-true _ _ is)))
+
+accepted-across : (m : Group) (c : ℕ) (b : Birth) → IsEnd m c b false true (is_accepted_across b)
 accepted-across m c b = record {
   settled = λ no_draw w x is. accepted-settled x x.kind refl (first-true _ _ is);
   other = λ out u w x s known is. accepted-other m c u w b x out s known is;
   unseen = λ out u w x s known is. rw (accepted-takes x x.kind refl (first-true _ _ is)) (and-false (our_wait m x));
+  connects = λ yes w x is. accepted-connect x x.kind refl (first-true _ _ is);
+  away = λ yes out u w x s known is. accepted-away m c u w b x out s known is;
   agree = λ inside u w x s known ours. ap (λ e. is_accepted x && (is_made_on b x || e)) (across-view m c w b x inside (first-true _ _ known) ours);
   inside = λ mine u w x s known is. accepted-in m c u w b x mine s known is;
   thinly = λ k u x closed live. ap (λ e. is_accepted x && (is_made_on b x || e)) (across-thin k u b x live);
@@ -358,21 +406,21 @@ cuts-stage m c b = lone-stage m c b (Cuts b) (birth-self b) refl (λ w a. basic-
 
 emptied : (m : Group) (c : ℕ) (b : Birth) → Stage m c b (empty_queue b)
 emptied m c b =
-    then-stage m c b _ _ (end-stage m c b true LPC_REPLY_LOST [] (λ w. is_queued_request b) (queued-end m c b))
-    (then-stage m c b _ _ (end-stage m c b true PORT_CONNECTION_REFUSED (info [] ∷ []) (λ w. is_offered_to b) (offered-end m c b)) (empties-stage m c b))
+    then-stage m c b _ _ (end-stage m c b true false LPC_REPLY_LOST [] (λ w. is_queued_request b) (queued-end m c b))
+    (then-stage m c b _ _ (end-stage m c b true true PORT_CONNECTION_REFUSED (info [] ∷ []) (λ w. is_offered_to b) (offered-end m c b)) (empties-stage m c b))
 
 pub cut-off : (m : Group) (c : ℕ) (b : Birth) → Stage m c b (cut_pair b)
 cut-off m c b =
-    then-stage m c b _ _ (end-stage m c b true LPC_REPLY_LOST [] (is_request_across b) (requests-across m c b))
-    (then-stage m c b _ _ (end-stage m c b false PORT_DISCONNECTED [] (is_receive_across b) (receives-across m c b))
-    (then-stage m c b _ _ (end-stage m c b false PORT_CONNECTION_REFUSED (info [] ∷ []) (is_accepted_across b) (accepted-across m c b)) (cuts-stage m c b)))
+    then-stage m c b _ _ (end-stage m c b true false LPC_REPLY_LOST [] (is_request_across b) (requests-across m c b))
+    (then-stage m c b _ _ (end-stage m c b false false PORT_DISCONNECTED [] (is_receive_across b) (receives-across m c b))
+    (then-stage m c b _ _ (end-stage m c b false true PORT_CONNECTION_REFUSED (info [] ∷ []) (is_accepted_across b) (accepted-across m c b)) (cuts-stage m c b)))
 
 -- the closing of a port
 pub close-good : (m : Group) (c : ℕ) (b : Birth) → Good m c b (close_port b)
 unfolding close_port
 close-good m c b =
     then-good m c b _ _ (unbinds-stage m c b)
-    (then-good m c b _ _ (end-stage m c b false PORT_DISCONNECTED [] (λ w. is_receiver b) (receivers-end m c b))
-    (then-good m c b _ _ (end-stage m c b true PORT_DISCONNECTED [] (λ w. is_request_on b) (requests-end m c b))
+    (then-good m c b _ _ (end-stage m c b false false PORT_DISCONNECTED [] (λ w. is_receiver b) (receivers-end m c b))
+    (then-good m c b _ _ (end-stage m c b true false PORT_DISCONNECTED [] (λ w. is_request_on b) (requests-end m c b))
     (then-good m c b _ _ (emptied m c b)
-    (then-good m c b _ _ (cut-off m c b) (post-good m c b)))))
+    (then-good m c b _ _ (cut-off m c b) (disowns-good m c b (post_closed b) (post-good m c b))))))

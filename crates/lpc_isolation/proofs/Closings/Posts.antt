@@ -3,7 +3,7 @@ use Rattle.std.proofs.Common.{◌≡◌, ℕ, List, [], ◌∷◌, ◌++◌, Boo
 use Rattle.std.specs.Prelude.{◌&&◌, ◌||◌, ◌==◌, option_and_then, option_map}
 use Rattle.std.proofs.lemmas.Bool.{and_from, eqb-true}
 use Rattle.lpc_base.specs.Rows.{every, first, given, passes}
-use Rattle.lpc_base.proofs.RowWords.{first-passes}
+use Rattle.lpc_base.proofs.RowWords.{first-passes, every-append}
 use Rattle.lpc_base.proofs.RowMaps.{every-first}
 use Rattle.lpc_base.proofs.Bools.{first-true, same-number, second-true}
 use Rattle.lpc_base.proofs.Births.{birth-same, birth-self}
@@ -13,27 +13,29 @@ use Rattle.lpc_model.specs.declared.entry.Entry.TheVariants as entry
 use Rattle.lpc_model.specs.World.{Accepted, Birth, Connect, Creator, Listen, MessageRow, PortKind, PortRow, Receive, Request, WaitKind, WaitRow, World}
 use Rattle.lpc_model.specs.Message.{asks}
 use Rattle.lpc_model.specs.Found.{if_open, is_client_port, is_open, is_port, is_used_thread, port_row, wait_of, waits_as}
-use Rattle.lpc_model.specs.Basics.{Basic, Enters, basic, entries_of, world_after}
+use Rattle.lpc_model.specs.Basics.{Basic, Enters, Steps, basic, entries_of, world_after, DropsOwned, doing, ◌▹◌}
 use Rattle.lpc_model.specs.Entering.{enter, given_steps, shown, takes, woken}
 use Rattle.lpc_model.specs.Close.{closed_row, post_closed, server_of, closing_post}
 use Rattle.lpc_model.specs.Circle.{Group, Whose, is_fine_client, is_fine_port, owner}
 use Rattle.lpc_isolation.proofs.Views.View.{our_wait, seen_port, view}
 use Rattle.lpc_isolation.proofs.Views.Filters.{first-kept}
-use Rattle.lpc_isolation.proofs.Views.Basics.{are_ours}
-use Rattle.lpc_isolation.proofs.Rows.Fair.{are_fair, implies, is_created, is_fair_message, is_fair_wait, is_sent, sent-owner}
+use Rattle.lpc_isolation.proofs.Views.Basics.{are_ours, ours-append}
+use Rattle.lpc_isolation.proofs.Rows.Fair.{are_fair, implies, is_created, is_fair_message, is_fair_wait, is_sent, sent-owner, fair-append, run-fair}
 use Rattle.lpc_isolation.proofs.Views.Seen.{open-view, port-view}
 use Rattle.lpc_isolation.proofs.Each.Enter.{enter-fair, enter-ours, enter-view, taker-process}
-use Rattle.lpc_isolation.proofs.Views.Apart.{are_apart, enter-apart, given-entries, is_owned, owned-by, unseen-at, unseen-wait}
-use Rattle.lpc_isolation.proofs.Views.Callers.{led-same}
+use Rattle.lpc_isolation.proofs.Views.Apart.{are_apart, enter-apart, given-entries, is_owned, owned-by, unseen-at, unseen-wait, apart-append}
+use Rattle.lpc_isolation.proofs.Views.Callers.{led-same, unseen-owned}
+use Rattle.lpc_model.proofs.Steps.InTurn.{after-append}
+use Rattle.lpc_isolation.proofs.Each.Receive.{led-append}
 use Rattle.lpc_isolation.proofs.Plays.Play.{told_inputs}
-use Rattle.lpc_isolation.proofs.Rows.Sent.{are_sent, is_sent_home, none-sent, sends_none}
-use Rattle.lpc_isolation.proofs.Rows.Asked.{Asked, are_asked, enter-asked, run-asked}
+use Rattle.lpc_isolation.proofs.Rows.Sent.{are_sent, is_sent_home, none-sent, sends_none, append-sent}
+use Rattle.lpc_isolation.proofs.Rows.Asked.{Asked, are_asked, enter-asked, run-asked, basic-asked}
 use Rattle.lpc_isolation.proofs.Rows.Ids.{Numbered, of_number}
 use Rattle.lpc_isolation.proofs.Memory.Heard.{Heard, Reads, entries_memo, note, noted_of, reads-of, woken_memo}
 use Rattle.lpc_isolation.proofs.Memory.Calls.{own-first, shown-heard}
 use Rattle.lpc_isolation.proofs.Gone.ThinCalls.{AreClosed, enter-closed, row-thin}
 use Rattle.lpc_isolation.proofs.Closings.Mild.{AreMild, Sure}
-use Rattle.lpc_isolation.proofs.Closings.Stages.{Good}
+use Rattle.lpc_isolation.proofs.Closings.Stages.{Good, mute-append}
 
 -- the closed port, who made it, and the queue that its message enters
 record Posted (m : Group) (c : ℕ) (u w : World) (b : Birth) (p : PortRow) (by : Creator) (q : Birth) : Type 0 where
@@ -109,7 +111,7 @@ mild-given : (y : MessageRow) (z : WaitRow) (k : WaitKind) → z.kind ≡ k → 
 mild-given y z (Request a) k asked = rw (k, asked) refl
 mild-given y z Receive k asked = rw (k, asked) refl
 mild-given y z Listen k asked = rw (k, asked) refl
-mild-given y z (Connect a) k asked = rw (k, asked) refl
+mild-given y z (Connect a offer) k asked = rw (k, asked) refl
 mild-given y z (Accepted a r) k asked = rw (k, asked) refl
 
 pub mild-entered : (y : MessageRow) (o : Option WaitRow) → asks y.message ≡ false → AreMild (Enters y ∷ given o (λ z. given_steps z y ++ woken SUCCESS (shown z y) z ∷ []))
@@ -223,7 +225,7 @@ entered-none y (Some z) asked = given-none z.kind refl
     given-none (Request a) k = rw (k, asked) refl
     given-none Receive k = rw (k, asked) refl
     given-none Listen k = rw (k, asked) refl
-    given-none (Connect a) k = rw (k, asked) refl
+    given-none (Connect a offer) k = rw (k, asked) refl
     given-none (Accepted a r) k = rw (k, asked) refl
 
 post-sent : (w : World) (b : Birth) (p : PortRow) (by : Creator) (q : Birth) → port_row w b ≡ Some p → server_of w p ≡ Some q → are_sent w (enter (closed_row p q by) w) ≡ true
@@ -258,3 +260,19 @@ post-good m c b = record {
 
     ours : (u w : World) → Sure m c u w → m b.process ≡ true → are_ours m w (post_closed b w) ≡ true
     ours u w s inside = on-post (λ bs. are_ours m w bs ≡ true) w b refl (λ p by q row made server. post-ours m c u w b p by q s (posted m c u w b p by q s row made server) inside)
+
+-- and then the views that the port owns go
+pub disowns-good : (m : Group) (c : ℕ) (b : Birth) (f : Steps) → Good m c b f → Good m c b (f ▹ doing (DropsOwned b ∷ []))
+disowns-good m c b f g = record {
+  mild = λ w. every-append _ (f w) (DropsOwned b ∷ []) (g.mild w) refl;
+  sent = λ w. append-sent w (f w) (DropsOwned b ∷ []) (g.sent w) refl;
+  fair = λ u w s. fair-append m c w (f w) (DropsOwned b ∷ []) (g.fair u w s) refl;
+  asked = λ u w s. subst Asked (sym (after-append w (f w) (DropsOwned b ∷ []))) (basic-asked (world_after w (f w)) (DropsOwned b) refl (g.asked u w s));
+  apart = λ u d w s out. apart-append m c u d w (f w) (DropsOwned b ∷ []) (g.apart u d w s out) (rw (unseen-owned m c (world_after w (f w)) b (run-fair m c w (f w) (g.fair u w s) s.fair) out) refl);
+  mute = λ u d w memo s n out. mute-append m c u d w memo (f w) (DropsOwned b ∷ []) s.c_in (g.apart u d w s out) (g.mute u d w memo s n out) refl;
+  ours = λ u w s inside. ours-append m w (f w) (DropsOwned b ∷ []) (g.ours u w s inside) refl;
+  led = λ u d w s inside. led-append m c u d w (f w) (f (view m w)) (DropsOwned b ∷ []) (DropsOwned b ∷ []) (g.led u d w s inside) (led-same m c u d (world_after w (f w)) (DropsOwned b ∷ []) refl);
+  same = λ u w s mine. ap (λ bs. bs ++ DropsOwned b ∷ []) (g.same u w s mine);
+  alike = λ k u closed live. ap (λ bs. bs ++ DropsOwned b ∷ []) (g.alike k u closed live);
+  stands = λ k u closed live. every-append _ (f u) (DropsOwned b ∷ []) (g.stands k u closed live) refl;
+}

@@ -32,6 +32,7 @@ use Rattle.lpc_isolation.proofs.Views.Callers.{Led, led-same}
 use Rattle.lpc_isolation.proofs.Each.Receive.{led-append}
 use Rattle.lpc_isolation.proofs.Plays.Play.{told_inputs}
 use Rattle.lpc_isolation.proofs.Each.Sends.{Caller}
+use Rattle.lpc_isolation.proofs.Rows.Clients.{sound-clients}
 use Rattle.lpc_isolation.proofs.Rows.Sent.{append-sent, are_sent}
 use Rattle.lpc_isolation.proofs.Rows.Asked.{Asked, basic-asked}
 use Rattle.lpc_isolation.proofs.Each.Refuses.{Refuses, bind, found}
@@ -145,7 +146,7 @@ abbrev told_first : ThreadRow → Entry
 told_first by = Answer by.number NtClose SUCCESS []
 
 pub caller-sure : (m : Group) (c : ℕ) (u w : World) (by : ThreadRow) → Caller m c u w by → Sure m c u w
-caller-sure m c u w by k = record { c_in = k.c_in; used = k.used; fair = k.fair; fine = k.fine; owned = k.owned; patient = k.patient; once = k.once; paths = k.paths; asked = k.asked }
+caller-sure m c u w by k = record { c_in = k.c_in; used = k.used; fair = k.fair; fine = k.fine; owned = k.owned; patient = k.patient; once = k.once; paths = k.paths; clients = sound-clients w k.sound; asked = k.asked }
 
 -- what the handle's going owes
 good : (m : Group) (c : ℕ) (u w : World) (by : ThreadRow) (value : ℕ) (r : HandleRow) → Caller m c u w by → handle_at w by.process value ≡ Some r → Good m c r.object.birth (close_handle by.process r)

@@ -8,14 +8,13 @@ use Rattle.lpc_base.proofs.RowMaps.{every-first}
 use Rattle.lpc_base.proofs.Bools.{first-true, same-number, second-true}
 use Rattle.lpc_base.specs.declared.status.TheConstants.{INVALID_PARAMETER, INVALID_PORT_HANDLE, PORT_DISCONNECTED, SUCCESS}
 use Rattle.lpc_model.specs.declared.entry.CallName.TheVariants.{NtCompleteConnectPort}
-use Rattle.lpc_base.specs.declared.limits.TheConstants.{MESSAGE_LIMIT}
-use Rattle.lpc_model.specs.Fields.{h, info, max}
+use Rattle.lpc_model.specs.Fields.{completion_fields}
 use Rattle.lpc_model.specs.Refusal.{found_or, refuse_if}
 use Rattle.lpc_model.specs.Then.{◌>>=◌}
 use Rattle.lpc_model.specs.World.{Birth, PortRow, ThreadRow, WaitRow, World}
 use Rattle.lpc_model.specs.Found.{free_handle, is_connect, is_server_port, port_name, same_birth}
 use Rattle.lpc_model.specs.Basics.{AddsHandle, Basic, Completes, basic}
-use Rattle.lpc_model.specs.Connect.{Completable, answer_of, complete_steps, complete_test, completion_test, is_accepted_on, nt_complete_connect_port}
+use Rattle.lpc_model.specs.Connect.{Completable, acceptance_of, complete_steps, complete_test, completion_test, is_accepted_on, nt_complete_connect_port}
 use Rattle.lpc_model.specs.Entering.{woken}
 use Rattle.lpc_model.specs.Tests.{PORT_ACCESS, handle_row, port_test}
 use Rattle.lpc_model.proofs.Calls.Holding.{Holds, bind_holds, found_ok, holds_ok, not_refused}
@@ -102,7 +101,7 @@ complete-apart m c u d w by handle value r k is out =
     let x_out : m r.wait.process ≡ false = ap m (wait-client m c w by handle r k.fair is) ∙ c_out in
     let s_out : m r.server.process ≡ false = ap (λ (b : Birth). m b.process) is.birth ∙ ap m is.named.process ∙ out in
     let v : World = basic (basic (basic w (Completes r.server)) (Completes r.client)) (AddsHandle r.wait.process (handle_row value (port_name r.client) PORT_ACCESS)) in
-    rw (k.here, out, c_out, x_out, s_out) (and_from _ _ (and_from _ _ (end-apart m c u d v r.wait SUCCESS (h value ∷ max MESSAGE_LIMIT ∷ info (answer_of r.wait) ∷ []) k.owned (every-first (is_owned u) (is_accepted_on r.client) w.waits r.wait k.owned is.found) (out-other m c r.wait.process k.c_in x_out)) refl) refl)
+    rw (k.here, out, c_out, x_out, s_out) (and_from _ _ (and_from _ _ (end-apart m c u d v r.wait SUCCESS (completion_fields value (acceptance_of r.wait)) k.owned (every-first (is_owned u) (is_accepted_on r.client) w.waits r.wait k.owned is.found) (out-other m c r.wait.process k.c_in x_out)) refl) refl)
 
 -- the wait of a member's client is in the view
 accepted-connect : (x : WaitRow) (b : Birth) → is_accepted_on b x ≡ true → is_connect x ≡ true
@@ -131,10 +130,10 @@ complete-lost m c u d w by handle value r k is other out =
     let w2 : World = basic w1 (Completes r.client) in
     let w3 : World = basic w2 (AddsHandle r.wait.process (handle_row value (port_name r.client) PORT_ACCESS)) in
     record {
-      world = basic-unseen m w3 (woken SUCCESS (h value ∷ max MESSAGE_LIMIT ∷ info (answer_of r.wait) ∷ []) r.wait) (gone owned x_out) refl
+      world = basic-unseen m w3 (woken SUCCESS (completion_fields value (acceptance_of r.wait)) r.wait) (gone owned x_out) refl
           ∙ basic-unseen m w2 (AddsHandle r.wait.process (handle_row value (port_name r.client) PORT_ACCESS)) x_out refl
           ∙ basic-unseen m w1 (Completes r.client) out refl ∙ basic-ours m w (Completes r.server) refl refl;
-      told = rw (not-c c u d by.number by.process NtCompleteConnectPort SUCCESS [] k.here other, wake-not-c m c u d r.wait r.wait.call SUCCESS (h value ∷ max MESSAGE_LIMIT ∷ info (answer_of r.wait) ∷ []) owned (out-other m c r.wait.process k.c_in x_out)) refl;
+      told = rw (not-c c u d by.number by.process NtCompleteConnectPort SUCCESS [] k.here other, wake-not-c m c u d r.wait r.wait.call SUCCESS (completion_fields value (acceptance_of r.wait)) owned (out-other m c r.wait.process k.c_in x_out)) refl;
     }
   where
     gone : is_owned u r.wait ≡ true → m r.wait.process ≡ false → sees_wait m w r.wait.thread ≡ false

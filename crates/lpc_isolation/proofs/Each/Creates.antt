@@ -14,8 +14,8 @@ use Rattle.lpc_model.specs.declared.entry.Entry.TheVariants.{Answer}
 use Rattle.lpc_model.specs.declared.line.ProcArg.{ProcArg}
 use Rattle.lpc_model.specs.Fields.{first_thread, h}
 use Rattle.lpc_model.specs.Words.{is_id}
-use Rattle.lpc_model.specs.World.{Birth, ProcessRow, ThreadRow, UsedThread, World}
-use Rattle.lpc_model.specs.Found.{free_handle, is_live, is_used_thread, live_count, lives_in, process_name, thread_name, was_process, was_thread}
+use Rattle.lpc_model.specs.World.{Birth, ProcessRow, ThreadRow, UsedThread, World, Token}
+use Rattle.lpc_model.specs.Found.{free_handle, is_live, is_used_thread, live_count, lives_in, process_name, thread_name, was_process, was_thread, token_of, live_thread}
 use Rattle.lpc_model.specs.Basics.{AddsProcess, AddsThread, Basic, DrawsOrdinal, Tells, basic, used, world_after}
 use Rattle.lpc_model.specs.Creation.{child_count_test, create_process_steps, gives_life, is_live_child, live_children, making_process, making_thread, new_process, new_thread, nt_create_process, nt_create_thread, second_birth, second_handle, thread_test, unused_test, unused_thread_test}
 use Rattle.lpc_model.specs.Targets.{process_target}
@@ -30,7 +30,7 @@ use Rattle.lpc_isolation.proofs.Views.View.{our_process, our_used, view}
 use Rattle.lpc_isolation.proofs.Views.Basics.{are_ours, run-ours}
 use Rattle.lpc_isolation.proofs.Views.Filters.{first-kept, first-none_kept, has-inside}
 use Rattle.lpc_isolation.proofs.Rows.Fair.{Fair, are_fair, are_together, is_homed, keeps-fair, together-of}
-use Rattle.lpc_isolation.proofs.Views.Seen.{bind-same, free-view}
+use Rattle.lpc_isolation.proofs.Views.Seen.{bind-same, free-view, token-view}
 use Rattle.lpc_isolation.proofs.Views.Apart.{are_apart}
 use Rattle.lpc_isolation.proofs.Views.Callers.{Answered, Led, answered-same, handles_test-view, led-same, unseen-thread}
 use Rattle.lpc_isolation.proofs.Each.Connects.{every-last}
@@ -46,7 +46,7 @@ use Rattle.lpc_isolation.proofs.Rows.Paths.{are_paths}
 use Rattle.lpc_isolation.proofs.Rows.Sent.{are_sent}
 use Rattle.lpc_isolation.proofs.Each.Instances.{At, Leading}
 use Rattle.lpc_isolation.proofs.Gone.Thin.{Alive, Closed, is_live-thin, process_alive, process_closed, thin, thread_closed, threads-thin}
-use Rattle.lpc_isolation.proofs.Gone.ThinCalls.{AreClosed}
+use Rattle.lpc_isolation.proofs.Gone.ThinCalls.{AreClosed, token-thin}
 use Rattle.lpc_isolation.proofs.Gone.Fine.{FineAfter, kept-last}
 use Rattle.lpc_isolation.proofs.Calls.Aims.{process-thin, process-view, process-whose, refuses-process}
 use Rattle.lpc_isolation.proofs.Calls.Laws.{Lawful, Room, at-most, home-live}
@@ -65,8 +65,8 @@ on-thread P w by target tid all =
 
 -- Whose it is
 -- a process that a call makes is the caller's group's, as the circle has it then
-made-group : (m : Group) (c : ℕ) (by : ThreadRow) (pid : ℕ) (ps : List ProcessRow) → every (is_fine_process m) (ps ++ new_process pid (Some by.process) (next_birth by) ∷ []) ≡ true → m pid ≡ m by.process
-made-group m c by pid ps fine = at (m pid) (m by.process) (every-last (is_fine_process m) ps (new_process pid (Some by.process) (next_birth by)) fine)
+made-group : (m : Group) (c : ℕ) (by : ThreadRow) (pid : ℕ) (token : Token) (ps : List ProcessRow) → every (is_fine_process m) (ps ++ new_process pid (Some by.process) (next_birth by) token ∷ []) ≡ true → m pid ≡ m by.process
+made-group m c by pid token ps fine = at (m pid) (m by.process) (every-last (is_fine_process m) ps (new_process pid (Some by.process) (next_birth by) token) fine)
   where
     at : (a b : Bool) → (false || (if a then b else not b)) ≡ true → a ≡ b
     at true true is = refl
@@ -89,7 +89,7 @@ kept-owner us u tid pid own = at (first (is_used_thread tid) us) refl own
 process-begins : (w : World) (by : ThreadRow) (pid tid : ℕ) → owner w by.number ≡ Some by.process → Begins w by.number (making_process w by pid tid)
 process-begins w by pid tid own = record {
   step = Tells (Answer by.number NtCreateProcess SUCCESS (h (free_handle w by.process) ∷ first_thread (second_handle w by) ∷ []));
-  rest = DrawsOrdinal by.number ∷ DrawsOrdinal by.number ∷ AddsProcess (new_process pid (Some by.process) (next_birth by)) ∷ AddsThread (new_thread tid pid (second_birth by)) ∷ gives_life by (free_handle w by.process) (process_name (next_birth by)) ∷ gives_life by (second_handle w by) (thread_name (second_birth by)) ∷ [];
+  rest = DrawsOrdinal by.number ∷ DrawsOrdinal by.number ∷ AddsProcess (new_process pid (Some by.process) (next_birth by) (token_of w by.process)) ∷ AddsThread (new_thread tid pid (second_birth by)) ∷ gives_life by (free_handle w by.process) (process_name (next_birth by)) ∷ gives_life by (second_handle w by) (thread_name (second_birth by)) ∷ [];
   entry = Answer by.number NtCreateProcess SUCCESS (h (free_handle w by.process) ∷ first_thread (second_handle w by) ∷ []);
   is = refl;
   told = refl;
@@ -170,7 +170,10 @@ second-view m w by inside =
     ∙ free-view m (basic w (b (free_handle w by.process))) by.process inside
 
 steps-view : (m : Group) (w : World) (by : ThreadRow) (pid tid : ℕ) → m by.process ≡ true → making_process (view m w) by pid tid ≡ making_process w by pid tid
-steps-view m w by pid tid inside = ap (λ n. create_process_steps by pid tid n (second_handle (view m w) by)) (free-view m w by.process inside) ∙ ap (create_process_steps by pid tid (free_handle w by.process)) (second-view m w by inside)
+steps-view m w by pid tid inside =
+    ap (λ t. create_process_steps by t pid tid (free_handle (view m w) by.process) (second_handle (view m w) by)) (token-view m w by.process inside)
+    ∙ ap (λ n. create_process_steps by (token_of w by.process) pid tid n (second_handle (view m w) by)) (free-view m w by.process inside)
+    ∙ ap (create_process_steps by (token_of w by.process) pid tid (free_handle w by.process)) (second-view m w by inside)
 
 -- c's tests in its view
 -- a number that is no outsider's
@@ -243,9 +246,9 @@ children-thin k u pid c =
     (λ p closed alive. ap (λ e. passes p.maker (λ i. i == pid) && e) (is_live-thin k u p.number c))
     (λ p closed is. or-last (k.homes p.number) (k.processes p.birth) (home-live k u p.number c (second-true (passes p.maker (λ i. i == pid)) _ is)) closed) u.processes c.processes
 
-process-alike : (k : Alive) (u : World) (by : ThreadRow) (pid tid : ℕ) → Closed k u → served (thin k u) by (create_process pid tid) ≡ served u by (create_process pid tid)
+process-alike : (k : Alive) (u : World) (by : ThreadRow) (pid tid : ℕ) → live_thread u by.number ≡ Some by → Closed k u → served (thin k u) by (create_process pid tid) ≡ served u by (create_process pid tid)
 unfolding nt_create_process
-process-alike k u by pid tid c = rw (children-thin k u by.process c) refl
+process-alike k u by pid tid live c = rw (children-thin k u by.process c, token-thin k u by live c) refl
 
 thread-alike : (k : Alive) (u : World) (by : ThreadRow) (target : ProcArg) (tid : ℕ) → Closed k u → served (thin k u) by (create_thread target tid) ≡ served u by (create_thread target tid)
 unfolding nt_create_thread
@@ -257,7 +260,7 @@ process-fine : (m : Group) (c : ℕ) (after u : World) (by : ThreadRow) (pid tid
 process-fine m c after u by pid tid fine r =
     let v : World = world_after u (making_process u by pid tid) in
     let k : Alive = r.alive in
-    let p : ProcessRow = new_process pid (Some by.process) (next_birth by) in
+    let p : ProcessRow = new_process pid (Some by.process) (next_birth by) (token_of u by.process) in
     let t : ThreadRow = new_thread tid pid (second_birth by) in
     let drawn : World = basic (basic u (DrawsOrdinal by.number)) (DrawsOrdinal by.number) in
     let closed : Closed k v = r.closed in
@@ -294,19 +297,19 @@ process-lawful pid tid = record {
   once = λ m c w by known a once. on-process (λ bs. OnceUsed (world_after w bs)) w by pid tid (λ _ unused t. at-most t w.used_threads (used (new_thread tid pid (second_birth by))) unused (once t));
   numbered = λ m c w by known a ids n. on-process (λ bs. Numbered (world_after w bs)) w by pid tid (λ _ _. every-push of_number w.used_threads (used (new_thread tid pid (second_birth by))) n (and_from _ _ (id-most pid (first-true _ _ ids)) (id-most tid (second-true _ _ ids))));
   refuses = λ w by. process-refuses pid tid w by;
-  fair = λ m c w by known a. on-process (λ bs. HasFineRows m c (world_after w bs) → are_fair m c w bs ≡ true) w by pid tid (λ _ unused fine. process-fair m c w by pid tid (made-group m c by pid w.processes fine.0) unused);
+  fair = λ m c w by known a. on-process (λ bs. HasFineRows m c (world_after w bs) → are_fair m c w bs ≡ true) w by pid tid (λ _ unused fine. process-fair m c w by pid tid (made-group m c by pid (token_of w by.process) w.processes fine.0) unused);
   paths = λ m c w by known a all. on-process (λ bs. are_paths w bs ≡ true) w by pid tid (λ _ _. refl);
   asked = λ m c w by known a b. on-process (λ bs. Asked (world_after w bs)) w by pid tid (λ _ _. record { sorts = b.sorts; own = b.own; one = b.one });
   sent = λ u by s live. on-process (λ bs. are_sent u bs ≡ true) u by pid tid (λ _ _. refl);
   apart = λ m c d w by known a out. on-process (λ bs. HasFineRows m c (world_after w bs) → are_apart m c (world_after w bs) d w bs ≡ true) w by pid tid (λ _ _ fine.
-      process-apart m c (world_after w (making_process w by pid tid)) d w by pid tid a.fair a.own (kept-owner w.used_threads (used (new_thread tid pid (second_birth by))) by.number by.process a.own) out (made-group m c by pid w.processes fine.0 ∙ out));
+      process-apart m c (world_after w (making_process w by pid tid)) d w by pid tid a.fair a.own (kept-owner w.used_threads (used (new_thread tid pid (second_birth by))) by.number by.process a.own) out (made-group m c by pid (token_of w by.process) w.processes fine.0 ∙ out));
   own = λ m c d w by known k a mine fine right. own-after m c d w by known a mine fine;
   leads = λ m c d w by known a by_in other. on-process (λ bs. HasFineRows m c (world_after w bs) → Leading m c (world_after w bs) d w by known (create_process pid tid) bs) w by pid tid (λ _ _ fine.
-      subst (Led m c (world_after w (making_process w by pid tid)) d w (making_process w by pid tid)) (sym (steps-view m w by pid tid by_in)) (led-same m c (world_after w (making_process w by pid tid)) d w (making_process w by pid tid) (process-ours m w by pid tid (made-group m c by pid w.processes fine.0 ∙ by_in))));
+      subst (Led m c (world_after w (making_process w by pid tid)) d w (making_process w by pid tid)) (sym (steps-view m w by pid tid by_in)) (led-same m c (world_after w (making_process w by pid tid)) d w (making_process w by pid tid) (process-ours m w by pid tid (made-group m c by pid (token_of w by.process) w.processes fine.0 ∙ by_in))));
   hears = λ m c d w by known memo a owned n b all out. on-process (λ bs. HasFineRows m c (world_after w bs) → Hears m c (world_after w bs) d w memo bs) w by pid tid (λ _ _ fine.
       still-hears m c (world_after w (making_process w by pid tid)) d w memo (making_process w by pid tid) all (refl, refl));
   notes = λ m c w by known memo a owned n b all by_in. on-process (λ bs. AllKnown m (cond (by.process == c) memo memo) (world_after w bs)) w by pid tid (λ _ _. unnoted m memo w (by.process == c) all);
-  alike = λ k u by live c. process-alike k u by pid tid c;
+  alike = λ k u by live s c. process-alike k u by pid tid live c;
   stands = λ k u by live s c room. on-process (AreClosed k) u by pid tid (λ new _. process-stands k u by pid tid room new);
   fine = λ m c after u by idle f. on-process (FineAfter m c after u) u by pid tid (λ _ _. process-fine m c after u by pid tid f);
 }
@@ -315,7 +318,7 @@ process-lawful pid tid = record {
     own-after m c d w by known a mine fine =
         answered-same (λ bs led. HasFineRows m c (world_after w bs) → Led m c (world_after w bs) d w bs led) (served w by (create_process pid tid)) (served (view m w) by (create_process pid tid)) (process-same m c w by known pid tid a mine fine)
         (on-process (λ bs. HasFineRows m c (world_after w bs) → Led m c (world_after w bs) d w bs bs) w by pid tid (λ _ _ after.
-        led-same m c (world_after w (making_process w by pid tid)) d w (making_process w by pid tid) (process-ours m w by pid tid (made-group m c by pid w.processes after.0 ∙ ap m mine ∙ a.c_in))))
+        led-same m c (world_after w (making_process w by pid tid)) d w (making_process w by pid tid) (process-ours m w by pid tid (made-group m c by pid (token_of w by.process) w.processes after.0 ∙ ap m mine ∙ a.c_in))))
 
 -- refusals
 thread-refuses : (target : ProcArg) (tid : ℕ) → (w : World) (by : ThreadRow) → Refuses (served w by (create_thread target tid))
@@ -344,7 +347,7 @@ thread-lawful target tid = record {
   hears = λ m c d w by known memo a owned n b all out. on-thread (λ bs. HasFineRows m c (world_after w bs) → Hears m c (world_after w bs) d w memo bs) w by target tid (λ pid _ _ _ fine.
       still-hears m c (world_after w (making_thread w by tid pid)) d w memo (making_thread w by tid pid) all (refl, refl));
   notes = λ m c w by known memo a owned n b all by_in. on-thread (λ bs. AllKnown m (cond (by.process == c) memo memo) (world_after w bs)) w by target tid (λ _ _ _ _. unnoted m memo w (by.process == c) all);
-  alike = λ k u by live c. thread-alike k u by target tid c;
+  alike = λ k u by live s c. thread-alike k u by target tid c;
   stands = λ k u by live s c room. on-thread (AreClosed k) u by target tid (λ pid _ lives _. names-thread (k.threads (next_birth by)) (k.homes pid) room.thread (home-live k u pid c lives));
   fine = λ m c after u by idle f. on-thread (FineAfter m c after u) u by target tid (λ _ _ _ _ _. refl);
 }

@@ -26,7 +26,7 @@ use Rattle.lpc_isolation.proofs.Views.Filters.{first-outside}
 use Rattle.lpc_isolation.proofs.Views.Seen.{bind-map, bind-same, live-owner, port-own, port_test-view, result_map}
 use Rattle.lpc_isolation.proofs.Views.Callers.{on_ok}
 use Rattle.lpc_isolation.proofs.Views.Mine.{Ways, c-answered, c-port_test, client-member, fit-process, message-names}
-use Rattle.lpc_isolation.proofs.Each.Mappings.{holding-view}
+use Rattle.lpc_isolation.proofs.Views.Places.{holding-view}
 use Rattle.lpc_isolation.proofs.Gone.Thin.{Alive, Closed, client-thin, thin}
 use Rattle.lpc_isolation.proofs.Gone.ThinCalls.{fitted-thin, port-thin}
 use Rattle.lpc_isolation.proofs.Rows.Fair.{Fair}
@@ -81,7 +81,7 @@ among : {X : Type 0} (p q : X → Bool) (xs : List X) (x : X) → first p xs ≡
 among p q [] x is ok = absurd (cc)
 among p q (y ∷ ys) x is ok = grind (arith, among p q ys x)
 
-behind : {X : Type 0} (q : X → Bool) (x : X) (xs : List X) → has q xs ≡ true → has q (x ∷ xs) ≡ true
+pub behind : {X : Type 0} (q : X → Bool) (x : X) (xs : List X) → has q xs ≡ true → has q (x ∷ xs) ≡ true
 behind q x xs is = grind arith
 
 pub outsiders-view : (m : Group) (pid : ℕ) (test : ViewRow → Bool) (v : ViewRow) (ts : List ViewTable) → m pid ≡ false → first test (views_in (first (is_space pid) ts)) ≡ Some v → has (outsider_sees m v.section) ts ≡ true

@@ -86,7 +86,7 @@ given-ours : (m : Group) (w : World) (x : MessageRow) (y : WaitRow) (k : WaitKin
 given-ours m w x y (Request a) k ours is patient = let off : (false && same_birth y.queue x.queue) ≡ true = rw k at is in absurd (cc)
 given-ours m w x y Receive k ours is patient = rw (k, receive-first w x y is (rw k refl) patient, ours) (when-ours m _ (asks x.message) _ _ _ _ _)
 given-ours m w x y Listen k ours is patient = rw (k, listen-first w x y is (rw k refl) (rw k refl) patient, ours) (when-ours m _ (asks x.message) _ _ _ _ _)
-given-ours m w x y (Connect a) k ours is patient = let off : (false && same_birth y.queue x.queue) ≡ true = rw k at is in absurd (cc)
+given-ours m w x y (Connect a offer) k ours is patient = let off : (false && same_birth y.queue x.queue) ≡ true = rw k at is in absurd (cc)
 given-ours m w x y (Accepted a b) k ours is patient = let off : (false && same_birth y.queue x.queue) ≡ true = rw k at is in absurd (cc)
 
 entered-ours : (m : Group) (w : World) (x : MessageRow) (o : Option WaitRow) → first (takes x) w.waits ≡ o → our_message m x ≡ true → Patient w → are_ours m w (Enters x ∷ given o (λ y. given_steps y x ++ woken SUCCESS (shown y x) y ∷ [])) ≡ true
@@ -105,8 +105,8 @@ given-fair m c w x y Receive true k asked = rw (k, asked) refl
 given-fair m c w x y Receive false k asked = rw (k, asked) refl
 given-fair m c w x y Listen true k asked = rw (k, asked) refl
 given-fair m c w x y Listen false k asked = rw (k, asked) refl
-given-fair m c w x y (Connect a) true k asked = rw (k, asked) refl
-given-fair m c w x y (Connect a) false k asked = rw (k, asked) refl
+given-fair m c w x y (Connect a offer) true k asked = rw (k, asked) refl
+given-fair m c w x y (Connect a offer) false k asked = rw (k, asked) refl
 given-fair m c w x y (Accepted a b) true k asked = rw (k, asked) refl
 given-fair m c w x y (Accepted a b) false k asked = rw (k, asked) refl
 

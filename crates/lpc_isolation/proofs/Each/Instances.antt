@@ -1,16 +1,21 @@
 -- Each service owes what its calls' lines need.
-use Rattle.lpc_base.specs.declared.status.TheConstants.{NOT_MAPPED_VIEW}
-use Rattle.lpc_model.specs.Refusal.{found_or}
+use Rattle.lpc_model.specs.Linked.{IsLinked}
+use Rattle.lpc_base.specs.declared.status.Status.{Status}
+use Rattle.lpc_model.specs.Message.{message_test}
+use Rattle.lpc_model.specs.declared.entry.CallName.TheVariants.{NtOpenThreadToken, NtOpenProcessToken}
+use Rattle.lpc_model.specs.Impersonation.{impersonate_steps, token_steps, held_content, process_content, own_test, revert_steps, is_served_by, allowed_by, nt_impersonate_client_of_port}
+use Rattle.lpc_base.specs.declared.status.TheConstants.{NOT_MAPPED_VIEW, INVALID_PORT_HANDLE, REPLY_MESSAGE_MISMATCH}
+use Rattle.lpc_model.specs.Refusal.{found_or, refuse_if}
 use Rattle.lpc_model.specs.Memory.{nt_map_view_of_section, section_steps, unmap_steps}
-use Rattle.std.proofs.Common.{◌≡◌, ℕ, List, [], true, false, Option, Some, None}
-use Rattle.std.specs.Prelude.{Ok}
-use Rattle.lpc_base.specs.Rows.{every}
-use Rattle.lpc_model.specs.World.{Birth, Contents, ThreadRow, World}
-use Rattle.lpc_model.specs.Found.{free_handle, live_thread, wait_of, view_holding}
+use Rattle.std.proofs.Common.{◌≡◌, ℕ, List, [], true, false, Option, Some, None, not, ap, refl}
+use Rattle.std.specs.Prelude.{Ok, Result, Err}
+use Rattle.lpc_base.specs.Rows.{every, first, given}
+use Rattle.lpc_model.specs.World.{Birth, Contents, ThreadRow, World, Impersonation}
+use Rattle.lpc_model.specs.Found.{free_handle, live_thread, wait_of, view_holding, is_server_port}
 use Rattle.lpc_model.specs.Basics.{Basic, world_after}
 use Rattle.lpc_model.specs.Connect.{ConnectAnswer, answer_test}
-use Rattle.lpc_model.specs.Tests.{own_handle, port_test}
-use Rattle.lpc_model.specs.Lines.{ScriptCall, accept_connect_port, close, complete_connect_port, connect_port, create_port, duplicate_object, listen_port, query_object, reply_port, reply_wait_receive_port, request_port, request_wait_reply_port, register_thread_terminate_port, create_process, create_thread, terminate_thread, terminate_process, create_section, map_view_of_section, unmap_view_of_section, read_virtual_memory, write_virtual_memory, read_request_data, write_request_data}
+use Rattle.lpc_model.specs.Tests.{own_handle, port_test, client_test}
+use Rattle.lpc_model.specs.Lines.{ScriptCall, accept_connect_port, close, complete_connect_port, connect_port, create_port, duplicate_object, listen_port, query_object, reply_port, reply_wait_receive_port, request_port, request_wait_reply_port, register_thread_terminate_port, create_process, create_thread, terminate_thread, terminate_process, create_section, map_view_of_section, unmap_view_of_section, read_virtual_memory, write_virtual_memory, read_request_data, write_request_data, impersonate_client_of_port, open_process_token, open_thread_token, query_information_token, set_information_thread}
 use Rattle.lpc_model.specs.Close.{close_steps}
 use Rattle.lpc_model.specs.Counts.{asked, duplicate_steps}
 use Rattle.lpc_model.specs.Death.{terminate_thread_steps, code_status, terminate_process_steps}
@@ -20,8 +25,8 @@ use Rattle.lpc_model.specs.Targets.{process_target, thread_target}
 use Rattle.lpc_model.specs.declared.line.ProcArg.{ProcArg}
 use Rattle.lpc_isolation.proofs.Gone.Served.{served}
 use Rattle.lpc_model.specs.SoundWaits.{IsSoundWorld, HasShutConnects}
-use Rattle.lpc_model.proofs.Calls.Holding.{Holds, holds-more}
-use Rattle.lpc_model.specs.Circle.{Group, Whose, owner}
+use Rattle.lpc_model.proofs.Calls.Holding.{Holds, holds-more, bind_holds}
+use Rattle.lpc_model.specs.Circle.{Group, Whose, owner, given_in}
 use Rattle.lpc_isolation.proofs.Views.Alone.{HasFineRows}
 use Rattle.lpc_isolation.proofs.Views.View.{view}
 use Rattle.lpc_isolation.proofs.Views.Basics.{are_ours}
@@ -44,7 +49,7 @@ use Rattle.lpc_isolation.proofs.Each.Receive.{led_receive}
 use Rattle.lpc_isolation.proofs.Each.Connects.{led_connect}
 use Rattle.lpc_isolation.proofs.Each.Completes.{led_complete}
 use Rattle.lpc_isolation.proofs.Each.Accepts.{led_answer}
-use Rattle.lpc_isolation.proofs.Plays.Lines.{Leads, seeing}
+use Rattle.lpc_isolation.proofs.Plays.Lines.{Leads, seeing, own_given, IsGiven}
 use Rattle.lpc_model.specs.declared.entry.Entry.{Entry}
 
 -- by its answer alone
@@ -73,31 +78,36 @@ abbrev led_unmap : World → ThreadRow → ℕ → List Basic
 led_unmap v by address = on_ok (found_or (view_holding v by.process address 1) NOT_MAPPED_VIEW) (unmap_steps by)
 
 -- what a member other than c does in a view, by what it was told; the queue of an outsider's connect is known from before
-abbrev pub leads_by : Group → (List ℕ → Birth) → World → ThreadRow → ScriptCall → Entry → List Basic
-leads_by m known v by (create_port name) e = led_create v by name
-leads_by m known v by (connect_port name info) e = led_connect v by name info
-leads_by m known v by (listen_port handle) e = led_listen m v by handle e
-leads_by m known v by (accept_connect_port context bytes accept) e = led_answer m v by context bytes accept (known bytes)
-leads_by m known v by (complete_connect_port handle) e = led_complete v by handle
-leads_by m known v by (request_port handle bytes) e = led_datagram v by handle bytes
-leads_by m known v by (request_wait_reply_port handle bytes) e = led_request v by handle bytes
-leads_by m known v by (reply_port handle bytes) e = led_reply_port v bytes
-leads_by m known v by (reply_wait_receive_port handle bytes) e = led_receive m v by handle bytes e
-leads_by m known v by (close handle) e = led_close v by handle
-leads_by m known v by (duplicate_object handle access) e = led_duplicate v by handle access
-leads_by m known v by (query_object handle) e = []
-leads_by m known v by (register_thread_terminate_port handle) e = led_register v by handle
-leads_by m known v by (create_process pid tid) e = making_process v by pid tid
-leads_by m known v by (create_thread target tid) e = led_thread v by target tid
-leads_by m known v by (create_section size prot) e = section_steps by size prot (free_handle v by.process)
-leads_by m known v by (map_view_of_section handle offset size prot) e = led_map v by handle offset size prot
-leads_by m known v by (unmap_view_of_section address) e = led_unmap v by address
-leads_by m known v by (read_virtual_memory address n) e = []
-leads_by m known v by (write_virtual_memory address new) e = []
-leads_by m known v by (read_request_data handle bytes index n) e = []
-leads_by m known v by (write_request_data handle bytes index new) e = []
-leads_by m known v by (terminate_thread target code) e = led_end v by target code
-leads_by m known v by (terminate_process target code) e = led_ends v by target code
+abbrev pub leads_by : Group → (List ℕ → Birth) → World → ThreadRow → ScriptCall → Entry → Option Impersonation → List Basic
+leads_by m known v by (create_port name dacl) e o = led_create v by name dacl
+leads_by m known v by (connect_port name quality word info) e o = led_connect v by name quality word info
+leads_by m known v by (listen_port handle) e o = led_listen m v by handle e
+leads_by m known v by (accept_connect_port context bytes accept word) e o = led_answer m v by context bytes accept word (known bytes) e
+leads_by m known v by (complete_connect_port handle) e o = led_complete v by handle
+leads_by m known v by (request_port handle bytes) e o = led_datagram v by handle bytes
+leads_by m known v by (request_wait_reply_port handle bytes) e o = led_request v by handle bytes
+leads_by m known v by (reply_port handle bytes) e o = led_reply_port v bytes
+leads_by m known v by (reply_wait_receive_port handle bytes) e o = led_receive m v by handle bytes e
+leads_by m known v by (close handle) e o = led_close v by handle
+leads_by m known v by (duplicate_object handle access) e o = led_duplicate v by handle access
+leads_by m known v by (query_object handle) e o = []
+leads_by m known v by (register_thread_terminate_port handle) e o = led_register v by handle
+leads_by m known v by (create_process pid tid) e o = making_process v by pid tid
+leads_by m known v by (create_thread target tid) e o = led_thread v by target tid
+leads_by m known v by (create_section size prot) e o = section_steps by size prot (free_handle v by.process)
+leads_by m known v by (map_view_of_section handle offset size prot) e o = led_map v by handle offset size prot
+leads_by m known v by (unmap_view_of_section address) e o = led_unmap v by address
+leads_by m known v by (read_virtual_memory address n) e o = []
+leads_by m known v by (write_virtual_memory address new) e o = []
+leads_by m known v by (read_request_data handle bytes index n) e o = []
+leads_by m known v by (write_request_data handle bytes index new) e o = []
+leads_by m known v by (impersonate_client_of_port handle bytes) e o = given o (impersonate_steps by)
+leads_by m known v by open_process_token e o = token_steps by NtOpenProcessToken (process_content v by) (free_handle v by.process)
+leads_by m known v by open_thread_token e o = on_ok (own_test by) (λ own. token_steps by NtOpenThreadToken (held_content own) (free_handle v by.process))
+leads_by m known v by (query_information_token handle class) e o = []
+leads_by m known v by (set_information_thread class) e o = revert_steps by
+leads_by m known v by (terminate_thread target code) e o = led_end v by target code
+leads_by m known v by (terminate_process target code) e o = led_ends v by target code
 
 abbrev pub leading : Group → (List ℕ → Birth) → Contents → Leads
 leading m known k = record { lead = leads_by m known; bytes = k }
@@ -108,6 +118,7 @@ pub record At (m : Group) (c : ℕ) (w : World) (by : ThreadRow) (known : List �
   pub fair : Fair m c w
   pub fine : HasFineRows m c w
   pub sound : IsSoundWorld w
+  pub linked : IsLinked w
   pub shut : HasShutConnects w
   pub owned : Owned w w
   pub names : SeenNames m w.bindings
@@ -149,4 +160,27 @@ own-same m c u d w by call k same ours =
     (holds-more (λ bs. HasFineRows m c (world_after w bs) → are_ours m w bs ≡ true) (λ bs. HasFineRows m c (world_after w bs) → Led m c u d w bs bs) (served w by call) (λ bs h fine. led-same m c u d w bs (h fine)) ours)
 
 abbrev pub Leading : Group → ℕ → World → Whose → World → ThreadRow → (List ℕ → Birth) → ScriptCall → List Basic → Type 0
-Leading m c u d w by known call bs = Led m c u d w bs (leads_by m known (view m w) by call (own_entry bs))
+Leading m c u d w by known call bs = Led m c u d w bs (leads_by m known (view m w) by call (own_entry bs) (own_given bs))
+
+-- the token that comes next is the one that a call gives; the other calls give none, and go by none
+abbrev pub Gives : ScriptCall → List Basic → Type 0
+Gives call bs = (m : Group) (known : List ℕ → Birth) (v : World) (by : ThreadRow) (e : Entry) (o : Option Impersonation) → IsGiven o (given_in bs) → leads_by m known v by call e o ≡ leads_by m known v by call e (own_given bs)
+
+allowed-gives : (w : World) (by : ThreadRow) (handle : ℕ) (bytes : List ℕ) → Holds (Gives (impersonate_client_of_port handle bytes)) (served w by (impersonate_client_of_port handle bytes))
+unfolding nt_impersonate_client_of_port
+allowed-gives w by handle bytes =
+    let P : List Basic → Type 0 = Gives (impersonate_client_of_port handle bytes) in
+    bind_holds (port_test w by handle) _ P (λ port _.
+    bind_holds (message_test bytes) _ P (λ a _.
+    bind_holds (refuse_if (not (is_server_port port)) INVALID_PORT_HANDLE) _ P (λ _ _.
+    bind_holds (client_test w a.header.client) _ P (λ _ _.
+    bind_holds (found_or (first (is_served_by port a) w.waits) REPLY_MESSAGE_MISMATCH) _ P (λ x _.
+    bind_holds (found_or (allowed_by w x) REPLY_MESSAGE_MISMATCH) _ P (λ own _. λ m known v by e o is. ap (λ o. given o (impersonate_steps by)) is))))))
+
+pub gives-of : (w : World) (by : ThreadRow) (call : ScriptCall) → Holds (Gives call) (served w by call)
+gives-of w by (impersonate_client_of_port handle bytes) = allowed-gives w by handle bytes
+gives-of w by call = holds_all (served w by call)
+  where
+    holds_all : (r : Result (List Basic) Status) → Holds (Gives call) r
+    holds_all (Ok bs) = λ m known v by e o is. refl
+    holds_all (Err s) = tt

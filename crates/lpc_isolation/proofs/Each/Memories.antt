@@ -18,7 +18,7 @@ use Rattle.lpc_model.proofs.Calls.Holding.{holds_ok}
 use Rattle.lpc_model.proofs.Views.Tables.{views-among}
 use Rattle.lpc_isolation.proofs.Calls.Calm.{Calm, answers_alike}
 use Rattle.lpc_isolation.proofs.Calls.Deeds.{memory-held}
-use Rattle.lpc_isolation.proofs.Each.Mappings.{holding-view}
+use Rattle.lpc_isolation.proofs.Views.Places.{holding-view}
 use Rattle.lpc_isolation.proofs.Each.Refuses.{Refuses, bind, found, if_refuses}
 use Rattle.lpc_isolation.proofs.Gone.Served.{served}
 use Rattle.lpc_isolation.proofs.Gone.Thin.{Alive, Closed, content_alive, thin, view_closed}
@@ -97,7 +97,7 @@ alike-read : (k : Alive) (u : World) (by : ThreadRow) (address n : ℕ) → Clos
 unfolding nt_read_virtual_memory
 alike-read k u by address n c = bind-same (memory_test u by address n) _ _ (λ v at.
     let held : view_holding u by.process address n ≡ Some v = holds_ok (λ v. view_holding u by.process address n ≡ Some v) (memory_test u by address n) v (memory-held u by address n) at in
-    let live : k.sections v.section ≡ true = every-first (view_closed k) (holds_range address n) (views_of u by.process) v (views-among (view_closed k) by.process u.views c.views) held in
+    let live : k.sections v.section ≡ true = first-true _ _ (every-first (view_closed k) (holds_range address n) (views_of u by.process) v (views-among (view_closed k) by.process u.views c.views) held) in
     rw (content-thin k v.section u.contents live) refl)
 
 alike-write : (k : Alive) (u : World) (by : ThreadRow) (address : ℕ) (new : List ℕ) → served (thin k u) by (write_virtual_memory address new) ≡ served u by (write_virtual_memory address new)
@@ -108,12 +108,12 @@ pub read-calm : (address n : ℕ) → Calm (read_virtual_memory address n)
 read-calm address n = record {
   refuses = λ w by. refuses-read w by address n;
   members = answers_alike refl (λ m c w by known k a mine fine reads. same-read m c w by k address n a.fair a.c_in mine reads.views);
-  alike = λ k u by live c. alike-read k u by address n c;
+  alike = λ k u by live s c. alike-read k u by address n c;
 }
 
 pub write-calm : (address : ℕ) (new : List ℕ) → Calm (write_virtual_memory address new)
 write-calm address new = record {
   refuses = λ w by. refuses-write w by address new;
   members = answers_alike refl (λ m c w by known k a mine fine reads. same-write m c w by address new a.fair a.c_in mine);
-  alike = λ k u by live c. alike-write k u by address new;
+  alike = λ k u by live s c. alike-write k u by address new;
 }

@@ -47,5 +47,5 @@ pub query-calm : (handle : ℕ) → Calm (query_object handle)
 query-calm handle = record {
   refuses = λ w by. refuses-query w by handle;
   members = answers_alike refl (λ m c w by known k a mine fine right. same-query m c w by known handle a mine fine);
-  alike = λ k u by live c. alike-query k u by handle c;
+  alike = λ k u by live s c. alike-query k u by handle c;
 }

@@ -2,6 +2,7 @@
 -- reads the bytes that are known, and what it writes is no part of a view.
 use Rattle.std.proofs.Common.{◌≡◌, ℕ, List, Bool, true, false, cond, not, refl, ap, sym, subst, ◌∙◌}
 use Rattle.std.specs.Prelude.{◌&&◌, length, nat_le, Result, Ok, Err}
+use Rattle.lpc_base.proofs.Bools.{first-true}
 use Rattle.lpc_base.proofs.RowMaps.{every-first}
 use Rattle.lpc_base.specs.declared.status.Status.{Status}
 use Rattle.lpc_base.specs.declared.status.TheConstants.{ACCESS_VIOLATION, INVALID_PARAMETER}
@@ -97,7 +98,7 @@ alike-read_range k u by handle bytes index n c =
     ap (λ r. r >>= (λ d. Ok (read_range_steps (thin k u).contents by n d))) (described-thin k u by handle bytes index n c)
     ∙ bind-same (described_test u by handle bytes index n) _ _ (λ d at.
     let is : IsDescribed u by handle bytes index n d = holds_ok (IsDescribed u by handle bytes index n) (described_test u by handle bytes index n) d (described-is u by handle bytes index n) at in
-    let live : k.sections d.view.section ≡ true = every-first (view_closed k) (holds_range is.range.base n) (views_of u is.wait.process) d.view (views-among (view_closed k) is.wait.process u.views c.views) is.held in
+    let live : k.sections d.view.section ≡ true = first-true _ _ (every-first (view_closed k) (holds_range is.range.base n) (views_of u is.wait.process) d.view (views-among (view_closed k) is.wait.process u.views c.views) is.held) in
     rw (content-thin k d.view.section u.contents live) refl)
 
 alike-write_range : (k : Alive) (u : World) (by : ThreadRow) (handle : ℕ) (bytes : List ℕ) (index : ℕ) (new : List ℕ) → Closed k u → served (thin k u) by (write_request_data handle bytes index new) ≡ served u by (write_request_data handle bytes index new)
@@ -109,12 +110,12 @@ pub read_range-calm : (handle : ℕ) (bytes : List ℕ) (index n : ℕ) → Calm
 read_range-calm handle bytes index n = record {
   refuses = λ w by. refuses-read_range w by handle bytes index n;
   members = answers_alike refl (λ m c w by known k a mine fine reads. same-read_range m c w by k handle bytes index n a.fair a.ways a.c_in mine fine reads.range);
-  alike = λ k u by live c. alike-read_range k u by handle bytes index n c;
+  alike = λ k u by live s c. alike-read_range k u by handle bytes index n c;
 }
 
 pub write_range-calm : (handle : ℕ) (bytes : List ℕ) (index : ℕ) (new : List ℕ) → Calm (write_request_data handle bytes index new)
 write_range-calm handle bytes index new = record {
   refuses = λ w by. refuses-write_range w by handle bytes index new;
   members = tells_alike refl (own-write_range handle bytes index new);
-  alike = λ k u by live c. alike-write_range k u by handle bytes index new c;
+  alike = λ k u by live s c. alike-write_range k u by handle bytes index new c;
 }

@@ -1,6 +1,6 @@
 -- NtTerminateThread and NtTerminateProcess in a view.
-use Rattle.lpc_isolation.proofs.Plays.Lines.{seeing}
-use Rattle.std.proofs.Common.{◌≡◌, ℕ, List, [], ◌∷◌, Bool, true, false, not, Some, refl, ap, sym, subst, ◌∙◌}
+use Rattle.lpc_isolation.proofs.Plays.Lines.{seeing, own_given}
+use Rattle.std.proofs.Common.{◌≡◌, ℕ, List, [], ◌∷◌, Bool, true, false, not, Some, refl, ap, sym, subst, ◌∙◌, Option}
 use Rattle.std.specs.Prelude.{◌==◌, Result, Ok, Err}
 use Rattle.std.proofs.lemmas.Bool.{not-false}
 use Rattle.lpc_base.specs.declared.status.Status.{Status}
@@ -12,7 +12,7 @@ use Rattle.lpc_model.specs.declared.entry.Entry.TheVariants.{Answer}
 use Rattle.lpc_model.specs.declared.line.ProcArg.{ProcArg}
 use Rattle.lpc_model.specs.Refusal.{refuse_if}
 use Rattle.lpc_model.specs.Then.{◌>>=◌}
-use Rattle.lpc_model.specs.World.{Birth, ThreadRow, World, Contents}
+use Rattle.lpc_model.specs.World.{Birth, ThreadRow, World, Contents, Impersonation}
 use Rattle.lpc_model.specs.Found.{is_live, live_thread, live_threads}
 use Rattle.lpc_model.specs.Basics.{Basic, Tells, world_after}
 use Rattle.lpc_model.specs.Death.{code_status, end_threads, nt_terminate_process, nt_terminate_thread, terminate_process_steps, terminate_thread_steps}
@@ -52,7 +52,7 @@ pub record EndsThreads (call : ScriptCall) (code : Status) : Type 0 where
   pub aim : World → ThreadRow → Result Aim Status
   pub is : (w : World) (by : ThreadRow) → served w by call ≡ (aim w by >>= (λ a. Ok (answered_end by name a.own a.pid code a.threads w)))
   pub refuses : (w : World) (by : ThreadRow) → Refuses (aim w by)
-  pub leads : (m : Group) (known : List ℕ → Birth) (v : World) (by : ThreadRow) (e : Entry) (a : Aim) → aim v by ≡ Ok a → leads_by m known v by call e ≡ answered_end by name a.own a.pid code a.threads v
+  pub leads : (m : Group) (known : List ℕ → Birth) (v : World) (by : ThreadRow) (e : Entry) (o : Option Impersonation) (a : Aim) → aim v by ≡ Ok a → leads_by m known v by call e o ≡ answered_end by name a.own a.pid code a.threads v
   -- it reads no bytes
   pub blind : (k : Contents) (v : World) → seeing k v call ≡ v
   -- it aims alike in a view, and where rows have gone
@@ -117,7 +117,7 @@ module _ (call : ScriptCall) (code : Status) (e : EndsThreads call code) where
       let k = caller m c w by known u a0 used in
       let P : List Basic → Type 0 = λ bs. HasFineRows m c (world_after w bs) → Leading m c u d w by known call bs in
       subst (Holds P) (sym (e.is w by)) (bind_holds (e.aim w by) _ P (λ a at fine.
-      subst (Led m c u d w (ends_told by a w)) (sym (e.leads m known (view m w) by (own_entry (ends_told by a w)) a (e.seen m c w by by_in a0.fair ∙ at))) (led-ends m c u d w by a k at by_in)))
+      subst (Led m c u d w (ends_told by a w)) (sym (e.leads m known (view m w) by (own_entry (ends_told by a w)) (own_given (ends_told by a w)) a (e.seen m c w by by_in a0.fair ∙ at))) (led-ends m c u d w by a k at by_in)))
 
   pub alike-ends : (k : Alive) (u : World) (by : ThreadRow) → live_thread u by.number ≡ Some by → Closed k u → served (thin k u) by call ≡ served u by call
   alike-ends k u by live c =
@@ -150,7 +150,7 @@ thread-ends-it target code = record {
   aim = thread_aim target;
   is = λ w by. thread-is w by target code;
   refuses = λ w by. bind (thread_target w by target) _ (refuses-thread w by target) (λ t. bind (refuse_if (not t.live) INVALID_CID) _ (if_refuses (not t.live) INVALID_CID refl) (λ _. tt));
-  leads = λ m known v by e a at. leads (thread_target v by target) v by a at;
+  leads = λ m known v by e o a at. leads (thread_target v by target) v by a at;
   blind = λ k v. refl;
   seen = λ m c w by inside f. ap (λ r. r >>= (λ (t : ThreadRow). refuse_if (not t.live) INVALID_CID >>= (λ _. Ok (record { own = t.number == by.number; pid = t.process; threads = t ∷ [] })))) (thread-view m c w by target inside f);
   thinly = λ k u by c. ap (λ r. r >>= (λ (t : ThreadRow). refuse_if (not t.live) INVALID_CID >>= (λ _. Ok (record { own = t.number == by.number; pid = t.process; threads = t ∷ [] })))) (thread-thin k u by target c);
@@ -190,7 +190,7 @@ process-ends-it target code = record {
   aim = process_aim target;
   is = λ w by. process-is w by target code;
   refuses = λ w by. bind (process_target w by target) _ (refuses-process w by target) (λ pid. bind (live_test w pid) _ (if_refuses (not (is_live w pid)) INVALID_CID refl) (λ _. tt));
-  leads = λ m known v by e a at. leads (process_target v by target) v by a at;
+  leads = λ m known v by e o a at. leads (process_target v by target) v by a at;
   blind = λ k v. refl;
   seen = λ m c w by inside f. ap (λ r. r >>= process_aims (view m w) by) (process-view m c w by target inside f)
       ∙ bind-same (process_target w by target) (process_aims (view m w) by) (process_aims w by) (λ pid at. process-seen m w by pid (holds_ok (λ pid. m pid ≡ m by.process) (process_target w by target) pid (process-whose m c w by target f) at ∙ inside));

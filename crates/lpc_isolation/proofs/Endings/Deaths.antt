@@ -9,10 +9,10 @@ use Rattle.lpc_base.proofs.Bools.{first-true, same-number}
 use Rattle.lpc_base.specs.declared.status.Status.{Status}
 use Rattle.lpc_base.specs.declared.status.TheConstants.{SUCCESS}
 use Rattle.lpc_model.specs.World.{Birth, MessageRow, PortRow, ThreadRow, WaitRow, World}
-use Rattle.lpc_model.specs.Found.{is_accepted, port_row, route, wait_of, waits_as}
-use Rattle.lpc_model.specs.Basics.{Basic, Dies, Enters, Steps, Unregisters, Withdraws, basic, doing, entries_of, world_after, ◌▹◌, Wakes, Empties, Unbinds}
+use Rattle.lpc_model.specs.Found.{is_accepted, port_row, route, wait_of, waits_as, is_connect}
+use Rattle.lpc_model.specs.Basics.{Basic, Dies, Enters, Steps, Unregisters, Withdraws, basic, doing, entries_of, world_after, ◌▹◌, Wakes, Empties, Unbinds, DropsOwned, provided}
 use Rattle.lpc_model.specs.Close.{cut_pair}
-use Rattle.lpc_model.specs.Death.{cut_accepted, die, died_message, post_death, death_post}
+use Rattle.lpc_model.specs.Death.{end_client, die, died_message, post_death, death_post}
 use Rattle.lpc_model.specs.Entering.{enter, row_of, takes, given_steps, woken, shown}
 use Rattle.lpc_model.specs.Circle.{Group, Whose, owner}
 use Rattle.lpc_model.proofs.Sound.Terminate.{IsSafe, die-safe, enter-safe, unregister-safe}
@@ -27,7 +27,7 @@ use Rattle.lpc_isolation.proofs.Views.Seen.{port-view}
 use Rattle.lpc_isolation.proofs.Views.Filters.{first-kept, first-none_kept}
 use Rattle.lpc_isolation.proofs.Each.Enter.{enter-fair, enter-ours, enter-view}
 use Rattle.lpc_isolation.proofs.Views.Apart.{are_apart, enter-apart, enter-gone, is_owned, unseen-at, unseen-wait, owned-by}
-use Rattle.lpc_isolation.proofs.Views.Callers.{Led, led-same, unseen-thread}
+use Rattle.lpc_isolation.proofs.Views.Callers.{Led, led-same, unseen-thread, unseen-owned}
 use Rattle.lpc_isolation.proofs.Each.Routes.{Right, context-view, right-row, route-view, routed-in, routed-out}
 use Rattle.lpc_isolation.proofs.Plays.Play.{told_inputs}
 use Rattle.lpc_isolation.proofs.Rows.Ways.{route-home}
@@ -40,6 +40,7 @@ use Rattle.lpc_isolation.proofs.Gone.ThinCalls.{AreClosed, enter-closed, row-thi
 use Rattle.lpc_isolation.proofs.Closings.Mild.{AreMild, Sure, sure-losses, is_mild}
 use Rattle.lpc_isolation.proofs.Closings.Lone.{own-seen, is_lone, lone-all}
 use Rattle.lpc_isolation.proofs.Closings.Ends.{drawn-asked}
+use Rattle.lpc_isolation.proofs.Closings.Stages.{kept}
 use Rattle.lpc_isolation.proofs.Closings.Posts.{entered-none, mild-entered, mute-entered}
 use Rattle.lpc_isolation.proofs.Closings.Ports.{cut-off}
 use Rattle.lpc_isolation.proofs.Endings.Parts.{Part, Remains, Steady, good-part, none-part, none-remains, provided-part, steady-after, then-part, then-remains, provided-remains}
@@ -65,6 +66,7 @@ away-mild (Wakes who call status fields) is = refl
 away-mild (Withdraws who) is = refl
 away-mild (Empties q) is = refl
 away-mild (Unbinds b) is = refl
+away-mild (DropsOwned b) is = refl
 away-mild x is = absurd (cc)
 
 away-none : (x : Basic) → takes_away x ≡ true → sends_none x ≡ true
@@ -72,6 +74,7 @@ away-none (Wakes who call status fields) is = refl
 away-none (Withdraws who) is = refl
 away-none (Empties q) is = refl
 away-none (Unbinds b) is = refl
+away-none (DropsOwned b) is = refl
 away-none x is = absurd (cc)
 
 pub die-mild : (code : Status) (t : ThreadRow) (w : World) → AreMild (die code t w)
@@ -111,13 +114,34 @@ module _ (m : Group) (c : ℕ) (u : World) (pid : ℕ) (c_in : m c ≡ true) (n 
   goes-sure : (w : World) → Sure m c u w → Sure m c u (world_after w (goes n code w))
   goes-sure w s = sure-losses m c u (record { maker = 0; ordinal = 0; process = 0 }) w (goes n code w) refl s (goes-asked w s.asked)
 
-  -- and then the client port of its connect is cut, where that was accepted
-  cut-part : (o : Option WaitRow) → is_made_in pid o ≡ true → Part m c u pid (Sure m c u) (cut_accepted o)
-  cut-part None is = none-part m c u pid c_in (Sure m c u) (λ w s. s)
-  cut-part (Some x) is = provided-part m c u pid c_in (Sure m c u) (λ w. is_accepted x) (cut_pair x.port) (λ w s. s) (λ w s inside. refl) (good-part m c u pid c_in x.port (cut_pair x.port) (eqb-true _ _ is) (cut-off m c x.port).good)
+  -- the views that its client port owns go
+  own-part : (b : Birth) → b.process ≡ pid → Part m c u pid (Sure m c u) (doing (DropsOwned b ∷ []))
+  own-part b home = record {
+    mild = λ w. refl;
+    sent = λ w. refl;
+    fair = λ w s. refl;
+    asked = λ w s. basic-asked w (DropsOwned b) refl s.asked;
+    apart = λ d w s out. rw (unseen-owned m c w b s.fair (ap m home ∙ out)) refl;
+    mute = λ d w memo s k out. refl;
+    led = λ d w s inside. led-same m c u d w (DropsOwned b ∷ []) refl;
+  }
 
-  ending-part : (o : Option WaitRow) → is_made_in pid o ≡ true → Part m c u pid (Sure m c u) (goes n code ▹ cut_accepted o)
-  ending-part o is = then-part m c u pid c_in (Sure m c u) (Sure m c u) (goes n code) (cut_accepted o) goes-part goes-sure (cut-part o is)
+  -- and then the client port of its connect is cut, where that was accepted, and its views go
+  cut-part : (o : Option WaitRow) → is_made_in pid o ≡ true → Part m c u pid (Sure m c u) (end_client o)
+  cut-part None is = none-part m c u pid c_in (Sure m c u) (λ w s. s)
+  cut-part (Some x) is =
+      let home : x.port.process ≡ pid = eqb-true _ _ is in
+      then-part m c u pid c_in (Sure m c u) (Sure m c u) (provided (λ w. is_accepted x) (cut_pair x.port)) (provided (λ w. is_connect x) (doing (DropsOwned x.port ∷ [])))
+      (provided-part m c u pid c_in (Sure m c u) (λ w. is_accepted x) (cut_pair x.port) (λ w s. s) (λ w s inside. refl) (good-part m c u pid c_in x.port (cut_pair x.port) home (cut-off m c x.port).good))
+      (λ w s. sure-cut w s (is_accepted x))
+      (provided-part m c u pid c_in (Sure m c u) (λ w. is_connect x) (doing (DropsOwned x.port ∷ [])) (λ w s. s) (λ w s inside. refl) (own-part x.port home))
+    where
+      sure-cut : (w : World) → Sure m c u w → (e : Bool) → Sure m c u (world_after w (when e (cut_pair x.port w)))
+      sure-cut w s true = kept m c x.port (cut_pair x.port) (cut-off m c x.port) u w s
+      sure-cut w s false = s
+
+  ending-part : (o : Option WaitRow) → is_made_in pid o ≡ true → Part m c u pid (Sure m c u) (goes n code ▹ end_client o)
+  ending-part o is = then-part m c u pid c_in (Sure m c u) (Sure m c u) (goes n code) (end_client o) goes-part goes-sure (cut-part o is)
 
 -- a thread that is its process's
 module _ (m : Group) (c : ℕ) (u : World) (pid : ℕ) (c_in : m c ≡ true) (code : Status) (t : ThreadRow) (own : owner u t.number ≡ Some pid) where
@@ -139,11 +163,14 @@ module _ (m : Group) (c : ℕ) (u : World) (pid : ℕ) (c_in : m c ≡ true) (co
       at (Some x) some = let k = found-known w x s some in subst (λ p. (x.port.process == p) ≡ true) k.1 (first-true (x.port.process == x.process) _ k.0)
 
   -- what a member's wait leaves to cut is seen in the view
-  cut-seen : (w : World) → Sure m c u w → m pid ≡ true → (v : World) → cut_accepted (wait_of (view m w) n) v ≡ cut_accepted (wait_of w n) v
+  cut-seen : (w : World) → Sure m c u w → m pid ≡ true → (v : World) → end_client (wait_of (view m w) n) v ≡ end_client (wait_of w n) v
   cut-seen w s inside v = at (wait_of w n) refl
     where
       none-cut : (x : WaitRow) → is_fair_wait m c x ≡ true → m x.process ≡ true → our_wait m x ≡ false → is_accepted x ≡ false
       none-cut x fair x_in out = grind arith
+
+      none-connect : (x : WaitRow) → is_fair_wait m c x ≡ true → m x.process ≡ true → our_wait m x ≡ false → is_connect x ≡ false
+      none-connect x fair x_in out = grind arith
 
       gone : (x : WaitRow) → wait_of w n ≡ Some x → our_wait m x ≡ false → wait_of (view m w) n ≡ None
       gone x some out =
@@ -159,22 +186,23 @@ module _ (m : Group) (c : ℕ) (u : World) (pid : ℕ) (c_in : m c ≡ true) (co
           no-some None is = refl
           no-some (Some y) is = absurd (cc)
 
-      found : (x : WaitRow) → wait_of w n ≡ Some x → (e : Bool) → our_wait m x ≡ e → cut_accepted (wait_of (view m w) n) v ≡ cut_accepted (Some x) v
-      found x some true ours = ap (λ o. cut_accepted o v) (first-kept (our_wait m) (waits_as n) w.waits x some ours)
+      found : (x : WaitRow) → wait_of w n ≡ Some x → (e : Bool) → our_wait m x ≡ e → end_client (wait_of (view m w) n) v ≡ end_client (Some x) v
+      found x some true ours = ap (λ o. end_client o v) (first-kept (our_wait m) (waits_as n) w.waits x some ours)
       found x some false out =
           let k = found-known w x s some in
           let off : is_accepted x ≡ false = none-cut x k.0 (ap m k.1 ∙ inside) out in
-          ap (λ o. cut_accepted o v) (gone x some out) ∙ sym (ap (λ e. when e (cut_pair x.port v)) off)
+          ap (λ o. end_client o v) (gone x some out) ∙ sym (ap (λ e. when e (cut_pair x.port v) ++ when (is_connect x) (DropsOwned x.port ∷ [])) off
+          ∙ ap (λ e. when e (DropsOwned x.port ∷ [])) (none-connect x k.0 (ap m k.1 ∙ inside) out))
 
-      at : (o : Option WaitRow) → wait_of w n ≡ o → cut_accepted (wait_of (view m w) n) v ≡ cut_accepted o v
-      at None none = ap (λ o. cut_accepted o v) (first-none_kept (our_wait m) (waits_as n) w.waits none)
+      at : (o : Option WaitRow) → wait_of w n ≡ o → end_client (wait_of (view m w) n) v ≡ end_client o v
+      at None none = ap (λ o. end_client o v) (first-none_kept (our_wait m) (waits_as n) w.waits none)
       at (Some x) some = found x some (our_wait m x) refl
 
   -- in each world it is one of these parts
-  die-at : (w : World) → Steady m c u w → Part m c u pid (Sure m c u) (goes n code ▹ cut_accepted (wait_of w n))
+  die-at : (w : World) → Steady m c u w → Part m c u pid (Sure m c u) (goes n code ▹ end_client (wait_of w n))
   die-at w k = ending-part m c u pid c_in n code own (wait_of w n) (its-wait w k.sure)
 
-  die-view : (w : World) → Steady m c u w → m pid ≡ true → die code t (view m w) ≡ (goes n code ▹ cut_accepted (wait_of w n)) (view m w)
+  die-view : (w : World) → Steady m c u w → m pid ≡ true → die code t (view m w) ≡ (goes n code ▹ end_client (wait_of w n)) (view m w)
   die-view w k inside = ap (λ bs. goes n code (view m w) ++ bs) (cut-seen w k.sure inside (world_after (view m w) (goes n code (view m w))))
 
   pub die-part : Part m c u pid (Steady m c u) (die code t)
@@ -346,10 +374,13 @@ module _ (m : Group) (c : ℕ) (u : World) (pid : ℕ) (c_in : m c ≡ true) (t 
 goes-remains : (k : Alive) (n : ℕ) (code : Status) → Remains k (goes n code)
 goes-remains k n code = record { alike = λ u closed. refl; stands = λ u closed. refl }
 
-cut-remains : (k : Alive) (o : Option WaitRow) → is_live_port k o ≡ true → Remains k (cut_accepted o)
+cut-remains : (k : Alive) (o : Option WaitRow) → is_live_port k o ≡ true → Remains k (end_client o)
 cut-remains k None is = none-remains k
-cut-remains k (Some x) is = let g = (cut-off (λ p. true) 0 x.port).good in
-    provided-remains k (λ w. is_accepted x) (cut_pair x.port) (λ u closed. refl) (record { alike = λ u closed. g.alike k u closed is; stands = λ u closed. g.stands k u closed is })
+cut-remains k (Some x) is =
+    let g = (cut-off (λ p. true) 0 x.port).good in
+    then-remains k (provided (λ w. is_accepted x) (cut_pair x.port)) (provided (λ w. is_connect x) (doing (DropsOwned x.port ∷ [])))
+    (provided-remains k (λ w. is_accepted x) (cut_pair x.port) (λ u closed. refl) (record { alike = λ u closed. g.alike k u closed is; stands = λ u closed. g.stands k u closed is }))
+    (provided-remains k (λ w. is_connect x) (doing (DropsOwned x.port ∷ [])) (λ u closed. refl) (record { alike = λ u closed. refl; stands = λ u closed. refl }))
 
 pub die-remains : (k : Alive) (code : Status) (t : ThreadRow) → Remains k (die code t)
 die-remains k code t = record {
@@ -359,10 +390,10 @@ die-remains k code t = record {
   where
     live : (u : World) → Closed k u → (o : Option WaitRow) → wait_of u t.number ≡ o → is_live_port k o ≡ true
     live u closed None none = refl
-    live u closed (Some x) some = every-first (wait_closed k) (waits_as t.number) u.waits x closed.waits some
+    live u closed (Some x) some = first-true _ _ (every-first (wait_closed k) (waits_as t.number) u.waits x closed.waits some)
 
-    at : (u : World) → Closed k u → Remains k (goes t.number code ▹ cut_accepted (wait_of u t.number))
-    at u closed = then-remains k (goes t.number code) (cut_accepted (wait_of u t.number)) (goes-remains k t.number code) (cut-remains k (wait_of u t.number) (live u closed (wait_of u t.number) refl))
+    at : (u : World) → Closed k u → Remains k (goes t.number code ▹ end_client (wait_of u t.number))
+    at u closed = then-remains k (goes t.number code) (end_client (wait_of u t.number)) (goes-remains k t.number code) (cut-remains k (wait_of u t.number) (live u closed (wait_of u t.number) refl))
 
 pub post-remains : (k : Alive) (t : ThreadRow) (b : Birth) → k.ports b ≡ true → Remains k (post_death t b)
 post-remains k t b live = then-remains k (leaves t.number b) (tells t b) (record { alike = λ u closed. refl; stands = λ u closed. refl }) (record {

@@ -17,6 +17,7 @@ use Rattle.lpc_isolation.proofs.Each.Enter.{sound-patient}
 use Rattle.lpc_isolation.proofs.Each.Receive.{led-append}
 use Rattle.lpc_isolation.proofs.Plays.Play.{told_inputs}
 use Rattle.lpc_isolation.proofs.Rows.Paths.{run-paths}
+use Rattle.lpc_isolation.proofs.Rows.Clients.{sound-clients}
 use Rattle.lpc_isolation.proofs.Rows.Sent.{append-sent, are_sent}
 use Rattle.lpc_isolation.proofs.Rows.Asked.{Asked}
 use Rattle.lpc_isolation.proofs.Rows.Ids.{Numbered}
@@ -138,6 +139,7 @@ steady-after m c u pid K f p w k s safe = record {
     patient = sound-patient (world_after w (f w)) safe.sound.waits;
     once = safe.sound.once;
     paths = run-paths w (f w) (mild-paths w (f w) (p.mild w)) s.paths;
+    clients = sound-clients (world_after w (f w)) safe.sound;
     asked = p.asked w k;
   };
   safe = safe;

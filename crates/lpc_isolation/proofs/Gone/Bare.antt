@@ -4,7 +4,7 @@ use Rattle.lpc_model.specs.World.{Birth, World, no_rows}
 use Rattle.lpc_model.specs.Lines.{ScriptLine}
 use Rattle.lpc_isolation.proofs.Gone.Served.{served_step, served_steps}
 use Rattle.lpc_model.specs.Run.{said_in}
-use Rattle.lpc_model.specs.Circle.{Event, Group, HasInnerViews, Ran, inputs, is_fine_line, is_seen, items, line_whose, told_event, members, ReadsInner}
+use Rattle.lpc_model.specs.Circle.{Event, Group, HasInnerViews, Ran, inputs, is_fine_line, is_seen, items, line_whose, told_event, members, ReadsInner, gave_event, given_in}
 use Rattle.lpc_isolation.proofs.Views.Alone.{HasFineRows, WritesOuter, alone, ShowsOuter}
 
 -- what happens at a line, before rows go
@@ -12,6 +12,7 @@ abbrev pub bare_line_events : World → ScriptLine → List Event
 bare_line_events w line =
     record { whose = line_whose w line; item = Ran line }
     ∷ map (told_event (served_step w line).world (line_whose w line)) (served_step w line).entries
+    ++ map (gave_event (line_whose w line)) (given_in (served_steps line w))
 
 -- what happens in a run from a world on
 abbrev pub bare_events : World → List (Option ScriptLine) → List Event

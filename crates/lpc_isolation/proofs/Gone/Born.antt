@@ -1,4 +1,5 @@
 -- Births of processes and threads in the run whose rows never go: what is made next has a birth that no row has.
+use Rattle.lpc_model.specs.declared.entry.CallName.{CallName}
 use Rattle.lpc_model.specs.Ranges.{write_range_steps}
 use Rattle.lpc_model.specs.Memory.{new_section, section_steps, map_steps, mapped_view, unmap_steps, write_steps}
 use Rattle.lpc_model.specs.declared.message.Message.{Message}
@@ -7,11 +8,11 @@ use Rattle.lpc_model.specs.Counts.{asked, duplicate_steps}
 use Rattle.lpc_model.specs.Close.{close_handle, close_steps}
 use Rattle.lpc_model.specs.Entering.{enter, received_steps, row_of}
 use Rattle.lpc_model.specs.Request.{datagram_start, datagram_steps, given_reply, receive_steps, reply_steps, reply_test, request_start, request_steps, sent_by}
-use Rattle.lpc_model.specs.Connect.{accept_steps, client_port, complete_steps, connect_start, connect_steps, connection_request, create_steps, listen_steps, named_steps, refuse_steps, unnamed_steps}
+use Rattle.lpc_model.specs.Connect.{accept_steps, client_port, complete_steps, connect_start, connect_steps, connection_request, create_steps, listen_steps, named_steps, refuse_steps, unnamed_steps, allow_steps, guard_steps}
 use Rattle.lpc_model.proofs.Calls.Outcomes.{Outcomes}
 use Rattle.lpc_isolation.proofs.Calls.Deeds.{served-does}
 use Rattle.std.proofs.Common.{◌≡◌, ℕ, ◌+◌, List, [], ◌∷◌, ◌++◌, Bool, true, false, not, Option, Some, None, refl, ap, sym, subst, arith}
-use Rattle.std.specs.Prelude.{◌&&◌, ◌||◌, ◌==◌, nat_lt, Ok}
+use Rattle.std.specs.Prelude.{◌&&◌, ◌||◌, ◌==◌, nat_lt, Ok, is_some}
 use Rattle.std.proofs.lemmas.Bool.{and_from, eqb-true, false_from_ne_true}
 use Rattle.std.proofs.lemmas.Bool.Decides.{nat_tests}
 use Rattle.std.proofs.Math.Bool.{or-true}
@@ -31,12 +32,12 @@ use Rattle.lpc_model.specs.declared.entry.ObjectKind.TheVariants as kind
 use Rattle.lpc_model.specs.declared.entry.Word.TheVariants as word
 use Rattle.lpc_model.specs.Grammar.{has_call_ids, has_ids}
 use Rattle.lpc_model.specs.Words.{is_id}
-use Rattle.lpc_model.specs.World.{Birth, ContentRow, Contents, Known, ProcessRow, ThreadRow, Unknown, UsedThread, WaitRow, World, no_rows, MessageRow, PortRow, SectionRow}
-use Rattle.lpc_model.specs.Found.{is_content, is_live, is_live_thread, is_section, is_thread, live_thread, same_birth, wait_of, was_process, was_thread, free_handle}
-use Rattle.lpc_model.specs.Basics.{AddsProcess, AddsSection, AddsThread, Basic, Binds, Dies, DrawsIdentifier, DrawsOrdinal, Frees, Registers, Unregisters, Writes, basic, ended, freed, in_known, past_identifier, past_ordinal, registering, unregistering, world_after, written, zeros}
+use Rattle.lpc_model.specs.World.{Birth, ContentRow, Contents, Known, ProcessRow, ThreadRow, Unknown, UsedThread, WaitRow, World, no_rows, MessageRow, PortRow, SectionRow, Effective, Token}
+use Rattle.lpc_model.specs.Found.{is_content, is_live, is_live_thread, is_section, is_thread, live_thread, same_birth, wait_of, was_process, was_thread, free_handle, is_token, token_of, named_token}
+use Rattle.lpc_model.specs.Basics.{AddsProcess, AddsSection, AddsThread, Basic, Binds, Dies, DrawsIdentifier, DrawsOrdinal, Frees, Registers, Unregisters, Writes, basic, ended, freed, in_known, past_identifier, past_ordinal, registering, unregistering, world_after, written, zeros, Acts, AddsToken, NamesToken, Secures, acting}
 use Rattle.lpc_model.specs.Named.{free_name, spelled_name}
-use Rattle.lpc_model.specs.Lines.{ScriptCall, ScriptLine, boot, dir, link, run, thread}
-use Rattle.lpc_model.specs.Machine.{bare_steps, boot_line, dir_line, directive_birth, link_line, name_of_call, new_process, new_thread, thread_line, thread_test, unused_test}
+use Rattle.lpc_model.specs.Lines.{ScriptCall, ScriptLine, boot, dir, link, run, thread, token}
+use Rattle.lpc_model.specs.Machine.{bare_steps, boot_line, dir_line, directive_birth, link_line, name_of_call, new_process, new_thread, thread_line, thread_test, unused_test, boot_token, token_line}
 use Rattle.lpc_model.specs.Creation.{second_birth, making_process, making_thread}
 use Rattle.lpc_model.specs.Tests.{next_birth}
 use Rattle.lpc_model.proofs.Calls.Creating.{tested-further}
@@ -44,6 +45,11 @@ use Rattle.lpc_model.proofs.Steps.Ending.{answered_end, ending-enter, ending-rec
 use Rattle.lpc_model.proofs.Calls.Holding.{Holds, bind_holds, directed_holds, holds-more, holds_ok, not_refused, settled_holds}
 use Rattle.lpc_model.proofs.Calls.Usable.{live-number}
 use Rattle.lpc_isolation.proofs.Gone.Served.{served, served_ready, served_step, served_thread}
+use Rattle.lpc_model.specs.Offers.{mapped}
+use Rattle.lpc_model.proofs.Calls.Sharing.{mapped-pass, shared-pass, guard-pass}
+use Rattle.lpc_model.specs.Impersonation.{held_content, impersonate_steps, new_token, process_content, revert_steps, token_steps}
+use Rattle.lpc_model.specs.declared.entry.CallName.TheVariants.{NtOpenProcessToken, NtOpenThreadToken}
+use Rattle.lpc_model.specs.Refusal.{refuse_if}
 
 -- Of the births that a number may have: a directive gives maker 0 and the number itself, a call its thread as maker
 abbrev pub is_made : World → Birth → ℕ → Bool
@@ -78,6 +84,7 @@ pub record Born (u : World) : Type 0 where
   pub once : HasThreadsOnce u
   pub sections : every (λ s. is_drawn u s.birth) u.sections ≡ true
   pub contents : Drawn u u.contents
+  pub tokens : every (λ t. is_drawn u t.birth) u.tokens ≡ true
 
 -- what keeps of each birth that it was drawn
 drawn-more : (u v : World) → ((b : Birth) → is_drawn u b ≡ true → is_drawn v b ≡ true) → (k : Contents) → Drawn u k → Drawn v k
@@ -107,6 +114,7 @@ changed-born u who f births numbers more b = record {
   once = λ n. rw (count-change (is_thread n) (is_thread who) f (λ x. ap (λ i. i == n) (numbers x)) u.threads) (b.once n);
   sections = every-more (λ s. is_drawn u s.birth) (λ s. is_drawn v s.birth) (λ s is. drawn s.birth is) u.sections b.sections;
   contents = drawn-more u v drawn u.contents b.contents;
+  tokens = every-more (λ t. is_drawn u t.birth) (λ t. is_drawn v t.birth) (λ t is. drawn t.birth is) u.tokens b.tokens;
 }
   where
     v : World
@@ -130,7 +138,7 @@ drawn-before b t is = at (b.maker == t.number) is
     at false is = refl
 
 freed-born : (u : World) (k : ObjectKind) (b : Birth) → Born u → Born (freed u k b)
-freed-born u kind.Port b o = record { processes = o.processes; threads = o.threads; past = o.past; numbers = o.numbers; uses = o.uses; zero = o.zero; once = o.once; sections = o.sections; contents = o.contents }
+freed-born u kind.Port b o = record { processes = o.processes; threads = o.threads; past = o.past; numbers = o.numbers; uses = o.uses; zero = o.zero; once = o.once; sections = o.sections; contents = o.contents; tokens = o.tokens }
 freed-born u kind.Section b o = record {
   processes = o.processes;
   threads = o.threads;
@@ -141,8 +149,9 @@ freed-born u kind.Section b o = record {
   once = o.once;
   sections = every-without (λ s. is_drawn u s.birth) (is_section b) u.sections o.sections;
   contents = drawn-without u b u.contents o.contents;
+  tokens = o.tokens;
 }
-freed-born u kind.Token b o = o
+freed-born u kind.Token b o = record { processes = o.processes; threads = o.threads; past = o.past; numbers = o.numbers; uses = o.uses; zero = o.zero; once = o.once; sections = o.sections; contents = o.contents; tokens = every-without (λ t. is_drawn u t.birth) (is_token b) u.tokens o.tokens }
 freed-born u kind.Process b o = record {
   processes = every-without (λ p. is_made u p.birth p.number) (λ p. same_birth p.birth b) u.processes o.processes;
   threads = o.threads;
@@ -153,6 +162,7 @@ freed-born u kind.Process b o = record {
   once = o.once;
   sections = o.sections;
   contents = o.contents;
+  tokens = o.tokens;
 }
 freed-born u kind.Thread b o = record {
   processes = o.processes;
@@ -165,6 +175,7 @@ freed-born u kind.Thread b o = record {
   once = λ n. count-less (is_thread n) (λ t. same_birth t.birth b) u.threads 1 (o.once n);
   sections = every-more (λ s. is_drawn u s.birth) (λ s. is_drawn (freed u kind.Thread b) s.birth) (λ s is. drawn s.birth is) u.sections o.sections;
   contents = drawn-more u (freed u kind.Thread b) drawn u.contents o.contents;
+  tokens = every-more (λ t. is_drawn u t.birth) (λ t. is_drawn (freed u kind.Thread b) t.birth) (λ t is. drawn t.birth is) u.tokens o.tokens;
 }
   where
     drawn : (d : Birth) → is_drawn u d ≡ true → is_drawn (freed u kind.Thread b) d ≡ true
@@ -175,20 +186,23 @@ abbrev pub makes_none : Basic → Bool
 makes_none (AddsProcess p) = false
 makes_none (AddsThread t) = false
 makes_none (AddsSection s) = false
+makes_none (AddsToken t) = false
 makes_none b = true
 
 none-born : (u : World) (b : Basic) → makes_none b ≡ true → Born u → Born (basic u b)
 none-born u (AddsProcess p) none o = absurd (cc)
 none-born u (AddsThread t) none o = absurd (cc)
 none-born u (AddsSection s) none o = absurd (cc)
-none-born u (Writes b place new) none o = record { processes = o.processes; threads = o.threads; past = o.past; numbers = o.numbers; uses = o.uses; zero = o.zero; once = o.once; sections = o.sections; contents = drawn-written u b place new u.contents o.contents }
+none-born u (AddsToken t) none o = absurd (cc)
+none-born u (Acts who own) none o = changed-born u who (acting own) (λ x. refl) (λ x. refl) (λ b x is. is) o
+none-born u (Writes b place new) none o = record { processes = o.processes; threads = o.threads; past = o.past; numbers = o.numbers; uses = o.uses; zero = o.zero; once = o.once; sections = o.sections; contents = drawn-written u b place new u.contents o.contents; tokens = o.tokens }
 none-born u (DrawsIdentifier who) none o = changed-born u who past_identifier (λ x. refl) (λ x. refl) (λ b x is. is) o
 none-born u (DrawsOrdinal who) none o = changed-born u who past_ordinal (λ x. refl) (λ x. refl) drawn-before o
-none-born u (Dies who status) none o = let c = changed-born u who ended (λ x. refl) (λ x. refl) (λ b x is. is) o in record { processes = c.processes; threads = c.threads; past = c.past; numbers = c.numbers; uses = c.uses; zero = c.zero; once = c.once; sections = c.sections; contents = c.contents }
+none-born u (Dies who status) none o = let c = changed-born u who ended (λ x. refl) (λ x. refl) (λ b x is. is) o in record { processes = c.processes; threads = c.threads; past = c.past; numbers = c.numbers; uses = c.uses; zero = c.zero; once = c.once; sections = c.sections; contents = c.contents; tokens = c.tokens }
 none-born u (Registers who b) none o = changed-born u who (registering b) (λ x. refl) (λ x. refl) (λ b x is. is) o
 none-born u (Unregisters who b) none o = changed-born u who (unregistering b) (λ x. refl) (λ x. refl) (λ b x is. is) o
 none-born u (Frees n) none o = freed-born u n.kind n.birth o
-none-born u b none o = record { processes = o.processes; threads = o.threads; past = o.past; numbers = o.numbers; uses = o.uses; zero = o.zero; once = o.once; sections = o.sections; contents = o.contents }
+none-born u b none o = record { processes = o.processes; threads = o.threads; past = o.past; numbers = o.numbers; uses = o.uses; zero = o.zero; once = o.once; sections = o.sections; contents = o.contents; tokens = o.tokens }
 
 pub nones-born : (u : World) (bs : List Basic) → every makes_none bs ≡ true → Born u → Born (world_after u bs)
 nones-born u [] none o = o
@@ -206,6 +220,7 @@ process-born u p made before o = record {
   once = o.once;
   sections = o.sections;
   contents = o.contents;
+  tokens = o.tokens;
 }
   where
     past : (ts : List ThreadRow) → every (is_after u) ts ≡ true → every (is_before p.birth) ts ≡ true → every (is_after (basic u (AddsProcess p))) ts ≡ true
@@ -244,6 +259,7 @@ thread-born u t made before unused id o = record {
   once = new-once u.threads t o.once (has-off (is_thread t.number) u.threads (every-more (λ x. was_thread u x.number) (λ x. not (is_thread t.number x)) (λ x used. off x (is_thread t.number x) refl used) u.threads o.uses));
   sections = every-more (λ s. is_drawn u s.birth) (λ s. is_drawn v s.birth) (λ s is. drawn s.birth is) u.sections o.sections;
   contents = drawn-more u v drawn u.contents o.contents;
+  tokens = every-more (λ t. is_drawn u t.birth) (λ t. is_drawn v t.birth) (λ t is. drawn t.birth is) u.tokens o.tokens;
 }
   where
     v : World
@@ -324,6 +340,7 @@ ending-none : (b : Basic) → is_ending b ≡ true → makes_none b ≡ true
 ending-none (AddsProcess p) is = absurd (cc)
 ending-none (AddsThread t) is = absurd (cc)
 ending-none (AddsSection s) is = absurd (cc)
+ending-none (AddsToken t) is = absurd (cc)
 ending-none b is = refl
 
 enter-none : (m : MessageRow) (v : World) → every makes_none (enter m v) ≡ true
@@ -347,9 +364,9 @@ module _ (u : World) (by : ThreadRow) (live : live_thread u by.number ≡ Some b
       let twice : v.threads ≡ change (is_thread by.number) (λ t. past_ordinal (past_ordinal t)) u.threads = change-twice (is_thread by.number) past_ordinal (λ t. refl) u.threads in
       let first_past : every (is_before (next_birth by)) v.threads ≡ true = rw twice (drawn-past u by (λ t. past_ordinal (past_ordinal t)) (next_birth by) live refl (λ t. refl) (less-second by.next_ordinal) o) in
       let next_past : every (is_before (second_birth by)) v.threads ≡ true = rw twice (drawn-past u by (λ t. past_ordinal (past_ordinal t)) (second_birth by) live refl (λ t. refl) (less-next (by.next_ordinal + 1)) o) in
-      let three = process-born v (new_process pid (Some by.process) (next_birth by)) (made-by v (next_birth by) pid used) first_past two in
-      let four = thread-born (basic v (AddsProcess (new_process pid (Some by.process) (next_birth by)))) (new_thread tid pid (second_birth by)) (made-by v (second_birth by) tid used) next_past unused (is-id tid (second-true _ _ ids)) three in
-      record { processes = four.processes; threads = four.threads; past = four.past; numbers = four.numbers; uses = four.uses; zero = four.zero; once = four.once; sections = four.sections; contents = four.contents }
+      let three = process-born v (new_process pid (Some by.process) (next_birth by) (token_of u by.process)) (made-by v (next_birth by) pid used) first_past two in
+      let four = thread-born (basic v (AddsProcess (new_process pid (Some by.process) (next_birth by) (token_of u by.process)))) (new_thread tid pid (second_birth by)) (made-by v (second_birth by) tid used) next_past unused (is-id tid (second-true _ _ ids)) three in
+      record { processes = four.processes; threads = four.threads; past = four.past; numbers = four.numbers; uses = four.uses; zero = four.zero; once = four.once; sections = four.sections; contents = four.contents; tokens = four.tokens }
 
   started : (tid pid : ℕ) → is_id tid ≡ true → was_thread u tid ≡ false → Born (world_after u (making_thread u by tid pid))
   started tid pid id unused =
@@ -357,7 +374,7 @@ module _ (u : World) (by : ThreadRow) (live : live_thread u by.number ≡ Some b
       let two : Born v = none-born u (DrawsOrdinal by.number) refl o in
       let next_past : every (is_before (next_birth by)) v.threads ≡ true = drawn-past u by past_ordinal (next_birth by) live refl (λ t. refl) (less-next by.next_ordinal) o in
       let three = thread-born v (new_thread tid pid (next_birth by)) (made-by v (next_birth by) tid used) next_past unused (is-id tid id) two in
-      record { processes = three.processes; threads = three.threads; past = three.past; numbers = three.numbers; uses = three.uses; zero = three.zero; once = three.once; sections = three.sections; contents = three.contents }
+      record { processes = three.processes; threads = three.threads; past = three.past; numbers = three.numbers; uses = three.uses; zero = three.zero; once = three.once; sections = three.sections; contents = three.contents; tokens = three.tokens }
 
   sectioned : (size prot : ℕ) → Born (world_after u (section_steps by size prot (free_handle u by.process)))
   sectioned size prot =
@@ -375,6 +392,25 @@ module _ (u : World) (by : ThreadRow) (live : live_thread u by.number ≡ Some b
         once = two.once;
         sections = every-push (λ s. is_drawn v s.birth) u.sections (new_section by size prot) two.sections new;
         contents = drawn-added v (new_section by size prot) u.contents new two.contents;
+        tokens = two.tokens;
+      }
+
+  tokened : (name : CallName) (content : Effective) → Born (world_after u (token_steps by name content (free_handle u by.process)))
+  tokened name content =
+      let v : World = basic u (DrawsOrdinal by.number) in
+      let two : Born v = none-born u (DrawsOrdinal by.number) refl o in
+      let next_past : every (is_before (next_birth by)) v.threads ≡ true = drawn-past u by past_ordinal (next_birth by) live refl (λ t. refl) (less-next by.next_ordinal) o in
+      record {
+        processes = two.processes;
+        threads = two.threads;
+        past = two.past;
+        numbers = two.numbers;
+        uses = two.uses;
+        zero = two.zero;
+        once = two.once;
+        sections = two.sections;
+        contents = two.contents;
+        tokens = every-push (λ t. is_drawn v t.birth) u.tokens (new_token by content) two.tokens (and_from _ _ used next_past);
       }
 
   nones : (bs : List Basic) → every makes_none bs ≡ true → Born (world_after u bs)
@@ -382,15 +418,16 @@ module _ (u : World) (by : ThreadRow) (live : live_thread u by.number ≡ Some b
 
   born-outcomes : Outcomes u by (λ call bs. has_call_ids call ≡ true → Born (world_after u bs))
   born-outcomes = record {
-    creates = λ _. nones (create_steps by (unnamed_steps (next_birth by)) (free_handle u by.process)) refl;
-    founds = λ name path free _. nones (create_steps by (named_steps (next_birth by) path) (free_handle u by.process)) refl;
-    connects = λ name bytes q at _.
-        let y = connection_request by bytes in
-        nones (connect_steps by q y u) (enter-none (row_of q (client_port by q) y) (world_after u (connect_start by q y)));
+    creates = λ dacl _. nones (create_steps by (unnamed_steps (next_birth by)) (free_handle u by.process)) refl;
+    founds = λ name dacl path free _. nones (create_steps by (named_steps (next_birth by) path) (free_handle u by.process) ++ guard_steps (next_birth by) (Some name) dacl) (guard-pass makes_none (λ _ _. refl) (next_birth by) dacl);
+    connects = λ name quality word bytes offer own q is _.
+        let y = connection_request by offer bytes in
+        let es = enter (row_of q (client_port by q) y) (world_after u (connect_start by q offer own y)) in
+        nones (connect_steps by q offer own y u ++ allow_steps u by quality) (every-append makes_none (es ++ mapped by.process own) (allow_steps u by quality) (every-append makes_none es (mapped by.process own) (enter-none (row_of q (client_port by q) y) (world_after u (connect_start by q offer own y))) (mapped-pass makes_none by.process (λ _. refl) own)) refl);
     listens = λ handle port m l at _. nones (listen_steps by port.birth (Some m)) (taken-none m);
     awaits_connect = λ handle port l at _. nones (listen_steps by port.birth None) refl;
-    refuses = λ context bytes a at _. nones (refuse_steps by a) refl;
-    accepts = λ context bytes a at _. nones (accept_steps by context (free_handle u by.process) a) refl;
+    refuses = λ context bytes word a at _. nones (refuse_steps by a) refl;
+    accepts = λ context bytes word offer a views is _. nones (accept_steps by context (free_handle u by.process) a views) (shared-pass makes_none by a.wait (λ _. refl) (λ _. refl) views);
     completes = λ handle r at _. nones (complete_steps by (free_handle u r.wait.process) r) refl;
     sends = λ handle bytes s at _.
         let y = sent_by by DATAGRAM s.message in
@@ -415,6 +452,11 @@ module _ (u : World) (by : ThreadRow) (live : live_thread u by.number ≡ Some b
     writes_memory = λ address new v at may _. nones (write_steps by address new v) refl;
     reads_range = λ handle bytes index n d at _. o;
     writes_range = λ handle bytes index new d at may _. nones (write_range_steps by new d) refl;
+    impersonates = λ handle bytes own allowed _. nones (impersonate_steps by own) refl;
+    reverts = λ class _. nones (revert_steps by) refl;
+    opens_own = λ own at _. tokened NtOpenThreadToken (held_content own);
+    opens_primary = λ _. tokened NtOpenProcessToken (process_content u by);
+    asks_token = λ handle class t field at told _. o;
     ends = λ call name own pid code ts doomed _. let bs = answered_end by name own pid code ts u in nones bs (every-more is_ending makes_none ending-none bs (steps-end u by name own pid code ts));
   }
     where
@@ -427,14 +469,20 @@ module _ (u : World) (by : ThreadRow) (live : live_thread u by.number ≡ Some b
       holds-more (P call) (λ bs. Born (world_after u bs)) (served u by call) (λ bs born. born ids) (served-does u by P born-outcomes (λ handle r fields at _. o) call)
 
 -- Directives
-boot-born : (u : World) (pid tid : ℕ) → (is_id pid && is_id tid) ≡ true → Born u → Holds (λ bs. Born (world_after u bs)) (boot_line u pid tid)
+boot-born : (u : World) (pid tid : ℕ) (name : Option (List ℕ)) → (is_id pid && is_id tid) ≡ true → Born u → Holds (λ bs. Born (world_after u bs)) (boot_line u pid tid name)
 unfolding boot_line
-boot-born u pid tid ids o =
+boot-born u pid tid name ids o =
+    bind_holds (boot_token u name) _ (λ bs. Born (world_after u bs)) (λ content _.
     bind_holds (unused_test u pid tid) _ (λ bs. Born (world_after u bs)) (λ v is.
     let neither = not_refused (was_process u pid || was_thread u tid) OBJECT_NAME_COLLISION v is in
     let unused : was_thread u tid ≡ false = second-off (was_process u pid) (was_thread u tid) neither in
-    let one = process-born u (new_process pid None (directive_birth pid pid)) (rw (same-number pid) refl) (zero-before u (directive_birth pid pid) refl o) o in
-    thread-born (basic u (AddsProcess (new_process pid None (directive_birth pid pid)))) (new_thread tid pid (directive_birth tid pid)) (rw (same-number tid) refl) (zero-before u (directive_birth tid pid) refl o) unused (is-id tid (second-true _ _ ids)) one)
+    let p = new_process pid None (directive_birth pid pid) content in
+    let one = process-born u p (rw (same-number pid) refl) (zero-before u (directive_birth pid pid) refl o) o in
+    thread-born (basic u (AddsProcess p)) (new_thread tid pid (directive_birth tid pid)) (rw (same-number tid) refl) (zero-before u (directive_birth tid pid) refl o) unused (is-id tid (second-true _ _ ids)) one))
+
+token-born : (u : World) (name : List ℕ) (content : Token) → Born u → Holds (λ bs. Born (world_after u bs)) (token_line u name content)
+unfolding token_line
+token-born u name content o = bind_holds (refuse_if (is_some (named_token u name)) OBJECT_NAME_COLLISION) _ (λ bs. Born (world_after u bs)) (λ _ _. nones-born u (NamesToken (record { name = name; token = content }) ∷ []) refl o)
 
 further-born : (u : World) (tid pid : ℕ) → is_id tid ≡ true → Born u → Holds (λ bs. Born (world_after u bs)) (thread_line u tid pid)
 unfolding thread_line
@@ -462,14 +510,15 @@ thread-line-born u tid call (Some by) live ids o = ready-born u by call (wait_of
 
 pub line-born : (u : World) (line : ScriptLine) → has_ids line ≡ true → Born u → Born (served_step u line).world
 unfolding bare_steps
-line-born u (boot pid tid) ids o = directed_holds (λ bs. Born (world_after u bs)) word.Boot (boot_line u pid tid) (boot-born u pid tid ids o) (λ _. o)
+line-born u (boot pid tid name) ids o = directed_holds (λ bs. Born (world_after u bs)) word.Boot (boot_line u pid tid name) (boot-born u pid tid name ids o) (λ _. o)
+line-born u (token name content) ids o = directed_holds (λ bs. Born (world_after u bs)) word.Token (token_line u name content) (token-born u name content o) (λ _. o)
 line-born u (thread tid pid) ids o = directed_holds (λ bs. Born (world_after u bs)) word.Thread (thread_line u tid pid) (further-born u tid pid (first-true _ _ ids) o) (λ _. o)
 line-born u (dir path) ids o = directed_holds (λ bs. Born (world_after u bs)) word.Dir (dir_line u path) (dir-born u path o) (λ _. o)
 line-born u (link path target) ids o = directed_holds (λ bs. Born (world_after u bs)) word.Link (link_line u path target) (link-born u path target o) (λ _. o)
 line-born u (run tid call) ids o = thread-line-born u tid call (live_thread u tid) refl (second-true (is_id tid) _ ids) o
 
 pub born_none : Born no_rows
-born_none = record { processes = refl; threads = refl; past = refl; numbers = refl; uses = refl; zero = refl; once = λ n. omega arith; sections = refl; contents = refl }
+born_none = record { processes = refl; threads = refl; past = refl; numbers = refl; uses = refl; zero = refl; once = λ n. omega arith; sections = refl; contents = refl; tokens = refl }
 
 -- What is made next is new
 before-new : (b : Birth) (by : ThreadRow) (n : Birth) → is_before b by ≡ true → n.maker ≡ by.number → nat_lt n.ordinal by.next_ordinal ≡ false → not (same_birth b n) ≡ true
@@ -504,6 +553,9 @@ drawn-new u by b live is = before-new b by (next_birth by) (every-first (is_befo
 
 pub next-sections : (u : World) (by : ThreadRow) → live_thread u by.number ≡ Some by → Born u → every (λ s. not (same_birth s.birth (next_birth by))) u.sections ≡ true
 next-sections u by live o = every-more (λ s. is_drawn u s.birth) (λ s. not (same_birth s.birth (next_birth by))) (λ s is. drawn-new u by s.birth live is) u.sections o.sections
+
+pub next-tokens : (u : World) (by : ThreadRow) → live_thread u by.number ≡ Some by → Born u → every (λ t. not (same_birth t.birth (next_birth by))) u.tokens ≡ true
+next-tokens u by live o = every-more (λ t. is_drawn u t.birth) (λ t. not (same_birth t.birth (next_birth by))) (λ t is. drawn-new u by t.birth live is) u.tokens o.tokens
 
 pub next-contents : (u : World) (by : ThreadRow) → live_thread u by.number ≡ Some by → Born u → every (λ c. not (same_birth c.section (next_birth by))) (content_rows u.contents) ≡ true
 next-contents u by live o = every-more (λ c. is_drawn u c.section) (λ c. not (same_birth c.section (next_birth by))) (λ c is. drawn-new u by c.section live is) (content_rows u.contents) o.contents

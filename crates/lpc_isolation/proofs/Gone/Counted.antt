@@ -12,18 +12,21 @@ use Rattle.lpc_base.proofs.Births.{birth-same}
 use Rattle.lpc_base.specs.declared.port_kind.PortKind.TheVariants.{Client, Connection, Server, Unnamed}
 use Rattle.lpc_model.specs.declared.entry.ObjectKind.{ObjectKind}
 use Rattle.lpc_model.specs.declared.entry.ObjectKind.TheVariants as kind
-use Rattle.lpc_model.specs.World.{Birth, HandleRow, HandleTable, MessageRow, ObjectName, PortKind, PortRow, ProcessRow, ViewRow, ViewTable, WaitRow, World, ThreadRow}
-use Rattle.lpc_model.specs.Found.{all_views, handle_count, is_client_port, is_connected_to, is_cut, is_life, lives_by, is_made_on, is_paired_to, is_port, is_request, is_sent_on, is_server_port, is_the, port_name, same_birth, same_kind, same_object, shows_section, all_registrations, registered_by}
+use Rattle.lpc_model.specs.World.{Birth, HandleRow, HandleTable, MessageRow, ObjectName, PortKind, PortRow, ProcessRow, ViewRow, ViewTable, WaitRow, World, ThreadRow, Offer}
+use Rattle.lpc_model.specs.Found.{all_views, handle_count, is_client_port, is_connected_to, is_cut, is_life, lives_by, is_made_on, is_paired_to, is_port, is_request, is_sent_on, is_server_port, is_the, port_name, same_birth, same_kind, same_object, shows_section, all_registrations, registered_by, is_owned_by, offers_section, offer_of}
 use Rattle.lpc_model.specs.Standing.{is_near}
 use Rattle.lpc_model.specs.Circle.{Group, is_fine_client, is_fine_port}
 use Rattle.lpc_isolation.proofs.Views.Alone.{HasFineRows}
 use Rattle.lpc_isolation.proofs.Gone.Served.{is_made_to, is_sent_to, is_standing, standing_as, standing_count, standing_holders}
 use Rattle.lpc_isolation.proofs.Views.View.{of_birth, hidden_section, our_message, our_port, our_space, our_wait, seen_pair, seen_port, seen_space, seen_view, view, our_process, our_thread}
+use Rattle.std.proofs.lemmas.Bool.Decides.{nat_tests}
+use Rattle.lpc_model.proofs.Steps.Registrations.{every-each}
+use Rattle.lpc_isolation.proofs.Views.Basics.{owner-same}
 use Rattle.lpc_isolation.proofs.Views.Filters.{count-inside, first-inside, has-inside, shown, which-where}
-use Rattle.lpc_isolation.proofs.Rows.Fair.{Fair, all_of, is_fair_message, is_fair_pair, is_fair_port, is_fair_space, is_fair_view, is_fair_wait, is_fair_life, is_fair_process, is_home, is_fair_thread, together}
+use Rattle.lpc_isolation.proofs.Rows.Fair.{Fair, all_of, is_fair_message, is_fair_pair, is_fair_port, is_fair_space, is_fair_view, is_fair_wait, is_fair_life, is_fair_process, is_home, is_fair_thread, together, is_fair_offer}
 use Rattle.lpc_isolation.proofs.Views.Callers.{c-wait}
 use Rattle.lpc_isolation.proofs.Views.Mine.{the-seen}
-use Rattle.lpc_isolation.proofs.Gone.Thin.{Alive, Closed, handle_closed, message_closed, port_alive, port_cut, table_closed, thin, wait_closed, alive_as, lasts, object_alive, port-live, process_alive, registered-thin, thread_alive, thread_closed}
+use Rattle.lpc_isolation.proofs.Gone.Thin.{Alive, Closed, handle_closed, message_closed, port_alive, port_cut, table_closed, thin, wait_closed, alive_as, lasts, object_alive, port-live, process_alive, registered-thin, thread_alive, thread_closed, view_closed}
 use Rattle.lpc_isolation.proofs.Closings.Ports.{member-in}
 use Rattle.lpc_isolation.proofs.Each.Closes.{handle_count-view}
 
@@ -172,6 +175,59 @@ registered-seen m b (t ∷ ts) inside fair = at (m t.process) refl (registered-s
 has-seen : (p : Birth → Bool) (xs ys : List Birth) → which p xs ≡ which p ys → has p xs ≡ has p ys
 has-seen p xs ys same = ap is_some (sym (first-inside p p (λ x is. is) xs) ∙ ap (first p) same ∙ first-inside p p (λ x is. is) ys)
 
+-- Views of members alone pass a test, which sees of a view no more than the group does
+record OfMembers (m : Group) (c : ℕ) (test : ViewRow → Bool) : Type 0 where
+  same : (v : ViewRow) → test (seen_view m v) ≡ test v
+  none : (pid : ℕ) (v : ViewRow) → m pid ≡ false → is_fair_view m c pid v ≡ true → test v ≡ false
+
+module _ (m : Group) (c : ℕ) (test : ViewRow → Bool) (o : OfMembers m c test) where
+  counted-rows : (vs : List ViewRow) → count test (map (seen_view m) vs) ≡ count test vs
+  counted-rows [] = refl
+  counted-rows (v ∷ vs) = let same = o.same v in grind (arith, same, counted-rows vs)
+
+  counted-tables : (ts : List ViewTable) → every (is_fair_space m c) ts ≡ true → count test (each (λ (t : ViewTable). t.rows) (shown (our_space m) (seen_space m) ts)) ≡ count test (each (λ (t : ViewTable). t.rows) ts)
+  counted-tables [] all = refl
+  counted-tables (t ∷ ts) all = at (m t.process) refl (counted-tables ts (second-true (is_fair_space m c t) _ all))
+    where
+      rest : List ViewRow
+      rest = each (λ (t : ViewTable). t.rows) ts
+
+      kept : List ViewRow
+      kept = each (λ (t : ViewTable). t.rows) (shown (our_space m) (seen_space m) ts)
+
+      at : (e : Bool) → m t.process ≡ e → count test kept ≡ count test rest → count test (each (λ (t : ViewTable). t.rows) (map (seen_space m) (cond e (t ∷ which (our_space m) ts) (which (our_space m) ts)))) ≡ count test (t.rows ++ rest)
+      at true is same =
+          count-append test (map (seen_view m) t.rows) kept
+          ∙ ap (λ n. n + count test kept) (counted-rows t.rows)
+          ∙ ap (λ n. count test t.rows + n) same
+          ∙ sym (count-append test t.rows rest)
+      at false out same =
+          let none : count test t.rows ≡ 0 = count-none test t.rows (none-of (is_fair_view m c t.process) test (λ v fair. o.none t.process v out fair) t.rows (first-true _ _ all)) in
+          same ∙ sym (none-before test t.rows rest none)
+
+  counted-view : (w : World) → Fair m c w → count test (all_views (view m w)) ≡ count test (all_views w)
+  counted-view w f = counted-tables w.views f.views
+
+-- and a member's port owns such views alone
+none-owns : (m : Group) (c : ℕ) (b : Birth) (pid : ℕ) (v : ViewRow) → m b.process ≡ true → m pid ≡ false → is_fair_view m c pid v ≡ true → is_owned_by b v ≡ false
+none-owns m c b pid v inside out fair = at v.owner refl
+  where
+    at : (o : Option Birth) → v.owner ≡ o → is_the b o ≡ false
+    at None none = refl
+    at (Some d) some = false_from_ne_true (same_birth b d) (λ is.
+        let home : (d.process == pid) ≡ true = rw some at (second-true (not (v.section.process == c) || m pid) _ (second-true (not (pid == c) || m v.section.process) _ fair)) in
+        let same : m b.process ≡ m pid = of_birth m b d is ∙ ap m (eqb-true d.process pid home) in cc)
+
+owns-view : (m : Group) (c : ℕ) (w : World) (b : Birth) → m b.process ≡ true → Fair m c w → count (is_owned_by b) (all_views (view m w)) ≡ count (is_owned_by b) (all_views w)
+owns-view m c w b inside f = counted-view m c (is_owned_by b) (record { same = owner-same m b; none = λ pid v out fair. none-owns m c b pid v inside out fair }) w f
+
+has-counted : {X : Type 0} (p : X → Bool) (xs : List X) → has p xs ≡ not (count p xs == 0)
+has-counted p [] = refl
+has-counted p (x ∷ xs) = grind (arith, nat_tests, has-counted p xs)
+
+has-owned : (m : Group) (c : ℕ) (w : World) (b : Birth) → m b.process ≡ true → Fair m c w → has (is_owned_by b) (all_views (view m w)) ≡ has (is_owned_by b) (all_views w)
+has-owned m c w b inside f = has-counted (is_owned_by b) (all_views (view m w)) ∙ ap (λ n. not (n == 0)) (owns-view m c w b inside f) ∙ sym (has-counted (is_owned_by b) (all_views w))
+
 standing-seen : (m : Group) (c : ℕ) (w : World) (b : Birth) (p : PortRow) → m c ≡ true → b.process ≡ c → Fair m c w → (is_fair_port m c p && is_fine_port m c p) ≡ true → is_standing (view m w) b (seen_port m p) ≡ is_standing w b p
 standing-seen m c w b p c_in mine f ok = at (is_connected_to b p) refl
   where
@@ -188,7 +244,7 @@ standing-seen m c w b p c_in mine f ok = at (is_connected_to b p) refl
         let n : Near m c b p = near m c b p c_in mine (first-true _ _ ok) (second-true (is_fair_port m c p) _ ok) here in
         let same : seen_port m p ≡ p = rw n.pair refl in
         ap (is_standing (view m w) b) same
-        ∙ rw (handle_count-view m c w (port_name p.birth) f.tables n.inside, sent-seen m c w b p c_in mine f n, made-seen m c w b p c_in mine (to-of here) f n, has-seen (same_birth p.birth) (all_registrations (view m w)) (all_registrations w) (registered-seen m p.birth w.threads n.inside f.registrations)) refl
+        ∙ rw (handle_count-view m c w (port_name p.birth) f.tables n.inside, sent-seen m c w b p c_in mine f n, made-seen m c w b p c_in mine (to-of here) f n, has-seen (same_birth p.birth) (all_registrations (view m w)) (all_registrations w) (registered-seen m p.birth w.threads n.inside f.registrations), has-owned m c w p.birth n.inside f) refl
 
 -- what counts for c's port
 fair-pair-in : (m : Group) (c : ℕ) (b : Birth) (p : PortRow) → m c ≡ true → b.process ≡ c → is_fair_port m c p ≡ true → is_paired_to b p ≡ true → m p.birth.process ≡ true
@@ -216,7 +272,8 @@ ports-view m c w b c_in mine f fine =
     let messages : count (is_sent_on b) (view m w).messages ≡ count (is_sent_on b) w.messages = ap length (which-where (is_fair_message m c) (our_message m) (is_sent_on b) (λ x fair is. sent-in m c b x c_in mine fair is) w.messages f.messages) in
     let waits : count (is_made_on b) (view m w).waits ≡ count (is_made_on b) w.waits = ap length (which-where (is_fair_wait m c) (our_wait m) (is_made_on b) (λ x fair is. c-wait m c x c_in fair (ap (λ n. n == c) (sym (eqb-true _ _ (first-true _ _ fair)) ∙ ap (λ (b : Birth). b.process) (birth-same x.port b is) ∙ mine) ∙ same-number c)) w.waits f.waits) in
     let registered : count (same_birth b) (all_registrations (view m w)) ≡ count (same_birth b) (all_registrations w) = ap length (registered-seen m b w.threads (ap m mine ∙ c_in) f.registrations) in
-    rw (pairs, standing, messages, waits, registered) refl
+    let owned : count (is_owned_by b) (all_views (view m w)) ≡ count (is_owned_by b) (all_views w) = owns-view m c w b (ap m mine ∙ c_in) f in
+    rw (pairs, standing, messages, waits, registered, owned) refl
 
 -- a member's process is counted for by its threads, and a member's thread by itself
 which-alike : {X : Type 0} (f g : X → Bool) → ((x : X) → f x ≡ g x) → (xs : List X) → which f xs ≡ which g xs
@@ -260,11 +317,6 @@ shows-seen m b v inside = at (m v.section.process) refl
     at true is = refl
     at false out = other (hidden_section v.section) out ∙ sym (other v.section out)
 
-shows-rows : (m : Group) (b : Birth) → m b.process ≡ true → (vs : List ViewRow) → count (shows_section b) (map (seen_view m) vs) ≡ count (shows_section b) vs
-shows-rows m b inside [] = refl
-shows-rows m b inside (v ∷ vs) = grind (arith, shows-seen m b v, shows-rows m b inside vs)
-
--- none of an outsider's is
 none-shows : (m : Group) (c : ℕ) (b : Birth) (pid : ℕ) (v : ViewRow) → m pid ≡ false → b.process ≡ c → is_fair_view m c pid v ≡ true → shows_section b v ≡ false
 none-shows m c b pid v out mine fair = false_from_ne_true (shows_section b v) (λ is.
     let own : (v.section.process == c) ≡ true = ap (λ (b : Birth). b.process == c) (birth-same v.section b is) ∙ ap (λ n. n == c) mine ∙ same-number c in
@@ -273,33 +325,25 @@ none-shows m c b pid v out mine fair = false_from_ne_true (shows_section b v) (�
     member : (e : Bool) → e ≡ true → (not e || m pid) ≡ true → m pid ≡ true
     member e is fair = grind arith
 
-shows-tables : (m : Group) (c : ℕ) (b : Birth) → m b.process ≡ true → b.process ≡ c → (ts : List ViewTable) → every (is_fair_space m c) ts ≡ true → count (shows_section b) (each (λ (t : ViewTable). t.rows) (shown (our_space m) (seen_space m) ts)) ≡ count (shows_section b) (each (λ (t : ViewTable). t.rows) ts)
-shows-tables m c b inside mine [] all = refl
-shows-tables m c b inside mine (t ∷ ts) all = at (m t.process) refl (shows-tables m c b inside mine ts (second-true (is_fair_space m c t) _ all))
-  where
-    rest : List ViewRow
-    rest = each (λ (t : ViewTable). t.rows) ts
-
-    kept : List ViewRow
-    kept = each (λ (t : ViewTable). t.rows) (shown (our_space m) (seen_space m) ts)
-
-    at : (e : Bool) → m t.process ≡ e → count (shows_section b) kept ≡ count (shows_section b) rest
-        → count (shows_section b) (each (λ (t : ViewTable). t.rows) (map (seen_space m) (cond e (t ∷ which (our_space m) ts) (which (our_space m) ts)))) ≡ count (shows_section b) (t.rows ++ rest)
-    at true is same =
-        count-append (shows_section b) (map (seen_view m) t.rows) kept
-        ∙ ap (λ n. n + count (shows_section b) kept) (shows-rows m b inside t.rows)
-        ∙ ap (λ n. count (shows_section b) t.rows + n) same
-        ∙ sym (count-append (shows_section b) t.rows rest)
-    at false out same =
-        let none : count (shows_section b) t.rows ≡ 0 = count-none (shows_section b) t.rows (none-of (is_fair_view m c t.process) (shows_section b) (λ v fair. none-shows m c b t.process v out mine fair) t.rows (first-true _ _ all)) in
-        same ∙ sym (none-before (shows_section b) t.rows rest none)
-
 shows_view : (m : Group) (c : ℕ) (w : World) (b : Birth) → m b.process ≡ true → b.process ≡ c → Fair m c w → count (shows_section b) (all_views (view m w)) ≡ count (shows_section b) (all_views w)
-shows_view m c w b inside mine f = shows-tables m c b inside mine w.views f.views
+shows_view m c w b inside mine f = counted-view m c (shows_section b) (record { same = λ v. shows-seen m b v inside; none = λ pid v out fair. none-shows m c b pid v out mine fair }) w f
+
+-- and offered by connects of c's own
+offers-own : (m : Group) (c : ℕ) (b : Birth) (x : WaitRow) (o : Option Offer) → offer_of x ≡ o → b.process ≡ c → is_fair_offer x ≡ true → offers_section b x ≡ true → (x.process == c) ≡ true
+offers-own m c b x None its mine fair is = let never : false ≡ true = rw its at is in absurd (cc)
+offers-own m c b x (Some o) its mine fair is =
+    let same : o.section ≡ b = birth-same o.section b (rw its at is) in
+    let own : o.section.process ≡ x.process = eqb-true _ _ (rw its at fair) in
+    ap (λ n. n == c) (sym own ∙ ap (λ (d : Birth). d.process) same ∙ mine) ∙ same-number c
+
+offers_view : (m : Group) (c : ℕ) (w : World) (b : Birth) → m c ≡ true → b.process ≡ c → Fair m c w → count (offers_section b) (view m w).waits ≡ count (offers_section b) w.waits
+offers_view m c w b c_in mine f =
+    ap length (which-where (λ x. is_fair_wait m c x && is_fair_offer x) (our_wait m) (offers_section b) (λ x fair is. c-wait m c x c_in (first-true _ _ fair) (offers-own m c b x (offer_of x) refl mine (second-true (is_fair_wait m c x) _ fair) is)) w.waits
+    (every-both (is_fair_wait m c) is_fair_offer (λ x. is_fair_wait m c x && is_fair_offer x) (λ x one two. and_from _ _ one two) w.waits f.waits f.offers))
 
 as-view : (m : Group) (c : ℕ) (w : World) (k : ObjectKind) (b : Birth) → m c ≡ true → b.process ≡ c → Fair m c w → HasFineRows m c w → standing_as (view m w) k b ≡ standing_as w k b
 as-view m c w kind.Port b c_in mine f fine = ports-view m c w b c_in mine f fine
-as-view m c w kind.Section b c_in mine f fine = shows_view m c w b (ap m mine ∙ c_in) mine f
+as-view m c w kind.Section b c_in mine f fine = rw (shows_view m c w b (ap m mine ∙ c_in) mine f, offers_view m c w b c_in mine f) refl
 as-view m c w kind.Token b c_in mine f fine = refl
 as-view m c w kind.Process b c_in mine f fine = lives_view m c w b (ap m mine ∙ c_in) f
 as-view m c w kind.Thread b c_in mine f fine = life_view m c w b (ap m mine ∙ c_in) f
@@ -338,6 +382,13 @@ standing-live k u b p c cut is = at (k.ports p.birth) refl
     off-told : (d : Birth) → k.ports p.birth ≡ false → k.ports d ≡ true → same_birth p.birth d ≡ false
     off-told d dead live = false_from_ne_true (same_birth p.birth d) (λ here. let same : k.ports p.birth ≡ k.ports d = ap k.ports (birth-same p.birth d here) in cc)
 
+    off-owned : (v : ViewRow) → k.ports p.birth ≡ false → view_closed k v ≡ true → is_owned_by p.birth v ≡ false
+    off-owned v dead closed = by v.owner refl
+      where
+        by : (o : Option Birth) → v.owner ≡ o → is_the p.birth o ≡ false
+        by None none = refl
+        by (Some d) some = off-told d dead (rw some at (second-true (k.sections v.section) _ closed))
+
     at : (e : Bool) → k.ports p.birth ≡ e → e ≡ true
     at true live = refl
     at false dead =
@@ -345,8 +396,9 @@ standing-live k u b p c cut is = at (k.ports p.birth) refl
         let sent : has (is_sent_to b p) u.messages ≡ false = none-of (message_closed k) (is_sent_to b p) (λ x closed. off-sent x dead closed) u.messages c.messages in
         let made : has (is_made_to p) u.waits ≡ false = none-of (wait_closed k) (is_made_to p) (λ x closed. off-made x dead closed) u.waits c.waits in
         let told : has (same_birth p.birth) (all_registrations u) ≡ false = none-of k.ports (same_birth p.birth) (λ d live. off-told d dead live) (all_registrations u) c.registrations in
+        let owned : has (is_owned_by p.birth) (all_views u) ≡ false = none-of (view_closed k) (is_owned_by p.birth) (λ v closed. off-owned v dead closed) (all_views u) (every-each (view_closed k) (λ (t : ViewTable). t.rows) u.views ∙ c.views) in
         let gone : is_cut p ≡ true = or-second (k.ports p.birth) (is_cut p) dead cut in
-        let never : (is_connected_to b p && (false || not true)) ≡ true = rw (handles, sent, made, told, gone) at is in
+        let never : (is_connected_to b p && (false || not true)) ≡ true = rw (handles, sent, made, told, owned, gone) at is in
         absurd (never-is (is_connected_to b p) never)
       where
         never-is : (a : Bool) → (a && false) ≡ true → ⊥
@@ -362,13 +414,13 @@ paired-live k b p cut is = at p.pair refl is
 
 ports-thin : (k : Alive) (u : World) (b : Birth) → Closed k u → standing_holders (thin k u) b ≡ standing_holders u b
 ports-thin k u b c =
-    let aside : List PortRow → ℕ = λ ports. count (is_standing u b) ports + (count (is_sent_on b) u.messages + (count (is_made_on b) u.waits + count (same_birth b) (all_registrations u))) in
+    let aside : List PortRow → ℕ = λ ports. count (is_standing u b) ports + (count (is_sent_on b) u.messages + (count (is_made_on b) u.waits + (count (same_birth b) (all_registrations u) + count (is_owned_by b) (all_views u)))) in
     let pairs : count (is_paired_to b) (which (port_alive k) u.ports) ≡ count (is_paired_to b) u.ports = ap length (which-where (port_cut k) (port_alive k) (is_paired_to b) (λ p cut is. paired-live k b p cut is) u.ports c.cuts) in
     let standing : count (is_standing u b) (which (port_alive k) u.ports) ≡ count (is_standing u b) u.ports = ap length (which-where (port_cut k) (port_alive k) (is_standing u b) (λ p cut is. standing-live k u b p c cut is) u.ports c.cuts) in
-    let counted : List Birth → ℕ = λ bs. count (is_paired_to b) (which (port_alive k) u.ports) + (count (λ p. is_connected_to b p && ((not (handle_count u (port_name p.birth) == 0) || (has (is_sent_to b p) u.messages || (has (is_made_to p) u.waits || has (same_birth p.birth) bs))) || not (is_cut p))) (which (port_alive k) u.ports) + (count (is_sent_on b) u.messages + (count (is_made_on b) u.waits + count (same_birth b) bs))) in
+    let counted : List Birth → ℕ = λ bs. count (is_paired_to b) (which (port_alive k) u.ports) + (count (λ p. is_connected_to b p && ((not (handle_count u (port_name p.birth) == 0) || (has (is_sent_to b p) u.messages || (has (is_made_to p) u.waits || (has (same_birth p.birth) bs || has (is_owned_by p.birth) (all_views u))))) || not (is_cut p))) (which (port_alive k) u.ports) + (count (is_sent_on b) u.messages + (count (is_made_on b) u.waits + (count (same_birth b) bs + count (is_owned_by b) (all_views u))))) in
     ap counted (registered-thin k u c)
     ∙ ap (λ n. n + aside (which (port_alive k) u.ports)) pairs
-    ∙ ap (λ n. count (is_paired_to b) u.ports + (n + (count (is_sent_on b) u.messages + (count (is_made_on b) u.waits + count (same_birth b) (all_registrations u))))) standing
+    ∙ ap (λ n. count (is_paired_to b) u.ports + (n + (count (is_sent_on b) u.messages + (count (is_made_on b) u.waits + (count (same_birth b) (all_registrations u) + count (is_owned_by b) (all_views u)))))) standing
 
 lives-thin : (k : Alive) (u : World) (b : Birth) → k.processes b ≡ true → Closed k u → count (lives_by (thin k u) b) (thin k u).threads ≡ count (lives_by u b) u.threads
 lives-thin k u b live c =

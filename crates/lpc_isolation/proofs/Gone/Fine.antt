@@ -1,11 +1,12 @@
 -- The ports that go are as fine as those that stay.
-use Rattle.std.proofs.Common.{◌≡◌, ℕ, List, [], ◌∷◌, ◌++◌, Bool, true, false, map, refl, ◌∙◌, arith}
-use Rattle.lpc_base.specs.Rows.{every, which}
+use Rattle.lpc_model.proofs.Steps.InTurn.{after-append}
+use Rattle.std.proofs.Common.{◌≡◌, ℕ, List, [], ◌∷◌, ◌++◌, Bool, true, false, map, refl, ◌∙◌, arith, subst}
+use Rattle.lpc_base.specs.Rows.{every, which, change}
 use Rattle.lpc_base.proofs.RowWords.{every-change, every-push}
 use Rattle.lpc_base.proofs.Bools.{first-true, second-true}
-use Rattle.lpc_model.specs.World.{Birth, PortRow, World}
+use Rattle.lpc_model.specs.World.{Birth, PortRow, World, Security}
 use Rattle.lpc_model.specs.Found.{is_port}
-use Rattle.lpc_model.specs.Basics.{AddsProcess, Basic, Completes, Cuts, Frees, Joins, Makes, basic, completed, cut, is_end_of, joined, world_after}
+use Rattle.lpc_model.specs.Basics.{AddsProcess, Basic, Completes, Cuts, Frees, Joins, Makes, basic, completed, cut, is_end_of, joined, world_after, Secures, secured}
 use Rattle.lpc_model.specs.Circle.{Group, is_fine_port, is_fine_process}
 use Rattle.lpc_isolation.proofs.Views.Alone.{HasFineRows}
 use Rattle.lpc_isolation.proofs.Gone.Thin.{Behind}
@@ -32,10 +33,22 @@ basic-fine : (m : Group) (c : ℕ) (u : World) (b : Basic) → makes_fine m c b 
 basic-fine m c u (Makes p) ok f = (f.0, every-push (is_fine_port m c) u.ports p f.1 ok)
 basic-fine m c u (Joins client server context) ok f = (f.0, every-same (is_fine_port m c) (joined client server context) (joined-fine m c client server context) u.ports ∙ f.1)
 basic-fine m c u (Completes b) ok f = (f.0, every-change (is_fine_port m c) (is_port b) completed (λ p is. is) u.ports f.1)
+basic-fine m c u (Secures b s) ok f = (f.0, every-change (is_fine_port m c) (is_port b) (secured s) (λ p is. is) u.ports f.1)
 basic-fine m c u (Frees o) ok f = absurd (cc)
 basic-fine m c u (Cuts b) ok f = (f.0, every-change (is_fine_port m c) (is_end_of b) cut (λ p is. is) u.ports f.1)
 basic-fine m c u (AddsProcess p) ok f = (every-push (is_fine_process m) u.processes p f.0 ok, f.1)
 basic-fine m c u b ok f = f
+
+-- what a change does not touch holds of the rows where it holds of the changed ones
+pub unchanged : {X : Type 0} (p q : X → Bool) (f : X → X) → ((x : X) → p (f x) ≡ p x) → (xs : List X) → every p (change q f xs) ≡ true → every p xs ≡ true
+unchanged p q f same [] all = refl
+unchanged p q f same (x ∷ xs) all = grind (arith, same x, unchanged p q f same xs)
+
+-- a port is as fine whoever may open it
+pub unsecured : (m : Group) (c : ℕ) (u : World) (bs : List Basic) (b : Birth) (s : Security) → HasFineRows m c (world_after u (bs ++ Secures b s ∷ [])) → HasFineRows m c (world_after u bs)
+unsecured m c u bs b s f =
+    let g : HasFineRows m c (basic (world_after u bs) (Secures b s)) = subst (HasFineRows m c) (after-append u bs (Secures b s ∷ [])) f in
+    (g.0, unchanged (is_fine_port m c) (is_port b) (secured s) (λ p. refl) (world_after u bs).ports g.1)
 
 pub run-fine : (m : Group) (c : ℕ) (u : World) (bs : List Basic) → every (makes_fine m c) bs ≡ true → HasFineRows m c u → HasFineRows m c (world_after u bs)
 run-fine m c u [] ok f = f

@@ -1,6 +1,6 @@
 -- What a line may make is alive with what stands: it has births that no row has.
 use Rattle.std.proofs.Common.{◌≡◌, ℕ, List, [], ◌∷◌, Bool, true, false, not, Option, Some, None, refl, ap, sym, subst, arith}
-use Rattle.std.specs.Prelude.{◌&&◌, ◌||◌, ◌==◌, Ok}
+use Rattle.std.specs.Prelude.{◌&&◌, ◌||◌, ◌==◌, Ok, Err, Result}
 use Rattle.std.proofs.lemmas.Bool.{and_from, eqb-true, or_left, or_right}
 use Rattle.lpc_base.specs.Rows.{every, which}
 use Rattle.lpc_base.proofs.RowWords.{every-more, every-true}
@@ -10,28 +10,31 @@ use Rattle.lpc_base.proofs.Births.{birth-self}
 use Rattle.lpc_model.specs.declared.entry.ObjectKind.{ObjectKind}
 use Rattle.lpc_model.specs.declared.entry.ObjectKind.TheVariants as kind
 use Rattle.lpc_model.specs.declared.entry.Word.TheVariants as word
-use Rattle.lpc_model.specs.World.{Birth, Contents, Known, PortRow, ProcessRow, SectionRow, ThreadRow, Unknown, World}
-use Rattle.lpc_model.specs.Found.{all_registrations, is_live, live_thread, same_birth, was_process, was_thread}
+use Rattle.lpc_model.specs.World.{Birth, Contents, Known, PortRow, ProcessRow, SectionRow, ThreadRow, Unknown, World, Offer, Token, TokenRow}
+use Rattle.lpc_model.specs.Found.{all_registrations, is_live, live_thread, same_birth, was_process, was_thread, offer_of}
 use Rattle.lpc_model.specs.Basics.{Basic, in_known}
 use Rattle.lpc_model.specs.Lines.{ScriptCall, boot, create_process, thread}
-use Rattle.lpc_model.specs.Machine.{bare_steps, boot_line, directive_birth, thread_line, thread_test}
-use Rattle.lpc_model.specs.Creation.{second_birth}
+use Rattle.lpc_model.specs.Machine.{bare_steps, boot_line, directive_birth, thread_line, thread_test, boot_steps, boot_token, directed}
+use Rattle.lpc_model.specs.Creation.{second_birth, unused_test}
 use Rattle.lpc_model.specs.Tests.{next_birth}
 use Rattle.lpc_model.specs.SoundWaits.{IsSoundWorld}
 use Rattle.lpc_model.proofs.Calls.Creating.{tested-further}
 use Rattle.lpc_model.proofs.Calls.Holding.{bind_holds, directed_holds, holds_ok}
 use Rattle.lpc_isolation.proofs.Gone.Served.{served_steps}
 use Rattle.lpc_isolation.proofs.Gone.Fresh.{next-new}
-use Rattle.lpc_isolation.proofs.Gone.Thin.{Alive, Closed, alive_as, all_alive, handle_closed, message_closed, content_alive, port_alive, port_closed, port_cut, process_alive, process_closed, section_alive, table_closed, thin, thread_alive, thread_closed, space_closed, view_closed, wait_closed}
+use Rattle.lpc_isolation.proofs.Gone.Thin.{Alive, Closed, alive_as, all_alive, handle_closed, message_closed, content_alive, port_alive, port_closed, port_cut, process_alive, process_closed, section_alive, table_closed, thin, thread_alive, thread_closed, space_closed, view_closed, wait_closed, offer_alive, token_alive}
 use Rattle.lpc_isolation.proofs.Gone.ThinCalls.{AreClosed}
 use Rattle.lpc_isolation.proofs.Calls.Laws.{Room, home-live, is_home}
-use Rattle.lpc_isolation.proofs.Gone.Born.{Born, content_rows, directed-processes, directed-threads, next-contents, next-process, next-sections, next-threads}
+use Rattle.lpc_isolation.proofs.Gone.Born.{Born, content_rows, directed-processes, directed-threads, next-contents, next-process, next-sections, next-threads, next-tokens}
+use Rattle.lpc_model.specs.Then.{◌>>=◌}
+use Rattle.lpc_base.specs.declared.status.Status.{Status}
 
 -- what stands, and more
 abbrev pub either : Alive → Alive → Alive
 either n k = record {
   ports = λ b. k.ports b || n.ports b;
   sections = λ b. k.sections b || n.sections b;
+  tokens = λ b. k.tokens b || n.tokens b;
   processes = λ b. k.processes b || n.processes b;
   threads = λ b. k.threads b || n.threads b;
   homes = λ i. k.homes i || n.homes i;
@@ -42,13 +45,14 @@ pub record IsNew (n : Alive) (u : World) : Type 0 where
   pub ports : every (λ p. not (n.ports p.birth)) u.ports ≡ true
   pub sections : every (λ s. not (n.sections s.birth)) u.sections ≡ true
   pub contents : every (λ c. not (n.sections c.section)) (content_rows u.contents) ≡ true
+  pub tokens : every (λ t. not (n.tokens t.birth)) u.tokens ≡ true
   pub processes : every (λ p. not (n.processes p.birth) && not (n.homes p.number)) u.processes ≡ true
   pub threads : every (λ t. not (n.threads t.birth)) u.threads ≡ true
 
 as-more : (n k : Alive) (s : ObjectKind) (b : Birth) → alive_as k s b ≡ true → alive_as (either n k) s b ≡ true
 as-more n k kind.Port b is = or_left (k.ports b) (n.ports b) is
 as-more n k kind.Section b is = or_left (k.sections b) (n.sections b) is
-as-more n k kind.Token b is = is
+as-more n k kind.Token b is = or_left (k.tokens b) (n.tokens b) is
 as-more n k kind.Process b is = or_left (k.processes b) (n.processes b) is
 as-more n k kind.Thread b is = or_left (k.threads b) (n.threads b) is
 
@@ -81,17 +85,21 @@ process-more n k p is new = more (k.homes p.number) (n.homes p.number) (k.proces
     more : (h i a b : Bool) → (not h || a) ≡ true → (not b && not i) ≡ true → (not (h || i) || (a || b)) ≡ true
     more h i a b is new = grind arith
 
+offer-more : (n k : Alive) (o : Option Offer) → offer_alive k o ≡ true → offer_alive (either n k) o ≡ true
+offer-more n k None is = refl
+offer-more n k (Some o) is = or_left (k.sections o.section) (n.sections o.section) is
+
 pub either-closed : (n k : Alive) (u : World) → IsNew n u → Closed k u → Closed (either n k) u
 either-closed n k u new c = record {
   tables = every-more (table_closed k) (table_closed (either n k)) (λ t is. every-more (handle_closed k) (handle_closed (either n k)) (λ h live. as-more n k h.object.kind h.object.birth live) t.rows is) u.handles c.tables;
   ports = every-both (port_closed k) (λ p. not (n.ports p.birth)) (port_closed (either n k)) (port-more n k) u.ports c.ports new.ports;
   messages = every-more (message_closed k) (message_closed (either n k)) (λ x is. or_left (k.ports x.sender) (n.ports x.sender) is) u.messages c.messages;
-  waits = every-more (wait_closed k) (wait_closed (either n k)) (λ x is. or_left (k.ports x.port) (n.ports x.port) is) u.waits c.waits;
+  waits = every-more (wait_closed k) (wait_closed (either n k)) (λ x is. and_from _ _ (or_left (k.ports x.port) (n.ports x.port) (first-true _ _ is)) (offer-more n k (offer_of x) (second-true (k.ports x.port) _ is))) u.waits c.waits;
   registrations = every-more k.ports (either n k).ports (λ b is. or_left (k.ports b) (n.ports b) is) (all_registrations u) c.registrations;
   cuts = every-more (port_cut k) (port_cut (either n k)) (λ p is. grind arith) u.ports c.cuts;
   threads = every-more (thread_closed k) (thread_closed (either n k)) (thread-more n k) u.threads c.threads;
   processes = every-both (process_closed k) (λ p. not (n.processes p.birth) && not (n.homes p.number)) (process_closed (either n k)) (process-more n k) u.processes c.processes new.processes;
-  views = every-more (space_closed k) (space_closed (either n k)) (λ t is. every-more (view_closed k) (view_closed (either n k)) (λ v live. or_left (k.sections v.section) (n.sections v.section) live) t.rows is) u.views c.views;
+  views = every-more (space_closed k) (space_closed (either n k)) (λ t is. every-more (view_closed k) (view_closed (either n k)) (λ v live. and_from _ _ (or_left (k.sections v.section) (n.sections v.section) (first-true _ _ live)) (all-more n k v.owner (second-true (k.sections v.section) _ live))) t.rows is) u.views c.views;
 }
 
 which-either : {X : Type 0} (k n : X → Bool) (xs : List X) → every (λ x. not (n x)) xs ≡ true → which (λ x. k x || n x) xs ≡ which k xs
@@ -102,25 +110,27 @@ bytes-either : (n k : Alive) (c : Contents) → every (λ r. not (n.sections r.s
 bytes-either n k Unknown new = refl
 bytes-either n k (Known rows) new = ap (λ rows. Known rows) (which-either (content_alive k) (content_alive n) rows new)
 
-same-rows : (u : World) (ps qs : List ProcessRow) (ts ss : List ThreadRow) (os rs : List PortRow) (xs ys : List SectionRow) (i j : Contents) → ps ≡ qs → ts ≡ ss → os ≡ rs → xs ≡ ys → i ≡ j
-    → let v : World = record u { processes = ps; threads = ts; ports = os; sections = xs; contents = i } in let w : World = record u { processes = qs; threads = ss; ports = rs; sections = ys; contents = j } in v ≡ w
-same-rows u ps qs ts ss os rs xs ys i j a b c d e = rw (a, b, c, d, e) refl
+same-rows : (u : World) (ps qs : List ProcessRow) (ts ss : List ThreadRow) (os rs : List PortRow) (xs ys : List SectionRow) (i j : Contents) (ms ns : List TokenRow) → ps ≡ qs → ts ≡ ss → os ≡ rs → xs ≡ ys → i ≡ j → ms ≡ ns
+    → let v : World = record u { processes = ps; threads = ts; ports = os; sections = xs; contents = i; tokens = ms } in let w : World = record u { processes = qs; threads = ss; ports = rs; sections = ys; contents = j; tokens = ns } in v ≡ w
+same-rows u ps qs ts ss os rs xs ys i j ms ns a b c d e g = rw (a, b, c, d, e, g) refl
 
 pub either-thin : (n k : Alive) (u : World) → IsNew n u → thin (either n k) u ≡ thin k u
 either-thin n k u new =
     same-rows u (which (process_alive (either n k)) u.processes) (which (process_alive k) u.processes) (which (thread_alive (either n k)) u.threads) (which (thread_alive k) u.threads) (which (port_alive (either n k)) u.ports) (which (port_alive k) u.ports)
-    (which (section_alive (either n k)) u.sections) (which (section_alive k) u.sections) (in_known (which (content_alive (either n k))) u.contents) (in_known (which (content_alive k)) u.contents)
+    (which (section_alive (either n k)) u.sections) (which (section_alive k) u.sections) (in_known (which (content_alive (either n k))) u.contents) (in_known (which (content_alive k)) u.contents) (which (token_alive (either n k)) u.tokens) (which (token_alive k) u.tokens)
     (which-either (process_alive k) (process_alive n) u.processes (every-more (λ p. not (n.processes p.birth) && not (n.homes p.number)) (λ p. not (n.processes p.birth)) (λ p is. first-true _ _ is) u.processes new.processes))
     (which-either (thread_alive k) (thread_alive n) u.threads new.threads)
     (which-either (port_alive k) (port_alive n) u.ports new.ports)
     (which-either (section_alive k) (section_alive n) u.sections new.sections)
     (bytes-either n k u.contents new.contents)
+    (which-either (token_alive k) (token_alive n) u.tokens new.tokens)
 
 -- What a call may make
 abbrev pub next_births : World → ThreadRow → ScriptCall → Alive
 next_births u by call = record {
   ports = λ b. same_birth b (next_birth by);
   sections = λ b. same_birth b (next_birth by);
+  tokens = λ b. same_birth b (next_birth by);
   processes = λ b. same_birth b (next_birth by);
   threads = λ b. same_birth b (next_birth by) || same_birth b (second_birth by);
   homes = is_home u call;
@@ -141,6 +151,7 @@ next-births u by call live s o = record {
   threads = next-threads u by live o;
   sections = next-sections u by live o;
   contents = next-contents u by live o;
+  tokens = next-tokens u by live o;
 }
 
 pub room-of : (k : Alive) (u : World) (by : ThreadRow) (call : ScriptCall) → Room (either (next_births u by call) k) u by call
@@ -150,6 +161,7 @@ room-of k u by call =
     record {
       port = or_right (k.ports n) (same_birth n n) (birth-self n);
       section = or_right (k.sections n) (same_birth n n) (birth-self n);
+      token = or_right (k.tokens n) (same_birth n n) (birth-self n);
       process = or_right (k.processes n) (same_birth n n) (birth-self n);
       thread = or_right (k.threads n) (same_birth n n || same_birth n m) (or_left (same_birth n n) (same_birth n m) (birth-self n));
       second = or_right (k.threads m) (same_birth m n || same_birth m m) (or_right (same_birth m n) (same_birth m m) (birth-self m));
@@ -161,6 +173,7 @@ abbrev boot_births : ℕ → ℕ → Alive
 boot_births pid tid = record {
   ports = λ b. false;
   sections = λ b. false;
+  tokens = λ b. false;
   processes = λ b. same_birth b (directive_birth pid pid);
   threads = λ b. same_birth b (directive_birth tid pid);
   homes = λ n. n == pid;
@@ -170,6 +183,7 @@ abbrev thread_births : ℕ → ℕ → Alive
 thread_births tid pid = record {
   ports = λ b. false;
   sections = λ b. false;
+  tokens = λ b. false;
   processes = λ b. false;
   threads = λ b. same_birth b (directive_birth tid pid);
   homes = λ n. false;
@@ -191,18 +205,22 @@ boot-names p t h one two three = grind arith
 thread-names : (t h : Bool) → t ≡ true → h ≡ true → ((t && ((t && h) && true)) && true) ≡ true
 thread-names t h one two = grind arith
 
-pub boot-grows : (k : Alive) (u : World) (pid tid : ℕ) → Born u → Closed k u → Grows k u (served_steps (boot pid tid) u)
+pub boot-grows : (k : Alive) (u : World) (pid tid : ℕ) (name : Option (List ℕ)) → Born u → Closed k u → Grows k u (served_steps (boot pid tid name) u)
 unfolding bare_steps boot_line
-boot-grows k u pid tid o c = at (was_process u pid) (was_thread u tid) refl refl
+boot-grows k u pid tid name o c = by-token (boot_token u name)
   where
-    at : (e f : Bool) → was_process u pid ≡ e → was_thread u tid ≡ f → Grows k u (served_steps (boot pid tid) u)
-    at true f was used = record { alive = k; same = refl; closed = c; names = rw was refl }
-    at false true was used = record { alive = k; same = refl; closed = c; names = rw (was, used) refl }
-    at false false was used =
+    at : (content : Token) (e f : Bool) → was_process u pid ≡ e → was_thread u tid ≡ f → Grows k u (directed word.Boot (unused_test u pid tid >>= (λ (v : Unit {0}). Ok (boot_steps pid tid content))))
+    at content true f was used = record { alive = k; same = refl; closed = c; names = rw was refl }
+    at content false true was used = record { alive = k; same = refl; closed = c; names = rw (was, used) refl }
+    at content false false was used =
         let p : Birth = directive_birth pid pid in
         let t : Birth = directive_birth tid pid in
-        grown (boot_births pid tid) k u _ (record { ports = every-true u.ports; sections = every-true u.sections; contents = every-true (content_rows u.contents); processes = directed-processes u pid was o; threads = directed-threads u tid pid used o }) c
+        grown (boot_births pid tid) k u _ (record { ports = every-true u.ports; sections = every-true u.sections; contents = every-true (content_rows u.contents); tokens = every-true u.tokens; processes = directed-processes u pid was o; threads = directed-threads u tid pid used o }) c
         (rw (was, used) (boot-names (k.processes p || same_birth p p) (k.threads t || same_birth t t) (k.homes pid || (pid == pid)) (or_right (k.processes p) (same_birth p p) (birth-self p)) (or_right (k.threads t) (same_birth t t) (birth-self t)) (or_right (k.homes pid) (pid == pid) (same-number pid))))
+
+    by-token : (r : Result Token Status) → Grows k u (directed word.Boot (r >>= (λ (content : Token). unused_test u pid tid >>= (λ (v : Unit {0}). Ok (boot_steps pid tid content)))))
+    by-token (Err s) = record { alive = k; same = refl; closed = c; names = refl }
+    by-token (Ok content) = at content (was_process u pid) (was_thread u tid) refl refl
 
 pub thread-grows : (k : Alive) (u : World) (tid pid : ℕ) → Born u → Closed k u → Grows k u (served_steps (thread tid pid) u)
 unfolding bare_steps thread_line
@@ -216,6 +234,6 @@ thread-grows k u tid pid o c = at (was_thread u tid) refl
     at false unused =
         let t : Birth = directive_birth tid pid in
         let k' : Alive = either (thread_births tid pid) k in
-        grown (thread_births tid pid) k u _ (record { ports = every-true u.ports; sections = every-true u.sections; contents = every-true (content_rows u.contents); processes = every-true u.processes; threads = directed-threads u tid pid unused o }) c
+        grown (thread_births tid pid) k u _ (record { ports = every-true u.ports; sections = every-true u.sections; contents = every-true (content_rows u.contents); tokens = every-true u.tokens; processes = every-true u.processes; threads = directed-threads u tid pid unused o }) c
         (directed_holds (AreClosed k') word.Thread (thread_line u tid pid) (bind_holds (thread_test u tid pid) _ (AreClosed k') (λ v is.
         thread-names (k.threads t || same_birth t t) (k.homes pid || false) (or_right (k.threads t) (same_birth t t) (birth-self t)) (or_left (k.homes pid) false (home-live k u pid c (facts v is).0)))) (λ _. refl))

@@ -10,11 +10,14 @@ use Rattle.lpc_model.proofs.Calls.Usable.{can-call, live-number}
 use Rattle.lpc_model.proofs.Closings.SingleLines.{untold-lines}
 use Rattle.lpc_model.proofs.Linked.Lines.{linked-lines}
 use Rattle.lpc_model.proofs.Sound.Lines.{sound-lines}
-use Rattle.lpc_model.proofs.Standing.Lines.{KeepNames, names-lines}
+use Rattle.lpc_model.proofs.Standing.Lines.{IsNaming, KeepNames, names-lines}
+use Rattle.lpc_model.proofs.Views.Lines.{AreSound, views-lines}
+use Rattle.lpc_model.proofs.Views.Offers.{offers-lines}
+use Rattle.lpc_model.specs.SoundViews.{HasSoundOffers, HasSoundViews}
 use Rattle.lpc_model.specs.Basics.{Basic, Tells}
 use Rattle.lpc_model.specs.Found.{live_thread, wait_of}
 use Rattle.lpc_model.specs.Linked.{IsLinked}
-use Rattle.lpc_model.specs.Lines.{ScriptCall, ScriptLine, boot, dir, link, run, thread}
+use Rattle.lpc_model.specs.Lines.{ScriptCall, ScriptLine, boot, dir, link, run, thread, token}
 use Rattle.lpc_model.specs.Machine.{name_of_call}
 use Rattle.lpc_model.specs.SoundWaits.{HasShutConnects, IsSoundWorld}
 use Rattle.lpc_model.specs.Standing.{NamesWhatStands}
@@ -38,7 +41,8 @@ module _ (C : World → Type 0) (P : ScriptLine → World → List Basic → Typ
       subst (λ n. P (run n call) w (served_ready by call (wait_of w n) w)) own (ready by call (wait_of w by.number) at refl)
 
   served-line : (line : ScriptLine) → P line w (served_steps line w)
-  served-line (boot pid tid) = line-does C P k w s more (boot pid tid)
+  served-line (boot pid tid name) = line-does C P k w s more (boot pid tid name)
+  served-line (token name content) = line-does C P k w s more (token name content)
   served-line (thread tid pid) = line-does C P k w s more (thread tid pid)
   served-line (dir path) = line-does C P k w s more (dir path)
   served-line (link path target) = line-does C P k w s more (link path target)
@@ -48,6 +52,8 @@ pub served-firm : (u : World) (line : ScriptLine) → Firm u → Firm (served_st
 served-firm u line f = record {
   sound = served-line HasShutConnects (λ _. Keep IsSoundWorld) sound-lines u f.sound (firm-shut u f) (λ line e s. s) line f.sound;
   linked = served-line AnyWorld (λ _. Keep IsLinked) linked-lines u f.sound tt (λ line e l. l) line f.linked;
-  names = served-line (Shut IsLinked) (λ _. KeepNames) names-lines u f.sound (firm-shut u f, f.linked) (λ line e n. n) line f.names;
+  names = served-line (Shut IsNaming) (λ _. KeepNames) names-lines u f.sound (firm-shut u f, record { linked = f.linked; offers = f.offers }) (λ line e n. n) line f.names;
   single_closings = served-line (Shut NamesWhatStands) (λ _. Keep HasSingleClosings) untold-lines u f.sound (firm-shut u f, f.names) (λ line e n. n) line f.single_closings;
+  views = served-line (Shut AreSound) (λ _. Keep HasSoundViews) views-lines u f.sound (firm-shut u f, record { views = f.views; offers = f.offers }) (λ line e n. n) line f.views;
+  offers = served-line (Shut HasSoundViews) (λ _. Keep HasSoundOffers) offers-lines u f.sound (firm-shut u f, f.views) (λ line e n. n) line f.offers;
 }

@@ -7,24 +7,24 @@ use Rattle.lpc_isolation.proofs.Calls.Laws.{Room}
 use Rattle.lpc_model.specs.Grammar.{has_ids}
 use Rattle.lpc_isolation.proofs.Calls.Services.{lawful}
 use Rattle.std.proofs.Common.{◌≡◌, ℕ, List, [], ◌∷◌, ◌++◌, true, Option, Some, None, refl, ap, sym, subst, ◌∙◌}
-use Rattle.std.specs.Prelude.{Ok}
+use Rattle.std.specs.Prelude.{Ok, is_some}
 use Rattle.lpc_base.proofs.RowMaps.{every-both}
 use Rattle.lpc_model.specs.declared.entry.Entry.{Entry}
 use Rattle.lpc_model.specs.declared.entry.Word.TheVariants as word
 use Rattle.lpc_model.specs.World.{ThreadRow, WaitRow, World}
-use Rattle.lpc_model.specs.Found.{handle_count, live_thread, wait_of}
+use Rattle.lpc_model.specs.Found.{handle_count, live_thread, wait_of, named_token}
 use Rattle.lpc_model.specs.Basics.{Basic, Tells, entries_of, world_after}
 use Rattle.lpc_model.specs.Tests.{own_handle}
 use Rattle.lpc_model.specs.Named.{free_name, spelled_name}
-use Rattle.lpc_model.specs.Lines.{ScriptCall, ScriptLine, boot, dir, link, query_object, run, thread, create_section}
-use Rattle.lpc_model.specs.Machine.{bare_steps, boot_line, dir_line, link_line, name_of_call, ready_steps, service_of, settled, step, thread_line, thread_steps, thread_test, unused_test}
+use Rattle.lpc_model.specs.Lines.{ScriptCall, ScriptLine, boot, dir, link, query_object, run, thread, create_section, token}
+use Rattle.lpc_model.specs.Machine.{bare_steps, boot_line, dir_line, link_line, name_of_call, ready_steps, service_of, settled, step, thread_line, thread_steps, thread_test, unused_test, boot_token, token_line}
 use Rattle.lpc_isolation.proofs.Gone.Served.{served, served_ready, served_step, served_steps, served_thread}
 use Rattle.lpc_model.specs.Sweep.{sweep}
 use Rattle.lpc_model.specs.SoundWaits.{IsSoundWorld}
 use Rattle.lpc_model.specs.Linked.{HasHeldPorts, HasHeldSections}
 use Rattle.lpc_model.specs.Counts.{nt_query_object}
 use Rattle.lpc_model.specs.Fields.{object_fields}
-use Rattle.lpc_base.specs.declared.status.TheConstants.{SUCCESS}
+use Rattle.lpc_base.specs.declared.status.TheConstants.{SUCCESS, OBJECT_NAME_COLLISION}
 use Rattle.lpc_model.specs.declared.entry.CallName.TheVariants.{NtQueryObject}
 use Rattle.lpc_model.specs.declared.entry.Entry.TheVariants.{Answer}
 use Rattle.lpc_model.proofs.Linked.Lines.{held_step}
@@ -38,25 +38,30 @@ use Rattle.lpc_model.proofs.Steps.InTurn.{after-append, entries-append}
 use Rattle.lpc_isolation.proofs.Gone.Thin.{is_live-thin, live-thin, threads-thin, Alive, Behind, Closed, behind-sweep, closed-run, message_closed, thin, thin-run}
 use Rattle.lpc_isolation.proofs.Gone.ThinCalls.{AreClosed, row-thin}
 use Rattle.lpc_isolation.proofs.Rows.Firm.{Firm, firm-line, firm-step}
+use Rattle.lpc_model.specs.Refusal.{refuse_if}
 
 -- Lines
-ready-thin : (k : Alive) (u : World) (by : ThreadRow) (call : ScriptCall) (o : Option WaitRow) → live_thread u by.number ≡ Some by → Closed k u → served_ready by call o (thin k u) ≡ served_ready by call o u
-ready-thin k u by call (Some x) live c = refl
-ready-thin k u by call None live c = ap (settled by (name_of_call call)) ((lawful call).alike k u by live c)
+ready-thin : (k : Alive) (u : World) (by : ThreadRow) (call : ScriptCall) (o : Option WaitRow) → live_thread u by.number ≡ Some by → IsSoundWorld u → Closed k u → served_ready by call o (thin k u) ≡ served_ready by call o u
+ready-thin k u by call (Some x) live s c = refl
+ready-thin k u by call None live s c = ap (settled by (name_of_call call)) ((lawful call).alike k u by live s c)
 
 -- a thread that is found by its number
 own-live : (u : World) (tid : ℕ) (by : ThreadRow) → live_thread u tid ≡ Some by → live_thread u by.number ≡ Some by
 own-live u tid by live = subst (λ n. live_thread u n ≡ Some by) (sym (live-number u tid by live)) live
 
-thread-thin : (k : Alive) (u : World) (tid : ℕ) (call : ScriptCall) (o : Option ThreadRow) → live_thread u tid ≡ o → Closed k u → served_thread tid call o (thin k u) ≡ served_thread tid call o u
-thread-thin k u tid call None live c = refl
-thread-thin k u tid call (Some by) live c = ready-thin k u by call (wait_of u tid) (own-live u tid by live) c
+thread-thin : (k : Alive) (u : World) (tid : ℕ) (call : ScriptCall) (o : Option ThreadRow) → live_thread u tid ≡ o → IsSoundWorld u → Closed k u → served_thread tid call o (thin k u) ≡ served_thread tid call o u
+thread-thin k u tid call None live s c = refl
+thread-thin k u tid call (Some by) live s c = ready-thin k u by call (wait_of u tid) (own-live u tid by live) s c
 
-pub line-thin : (k : Alive) (u : World) (line : ScriptLine) → Closed k u → served_steps line (thin k u) ≡ served_steps line u
-unfolding bare_steps boot_line thread_line dir_line link_line
-line-thin k u (thread tid pid) c = rw (is_live-thin k u pid c, threads-thin k u pid c) refl
-line-thin k u (run tid call) c = ap (λ o. served_thread tid call o (thin k u)) (live-thin k u tid c) ∙ thread-thin k u tid call (live_thread u tid) refl c
-line-thin k u b c = refl
+pub line-thin : (k : Alive) (u : World) (line : ScriptLine) → IsSoundWorld u → Closed k u → served_steps line (thin k u) ≡ served_steps line u
+unfolding bare_steps boot_line token_line thread_line dir_line link_line
+line-thin k u (thread tid pid) s c = rw (is_live-thin k u pid c, threads-thin k u pid c) refl
+line-thin k u (run tid call) s c = ap (λ o. served_thread tid call o (thin k u)) (live-thin k u tid c) ∙ thread-thin k u tid call (live_thread u tid) refl s c
+line-thin k u (boot pid tid None) s c = refl
+line-thin k u (boot pid tid (Some name)) s c = refl
+line-thin k u (token name content) s c = refl
+line-thin k u (dir path) s c = refl
+line-thin k u (link path target) s c = refl
 
 ready-closed : (k : Alive) (u : World) (by : ThreadRow) (call : ScriptCall) (o : Option WaitRow) → live_thread u by.number ≡ Some by → IsSoundWorld u → Closed k u → Room k u by call → AreClosed k (served_ready by call o u)
 ready-closed k u by call (Some x) live s c new = refl
@@ -75,8 +80,9 @@ same-ready : (k : Alive) (u : World) (bs : List Basic) → Closed k u → AreClo
 same-ready k u bs c names = record { alive = k; same = refl; closed = c; names = names }
 
 line-ready : (k : Alive) (u : World) (line : ScriptLine) → IsSoundWorld u → Born u → Closed k u → Grows k u (served_steps line u)
-unfolding bare_steps dir_line link_line
-line-ready k u (boot pid tid) s b c = boot-grows k u pid tid b c
+unfolding bare_steps token_line dir_line link_line
+line-ready k u (boot pid tid name) s b c = boot-grows k u pid tid name b c
+line-ready k u (token name content) s b c = same-ready k u _ c (directed_holds (AreClosed k) word.Token (token_line u name content) (bind_holds (refuse_if (is_some (named_token u name)) OBJECT_NAME_COLLISION) _ (AreClosed k) (λ _ _. refl)) (λ _. refl))
 line-ready k u (thread tid pid) s b c = thread-grows k u tid pid b c
 line-ready k u (dir path) s b c = same-ready k u _ c (directed_holds (AreClosed k) word.Dir (dir_line u path) (bind_holds (free_name u path) _ (AreClosed k) (λ _ _. refl)) (λ _. refl))
 line-ready k u (link path target) s b c = same-ready k u _ c (directed_holds (AreClosed k) word.Link (link_line u path target) (bind_holds (spelled_name target) _ (AreClosed k) (λ _ _. bind_holds (free_name u path) _ (AreClosed k) (λ _ _. refl))) (λ _. refl))
@@ -123,8 +129,9 @@ thread-sends u tid call (Some by) live s = at (wait_of u tid)
     at None = settled_holds (λ bs. are_sent u bs ≡ true) by (name_of_call call) (served u by call) ((lawful call).sent u by s own) (λ _ _. refl)
 
 line-sends : (u : World) (line : ScriptLine) → IsSoundWorld u → are_sent u (served_steps line u) ≡ true
-unfolding bare_steps boot_line thread_line dir_line link_line
-line-sends u (boot pid tid) s = directed_holds (λ bs. are_sent u bs ≡ true) word.Boot (boot_line u pid tid) (bind_holds (unused_test u pid tid) _ (λ bs. are_sent u bs ≡ true) (λ _ _. refl)) (λ _. refl)
+unfolding bare_steps boot_line token_line thread_line dir_line link_line
+line-sends u (boot pid tid name) s = directed_holds (λ bs. are_sent u bs ≡ true) word.Boot (boot_line u pid tid name) (bind_holds (boot_token u name) _ (λ bs. are_sent u bs ≡ true) (λ _ _. bind_holds (unused_test u pid tid) _ (λ bs. are_sent u bs ≡ true) (λ _ _. refl))) (λ _. refl)
+line-sends u (token name content) s = directed_holds (λ bs. are_sent u bs ≡ true) word.Token (token_line u name content) (bind_holds (refuse_if (is_some (named_token u name)) OBJECT_NAME_COLLISION) _ (λ bs. are_sent u bs ≡ true) (λ _ _. refl)) (λ _. refl)
 line-sends u (thread tid pid) s = directed_holds (λ bs. are_sent u bs ≡ true) word.Thread (thread_line u tid pid) (bind_holds (thread_test u tid pid) _ (λ bs. are_sent u bs ≡ true) (λ _ _. refl)) (λ _. refl)
 line-sends u (dir path) s = directed_holds (λ bs. are_sent u bs ≡ true) word.Dir (dir_line u path) (bind_holds (free_name u path) _ (λ bs. are_sent u bs ≡ true) (λ _ _. refl)) (λ _. refl)
 line-sends u (link path target) s = directed_holds (λ bs. are_sent u bs ≡ true) word.Link (link_line u path target) (bind_holds (spelled_name target) _ (λ bs. are_sent u bs ≡ true) (λ _ _. bind_holds (free_name u path) _ (λ bs. are_sent u bs ≡ true) (λ _ _. refl))) (λ _. refl)
@@ -176,7 +183,7 @@ line-behind w u line ids t = record {
     held = record { linked = t.firm.linked; ports = t.ports; sections = t.sections; names = t.firm.names; sent = subst Sent (sym r.same) (sent-thin r.alive u r.closed t.sent) }
 
     same : bare_steps line w ≡ served_steps line u
-    same = line-held w line held ∙ ap (served_steps line) here ∙ line-thin ready.alive u line ready.closed
+    same = line-held w line held ∙ ap (served_steps line) here ∙ line-thin ready.alive u line t.bare.sound ready.closed
 
     bare : Behind (world_after w (bare_steps line w)) (served_step u line).world
     bare = record {

@@ -3,7 +3,7 @@ use Rattle.lpc_isolation.proofs.Each.Described.{described-thin}
 use Rattle.lpc_isolation.proofs.Calls.Services.{lawful}
 use Rattle.lpc_isolation.proofs.Gone.Fine.{AreFine, FineAfter, run-fine}
 use Rattle.std.proofs.Common.{◌≡◌, ℕ, List, [], ◌∷◌, ◌++◌, Bool, true, false, cond, not, map, Option, Some, None, refl, ap, sym, subst, ◌∙◌, arith}
-use Rattle.std.specs.Prelude.{◌||◌, ◌==◌}
+use Rattle.std.specs.Prelude.{◌||◌, ◌==◌, is_some}
 use Rattle.std.proofs.lemmas.Bool.{or_left, or_right}
 use Rattle.std.proofs.lemmas.Bool.Decides.{nat_tests}
 use Rattle.lpc_base.specs.Rows.{has, passes, which}
@@ -11,20 +11,20 @@ use Rattle.lpc_base.proofs.Bools.{first-true, second-true}
 use Rattle.lpc_model.specs.declared.entry.Entry.{Entry}
 use Rattle.lpc_model.specs.declared.entry.Entry.TheVariants as entry
 use Rattle.lpc_model.specs.declared.entry.Word.TheVariants as word
-use Rattle.lpc_model.specs.World.{Birth, ThreadRow, WaitRow, World, no_rows}
-use Rattle.lpc_model.specs.Found.{live_thread, wait_of}
+use Rattle.lpc_model.specs.World.{Birth, ThreadRow, WaitRow, World, no_rows, Impersonation, ObjectName}
+use Rattle.lpc_model.specs.Found.{live_thread, wait_of, named_token}
 use Rattle.lpc_model.specs.Named.{free_name, spelled_name}
-use Rattle.lpc_model.specs.Lines.{ScriptCall, ScriptLine, accept_connect_port, boot, complete_connect_port, connect_port, create_port, dir, link, listen_port, reply_port, reply_wait_receive_port, request_port, request_wait_reply_port, run, thread, read_request_data}
+use Rattle.lpc_model.specs.Lines.{ScriptCall, ScriptLine, accept_connect_port, boot, complete_connect_port, connect_port, create_port, dir, link, listen_port, reply_port, reply_wait_receive_port, request_port, request_wait_reply_port, run, thread, read_request_data, token}
 use Rattle.lpc_model.specs.Grammar.{has_ids}
 use Rattle.lpc_isolation.proofs.Gone.Born.{born_none}
 use Rattle.lpc_isolation.proofs.Rows.Ids.{script-says}
 use Rattle.lpc_isolation.proofs.Plays.Play.{are_ok}
-use Rattle.lpc_model.specs.Basics.{Basic, world_after}
-use Rattle.lpc_model.specs.Sweep.{sweep}
-use Rattle.lpc_model.specs.Machine.{bare_steps, boot_line, dir_line, link_line, name_of_call, step, steps, thread_line, thread_test, unused_test}
+use Rattle.lpc_model.specs.Basics.{Basic, world_after, Frees}
+use Rattle.lpc_model.specs.Sweep.{sweep, free_unheld, unheld}
+use Rattle.lpc_model.specs.Machine.{bare_steps, boot_line, dir_line, link_line, name_of_call, step, steps, thread_line, thread_test, unused_test, boot_token, token_line}
 use Rattle.lpc_isolation.proofs.Gone.Served.{served, served_ready, served_step, served_steps, served_thread}
 use Rattle.lpc_model.specs.Run.{Along, said_in, world_behind}
-use Rattle.lpc_model.specs.Circle.{Event, Everyone, Group, HasInnerViews, IsCircleIn, IsFineAt, IsFineWorld, Isolation, Nobody, Of, Ran, Told, Whose, entry_whose, events, inputs, is_fine_call, is_fine_line, is_item, is_outer, is_outer_at, is_seen, is_write_of, item_of, items, line_events, line_whose, members, outsider_sees, owner, told_event, IsInnerAt, ReadsInner}
+use Rattle.lpc_model.specs.Circle.{Event, Everyone, Group, HasInnerViews, IsCircleIn, IsFineAt, IsFineWorld, Isolation, Nobody, Of, Ran, Told, Whose, entry_whose, events, inputs, is_fine_call, is_fine_line, is_item, is_outer, is_outer_at, is_seen, is_write_of, item_of, items, line_events, line_whose, members, outsider_sees, owner, told_event, IsInnerAt, ReadsInner, gave_event, given_in, gave}
 use Rattle.lpc_isolation.proofs.Views.Alone.{HasFineRows, alone, WritesOuter}
 use Rattle.lpc_isolation.proofs.Gone.Bare.{BareIsolation, IsApartAt, IsBareCircle, bare_events, bare_line_events, HasViewsApart}
 use Rattle.lpc_model.proofs.Calls.Holding.{bind_holds, directed_holds, settled_holds}
@@ -33,6 +33,8 @@ use Rattle.lpc_isolation.proofs.Plays.BareLaw.{bare-isolation}
 use Rattle.lpc_isolation.proofs.Gone.Thin.{Alive, Behind, thin, Closed, live-thin}
 use Rattle.lpc_isolation.proofs.Gone.Sweeps.{InStep, Sides, entries-same, line-behind}
 use Rattle.lpc_isolation.proofs.Rows.Firm.{firm_none}
+use Rattle.lpc_model.specs.Refusal.{refuse_if}
+use Rattle.lpc_base.specs.declared.status.TheConstants.{OBJECT_NAME_COLLISION}
 
 -- What happens is the same
 map-same : {X Y : Type 0} (f g : X → Y) → ((x : X) → f x ≡ g x) → (xs : List X) → map f xs ≡ map g xs
@@ -40,7 +42,8 @@ map-same f g same [] = refl
 map-same f g same (x ∷ xs) = rw (same x, map-same f g same xs) refl
 
 whose-thin : (k : Alive) (u : World) (line : ScriptLine) → line_whose (thin k u) line ≡ line_whose u line
-whose-thin k u (boot pid tid) = refl
+whose-thin k u (boot pid tid name) = refl
+whose-thin k u (token name content) = refl
 whose-thin k u (thread tid pid) = refl
 whose-thin k u (dir path) = refl
 whose-thin k u (link path target) = refl
@@ -55,14 +58,38 @@ entry-thin k u d (entry.NoThread tid) = refl
 entry-thin k u d (entry.Died tid status) = refl
 entry-thin k u d (entry.Directive word status) = refl
 
+-- what goes at a line's end, lets no thread act
+frees-give : (os : List ObjectName) (bs : List Basic) → given_in (map Frees os ++ bs) ≡ given_in bs
+frees-give [] bs = refl
+frees-give (o ∷ os) bs = frees-give os bs
+
+append-nil : (bs : List Basic) → bs ++ [] ≡ bs
+append-nil [] = refl
+append-nil (b ∷ bs) = ap (λ bs. b ∷ bs) (append-nil bs)
+
+sweep-gives : (w : World) → given_in (sweep w) ≡ []
+unfolding sweep
+sweep-gives w =
+    let v = world_after w (free_unheld w) in
+    frees-give (unheld w) (free_unheld v) ∙ (ap given_in (sym (append-nil (free_unheld v))) ∙ frees-give (unheld v) [])
+
+given-append : (bs cs : List Basic) → given_in cs ≡ [] → given_in (bs ++ cs) ≡ given_in bs
+given-append [] cs none = none
+given-append (b ∷ bs) cs none = ap (λ gs. gave b ++ gs) (given-append bs cs none)
+
+given-same : (w u : World) (line : ScriptLine) → InStep w u line → given_in (steps line w) ≡ given_in (served_steps line u)
+given-same w u line a = given-append (bare_steps line w) (sweep (world_after w (bare_steps line w))) (sweep-gives (world_after w (bare_steps line w))) ∙ ap given_in a.same
+
 line-same : (w u : World) (line : ScriptLine) → Behind w u → InStep w u line → line_events w line ≡ bare_line_events u line
 line-same w u line r a =
     let whose : line_whose w line ≡ line_whose u line = ap (λ v. line_whose v line) r.same ∙ whose-thin r.alive u line in
     let told : (e : Entry) → told_event (step w line).world (line_whose u line) e ≡ told_event (served_step u line).world (line_whose u line) e
     = λ e. ap (λ x. record { whose = x; item = Told e }) (ap (λ v. entry_whose v (line_whose u line) e) a.sides.behind.same ∙ entry-thin a.sides.behind.alive (served_step u line).world (line_whose u line) e) in
-    ap (λ d. record { whose = d; item = Ran line } ∷ map (told_event (step w line).world d) (step w line).entries) whose
-    ∙ ap (λ es. record { whose = line_whose u line; item = Ran line } ∷ map (told_event (step w line).world (line_whose u line)) es) (entries-same w u line a)
-    ∙ ap (λ es. record { whose = line_whose u line; item = Ran line } ∷ es) (map-same (told_event (step w line).world (line_whose u line)) (told_event (served_step u line).world (line_whose u line)) told (served_step u line).entries)
+    let gave = map (gave_event (line_whose u line)) (given_in (steps line w)) in
+    ap (λ d. record { whose = d; item = Ran line } ∷ (map (told_event (step w line).world d) (step w line).entries ++ map (gave_event d) (given_in (steps line w)))) whose
+    ∙ ap (λ es. record { whose = line_whose u line; item = Ran line } ∷ (map (told_event (step w line).world (line_whose u line)) es ++ gave)) (entries-same w u line a)
+    ∙ ap (λ es. record { whose = line_whose u line; item = Ran line } ∷ (es ++ gave)) (map-same (told_event (step w line).world (line_whose u line)) (told_event (served_step u line).world (line_whose u line)) told (served_step u line).entries)
+    ∙ ap (λ gs. record { whose = line_whose u line; item = Ran line } ∷ (map (told_event (served_step u line).world (line_whose u line)) (served_step u line).entries ++ map (gave_event (line_whose u line)) gs)) (given-same w u line a)
 
 pub events-same : (w u : World) (lines : List (Option ScriptLine)) → are_ok has_ids lines ≡ true → Sides w u → events w lines ≡ bare_events u lines
 events-same w u [] ids t = refl
@@ -82,8 +109,9 @@ thread-fine m c after u tid call None live f = λ _. refl
 thread-fine m c after u tid call (Some by) live f = ready-fine m c after u by call (wait_of u tid) (ap (wait_of u) (live-number u tid by live)) f
 
 line-fine : (m : Group) (c : ℕ) (after u : World) (line : ScriptLine) → HasFineRows m c after → FineAfter m c after u (served_steps line u)
-unfolding bare_steps boot_line thread_line dir_line link_line
-line-fine m c after u (boot pid tid) f = λ _. directed_holds (AreFine m c) word.Boot (boot_line u pid tid) (bind_holds (unused_test u pid tid) _ (AreFine m c) (λ _ _. refl)) (λ _. refl)
+unfolding bare_steps boot_line token_line thread_line dir_line link_line
+line-fine m c after u (boot pid tid name) f = λ _. directed_holds (AreFine m c) word.Boot (boot_line u pid tid name) (bind_holds (boot_token u name) _ (AreFine m c) (λ _ _. bind_holds (unused_test u pid tid) _ (AreFine m c) (λ _ _. refl))) (λ _. refl)
+line-fine m c after u (token name content) f = λ _. directed_holds (AreFine m c) word.Token (token_line u name content) (bind_holds (refuse_if (is_some (named_token u name)) OBJECT_NAME_COLLISION) _ (AreFine m c) (λ _ _. refl)) (λ _. refl)
 line-fine m c after u (thread tid pid) f = λ _. directed_holds (AreFine m c) word.Thread (thread_line u tid pid) (bind_holds (thread_test u tid pid) _ (AreFine m c) (λ _ _. refl)) (λ _. refl)
 line-fine m c after u (dir path) f = λ _. directed_holds (AreFine m c) word.Dir (dir_line u path) (bind_holds (free_name u path) _ (AreFine m c) (λ _ _. refl)) (λ _. refl)
 line-fine m c after u (link path target) f = λ _. directed_holds (AreFine m c) word.Link (link_line u path target) (bind_holds (spelled_name target) _ (AreFine m c) (λ _ _. bind_holds (free_name u path) _ (AreFine m c) (λ _ _. refl))) (λ _. refl)
@@ -91,11 +119,11 @@ line-fine m c after u (run tid call) f = thread-fine m c after u tid call (live_
 
 -- The circle is one in the run whose rows never go
 call-inside : (m : Group) (k : Alive) (u : World) (call : ScriptCall) → is_fine_call m (thin k u) call ≡ is_fine_call m u call
-call-inside m k u (create_port None) = refl
-call-inside m k u (create_port (Some name)) = refl
-call-inside m k u (connect_port name info) = refl
+call-inside m k u (create_port None dacl) = refl
+call-inside m k u (create_port (Some name) dacl) = refl
+call-inside m k u (connect_port name quality word info) = refl
 call-inside m k u (listen_port handle) = refl
-call-inside m k u (accept_connect_port context message accept) = refl
+call-inside m k u (accept_connect_port context message accept word) = refl
 call-inside m k u (complete_connect_port handle) = refl
 call-inside m k u (request_port handle message) = refl
 call-inside m k u (request_wait_reply_port handle message) = refl
@@ -189,7 +217,7 @@ circle-same m c outer w u (Some line ∷ later) ids t fine along last covers inn
 
 -- The law
 behind_none : Behind no_rows no_rows
-behind_none = record { alive = record { ports = λ b. true; sections = λ b. true; processes = λ b. true; threads = λ b. true; homes = λ n. true }; same = refl; closed = record { tables = refl; ports = refl; messages = refl; waits = refl; registrations = refl; cuts = refl; threads = refl; processes = refl; views = refl } }
+behind_none = record { alive = record { ports = λ b. true; sections = λ b. true; tokens = λ b. true; processes = λ b. true; threads = λ b. true; homes = λ n. true }; same = refl; closed = record { tables = refl; ports = refl; messages = refl; waits = refl; registrations = refl; cuts = refl; threads = refl; processes = refl; views = refl } }
 
 sides_none : Sides no_rows no_rows
 sides_none = record { firm = firm_none; ports = refl; sections = refl; bare = firm_none; sent = refl; born = born_none; behind = behind_none }

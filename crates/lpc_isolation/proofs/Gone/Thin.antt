@@ -9,9 +9,9 @@ use Rattle.lpc_base.proofs.Bools.{apart-second, first-true, same-number, second-
 use Rattle.lpc_base.proofs.Births.{birth-same, births-apart}
 use Rattle.lpc_model.specs.declared.entry.ObjectKind.{ObjectKind}
 use Rattle.lpc_model.specs.declared.entry.ObjectKind.TheVariants as kind
-use Rattle.lpc_model.specs.World.{Birth, ContentRow, Contents, HandleRow, HandleTable, Known, MessageRow, ObjectName, PortRow, ProcessRow, SectionRow, ThreadRow, Unknown, ViewRow, ViewTable, WaitRow, World}
-use Rattle.lpc_model.specs.Found.{all_handles, all_views, handle_count, has_value, is_connected_to, is_content, is_cut, is_life, is_made_on, is_own_of, is_paired_to, is_port, is_queued, is_section, is_sent_on, is_table, is_the, is_thread, lies_at, is_space, holders, lives_by, port_name, process_name, same_birth, same_kind, same_object, section_name, shows_section, thread_name, waits_as, waits_at, all_registrations, registered_by, live_thread, live_threads, is_live, is_live_thread, lives_in}
-use Rattle.lpc_model.specs.Basics.{Accepts, AddsHandle, AddsProcess, AddsSection, AddsThread, Awaits, Basic, Binds, Completes, Cuts, DrawsIdentifier, DrawsOrdinal, DropsHandle, DropsViewsOf, Empties, Enters, Frees, Joins, Makes, Maps, Receives, Takes, TakesConnect, Tells, Unbinds, Unmaps, Wakes, Withdraws, Writes, accepted, basic, completed, cut, freed, in_known, is_end_of, joined, no_handles, no_views, past_identifier, past_ordinal, received, with_handle, with_view, without_handle, without_view, without_views, world_after, written, zeros, Dies, Registers, Unregisters, ended, registering, unregistering}
+use Rattle.lpc_model.specs.World.{Birth, ContentRow, Contents, HandleRow, HandleTable, Known, MessageRow, ObjectName, PortRow, ProcessRow, SectionRow, ThreadRow, Unknown, ViewRow, ViewTable, WaitRow, World, Offer, Acceptance, WaitKind, Request, Connect, Accepted, Receive, Listen, TokenRow}
+use Rattle.lpc_model.specs.Found.{all_handles, all_views, handle_count, has_value, is_connected_to, is_content, is_cut, is_life, is_made_on, is_own_of, is_paired_to, is_port, is_queued, is_section, is_sent_on, is_table, is_the, is_thread, lies_at, is_space, holders, lives_by, port_name, process_name, same_birth, same_kind, same_object, section_name, shows_section, thread_name, waits_as, waits_at, all_registrations, registered_by, live_thread, live_threads, is_live, is_live_thread, lives_in, is_owned_by, offer_of, offers_section, is_token, token_name}
+use Rattle.lpc_model.specs.Basics.{Accepts, AddsHandle, AddsProcess, AddsSection, AddsThread, Awaits, Basic, Binds, Completes, Cuts, DrawsIdentifier, DrawsOrdinal, DropsHandle, DropsViewsOf, Empties, Enters, Frees, Joins, Makes, Maps, Receives, Takes, TakesConnect, Tells, Unbinds, Unmaps, Wakes, Withdraws, Writes, accepted, basic, completed, cut, freed, in_known, is_end_of, joined, no_handles, no_views, past_identifier, past_ordinal, received, with_handle, with_view, without_handle, without_view, without_views, world_after, written, zeros, Dies, Registers, Unregisters, ended, registering, unregistering, DropsOwned, without_owned, Acts, AddsToken, NamesToken, Secures, acting, secured}
 use Rattle.lpc_model.specs.Sweep.{free_unheld, is_unheld, sweep, unheld}
 use Rattle.lpc_model.specs.SoundWaits.{IsSoundWorld}
 use Rattle.lpc_model.specs.Linked.{IsLinked}
@@ -25,10 +25,11 @@ use Rattle.lpc_model.proofs.Steps.Rows.{has-off}
 use Rattle.lpc_model.proofs.Steps.InTurn.{after-append}
 use Rattle.lpc_isolation.proofs.Views.Filters.{first-where, has-inside, kept-change, kept-push, which-where}
 
--- the births of the ports, sections, processes and threads that stand, and the numbers of processes that stand while they live
+-- the births of the ports, sections, tokens, processes and threads that stand, and the numbers of processes that stand while they live
 pub record Alive : Type 0 where
   pub ports : Birth → Bool
   pub sections : Birth → Bool
+  pub tokens : Birth → Bool
   pub processes : Birth → Bool
   pub threads : Birth → Bool
   pub homes : ℕ → Bool
@@ -45,6 +46,9 @@ thread_alive k t = k.threads t.birth
 abbrev pub section_alive : Alive → SectionRow → Bool
 section_alive k s = k.sections s.birth
 
+abbrev pub token_alive : Alive → TokenRow → Bool
+token_alive k t = k.tokens t.birth
+
 abbrev pub content_alive : Alive → ContentRow → Bool
 content_alive k c = k.sections c.section
 
@@ -56,6 +60,7 @@ thin k u = record u {
   ports = which (port_alive k) u.ports;
   sections = which (section_alive k) u.sections;
   contents = in_known (which (content_alive k)) u.contents;
+  tokens = which (token_alive k) u.tokens;
 }
 
 -- what a row names is alive
@@ -66,7 +71,7 @@ all_alive f (Some b) = f b
 abbrev pub alive_as : Alive → ObjectKind → Birth → Bool
 alive_as k kind.Port b = k.ports b
 alive_as k kind.Section b = k.sections b
-alive_as k kind.Token b = false
+alive_as k kind.Token b = k.tokens b
 alive_as k kind.Process b = k.processes b
 alive_as k kind.Thread b = k.threads b
 
@@ -85,11 +90,15 @@ port_closed k p = not (k.ports p.birth) || (all_alive k.ports p.pair && all_aliv
 abbrev pub message_closed : Alive → MessageRow → Bool
 message_closed k x = k.ports x.sender
 
+abbrev pub offer_alive : Alive → Option Offer → Bool
+offer_alive k None = true
+offer_alive k (Some o) = k.sections o.section
+
 abbrev pub wait_closed : Alive → WaitRow → Bool
-wait_closed k x = k.ports x.port
+wait_closed k x = k.ports x.port && offer_alive k (offer_of x)
 
 abbrev pub view_closed : Alive → ViewRow → Bool
-view_closed k v = k.sections v.section
+view_closed k v = k.sections v.section && all_alive k.ports v.owner
 
 abbrev pub space_closed : Alive → ViewTable → Bool
 space_closed k t = every (view_closed k) t.rows
@@ -102,6 +111,10 @@ kind-live k e b live port = absurd (cc)
 pub section-live-as : (k : Alive) (s : ObjectKind) (b : Birth) → alive_as k s b ≡ true → same_kind s kind.Section ≡ true → k.sections b ≡ true
 section-live-as k kind.Section b live section = live
 section-live-as k e b live section = absurd (cc)
+
+pub token-live-as : (k : Alive) (s : ObjectKind) (b : Birth) → alive_as k s b ≡ true → same_kind s kind.Token ≡ true → k.tokens b ≡ true
+token-live-as k kind.Token b live token = live
+token-live-as k e b live token = absurd (cc)
 
 pub port-live : (k : Alive) (o : ObjectName) → object_alive k o ≡ true → same_kind o.kind kind.Port ≡ true → k.ports o.birth ≡ true
 port-live k o live port = kind-live k o.kind o.birth live port
@@ -162,6 +175,11 @@ is_closed k (Writes b place new) = true
 is_closed k (Maps pid v) = view_closed k v
 is_closed k (Unmaps pid base) = true
 is_closed k (DropsViewsOf pid) = true
+is_closed k (DropsOwned b) = true
+is_closed k (Secures b s) = true
+is_closed k (Acts who own) = true
+is_closed k (AddsToken t) = k.tokens t.birth
+is_closed k (NamesToken n) = true
 
 -- Lists
 which-map : {X : Type 0} (k : X → Bool) (f : X → X) → ((x : X) → k (f x) ≡ k x) → (xs : List X) → which k (map f xs) ≡ map f (which k xs)
@@ -211,6 +229,9 @@ thin-basic k u (Registers who b) ok = rw (kept-change (thread_alive k) (is_threa
 thin-basic k u (Unregisters who b) ok = rw (kept-change (thread_alive k) (is_thread who) (unregistering b) (λ t. refl) u.threads) refl
 thin-basic k u (AddsProcess p) ok = rw (kept-push (process_alive k) u.processes p ok) refl
 thin-basic k u (AddsThread t) ok = rw (kept-push (thread_alive k) u.threads t (first-true _ _ ok)) refl
+thin-basic k u (Secures b s) ok = rw (kept-change (port_alive k) (is_port b) (secured s) (λ p. refl) u.ports) refl
+thin-basic k u (Acts who own) ok = rw (kept-change (thread_alive k) (is_thread who) (acting own) (λ t. refl) u.threads) refl
+thin-basic k u (AddsToken t) ok = rw (kept-push (token_alive k) u.tokens t ok) refl
 thin-basic k u (AddsSection s) ok = rw (kept-push (section_alive k) u.sections s ok, added-alive k s u.contents ok) refl
 thin-basic k u (Writes b place new) ok = rw (written-alive k b place new u.contents) refl
 thin-basic k u b ok = refl
@@ -239,6 +260,14 @@ joined-cut k client server context one two p ok = at (is_port client p) (is_port
 or-last : (a : Bool) {b : Bool} → b ≡ true → (a || b) ≡ true
 or-last a is = grind arith
 
+-- an accept takes the offer away
+accepted-closed : (k : Alive) (a : Acceptance) (x : WaitRow) (sort : WaitKind) → x.kind ≡ sort → wait_closed k x ≡ true → wait_closed k (accepted a x) ≡ true
+accepted-closed k a x (Request b) is live = rw is (rw is at live)
+accepted-closed k a x Receive is live = rw is (rw is at live)
+accepted-closed k a x Listen is live = rw is (rw is at live)
+accepted-closed k a x (Connect b offer) is live = rw is (and_from _ _ (first-true _ _ live) refl)
+accepted-closed k a x (Accepted b d) is live = rw is (rw is at live)
+
 pub keeps-closed : (k : Alive) (u : World) (b : Basic) → is_closed k b ≡ true → Closed k u → Closed k (basic u b)
 keeps-closed k u (Awaits x) ok c = record { tables = c.tables; ports = c.ports; messages = c.messages; waits = every-push (wait_closed k) u.waits x c.waits ok; registrations = c.registrations; cuts = c.cuts; threads = c.threads; processes = c.processes; views = c.views }
 keeps-closed k u (Enters x) ok c = record { tables = c.tables; ports = c.ports; messages = every-push (message_closed k) u.messages x c.messages ok; waits = c.waits; registrations = c.registrations; cuts = c.cuts; threads = c.threads; processes = c.processes; views = c.views }
@@ -252,6 +281,8 @@ keeps-closed k u (Unbinds b) ok c = record { tables = c.tables; ports = c.ports;
 keeps-closed k u (DropsHandle pid value) ok c = record { tables = every-change (table_closed k) (is_table pid) (without_handle value) (λ t all. every-without_first (handle_closed k) (has_value value) t.rows all) u.handles c.tables; ports = c.ports; messages = c.messages; waits = c.waits; registrations = c.registrations; cuts = c.cuts; threads = c.threads; processes = c.processes; views = c.views }
 keeps-closed k u (AddsSection s) ok c = record { tables = c.tables; ports = c.ports; messages = c.messages; waits = c.waits; registrations = c.registrations; cuts = c.cuts; threads = c.threads; processes = c.processes; views = c.views }
 keeps-closed k u (Writes b place new) ok c = record { tables = c.tables; ports = c.ports; messages = c.messages; waits = c.waits; registrations = c.registrations; cuts = c.cuts; threads = c.threads; processes = c.processes; views = c.views }
+keeps-closed k u (NamesToken n) ok c = record { tables = c.tables; ports = c.ports; messages = c.messages; waits = c.waits; registrations = c.registrations; cuts = c.cuts; threads = c.threads; processes = c.processes; views = c.views }
+keeps-closed k u (AddsToken t) ok c = record { tables = c.tables; ports = c.ports; messages = c.messages; waits = c.waits; registrations = c.registrations; cuts = c.cuts; threads = c.threads; processes = c.processes; views = c.views }
 keeps-closed k u (Maps pid v) ok c = record { tables = c.tables; ports = c.ports; messages = c.messages; waits = c.waits; registrations = c.registrations; cuts = c.cuts; threads = c.threads; processes = c.processes; views = every-change (space_closed k) (is_space pid) (with_view v) (λ t all. every-push (view_closed k) t.rows v all ok) u.views c.views }
 keeps-closed k u (Unmaps pid base) ok c = record { tables = c.tables; ports = c.ports; messages = c.messages; waits = c.waits; registrations = c.registrations; cuts = c.cuts; threads = c.threads; processes = c.processes; views = every-change (space_closed k) (is_space pid) (without_view base) (λ t all. every-without (view_closed k) (lies_at base) t.rows all) u.views c.views }
 keeps-closed k u (DropsViewsOf pid) ok c = record { tables = c.tables; ports = c.ports; messages = c.messages; waits = c.waits; registrations = c.registrations; cuts = c.cuts; threads = c.threads; processes = c.processes; views = every-change (space_closed k) (is_space pid) without_views (λ t all. refl) u.views c.views }
@@ -259,16 +290,19 @@ keeps-closed k u (AddsProcess p) ok c = record { tables = every-push (table_clos
 keeps-closed k u (AddsThread t) ok c = record { tables = c.tables; ports = c.ports; messages = c.messages; waits = c.waits; registrations = all-pushed k.ports u.threads t (second-true (thread_closed k t) _ (second-true (k.threads t.birth) _ ok)) c.registrations; cuts = c.cuts; threads = every-push (thread_closed k) u.threads t c.threads (first-true _ _ (second-true (k.threads t.birth) _ ok)); processes = c.processes; views = c.views }
 keeps-closed k u (Wakes who call status fields) ok c = record { tables = c.tables; ports = c.ports; messages = c.messages; waits = every-without (wait_closed k) (waits_as who) u.waits c.waits; registrations = c.registrations; cuts = c.cuts; threads = c.threads; processes = c.processes; views = c.views }
 keeps-closed k u (Receives who q) ok c = record { tables = c.tables; ports = c.ports; messages = c.messages; waits = every-change (wait_closed k) (waits_at who q) received (λ x is. is) u.waits c.waits; registrations = c.registrations; cuts = c.cuts; threads = c.threads; processes = c.processes; views = c.views }
-keeps-closed k u (Accepts who reply) ok c = record { tables = c.tables; ports = c.ports; messages = c.messages; waits = every-change (wait_closed k) (waits_as who) (accepted reply) (λ x is. is) u.waits c.waits; registrations = c.registrations; cuts = c.cuts; threads = c.threads; processes = c.processes; views = c.views }
+keeps-closed k u (Accepts who reply) ok c = record { tables = c.tables; ports = c.ports; messages = c.messages; waits = every-change (wait_closed k) (waits_as who) (accepted reply) (λ x is. accepted-closed k reply x x.kind refl is) u.waits c.waits; registrations = c.registrations; cuts = c.cuts; threads = c.threads; processes = c.processes; views = c.views }
 keeps-closed k u (Takes q) ok c = record { tables = c.tables; ports = c.ports; messages = every-without_first (message_closed k) _ u.messages c.messages; waits = c.waits; registrations = c.registrations; cuts = c.cuts; threads = c.threads; processes = c.processes; views = c.views }
 keeps-closed k u (TakesConnect q) ok c = record { tables = c.tables; ports = c.ports; messages = every-without_first (message_closed k) _ u.messages c.messages; waits = c.waits; registrations = c.registrations; cuts = c.cuts; threads = c.threads; processes = c.processes; views = c.views }
 keeps-closed k u (Withdraws who) ok c = record { tables = c.tables; ports = c.ports; messages = every-without (message_closed k) (is_own_of who) u.messages c.messages; waits = c.waits; registrations = c.registrations; cuts = c.cuts; threads = c.threads; processes = c.processes; views = c.views }
 keeps-closed k u (Completes b) ok c = record { tables = c.tables; ports = every-change (port_closed k) (is_port b) completed (λ p is. is) u.ports c.ports; messages = c.messages; waits = c.waits; registrations = c.registrations; cuts = every-change (port_cut k) (is_port b) completed (λ p is. is) u.ports c.cuts; threads = c.threads; processes = c.processes; views = c.views }
+keeps-closed k u (Secures b s) ok c = record { tables = c.tables; ports = every-change (port_closed k) (is_port b) (secured s) (λ p is. is) u.ports c.ports; messages = c.messages; waits = c.waits; registrations = c.registrations; cuts = every-change (port_cut k) (is_port b) (secured s) (λ p is. is) u.ports c.cuts; threads = c.threads; processes = c.processes; views = c.views }
 keeps-closed k u (DrawsIdentifier who) ok c = record { tables = c.tables; ports = c.ports; messages = c.messages; waits = c.waits; registrations = all-changed k.ports (is_thread who) past_identifier (λ t is. is) u.threads c.registrations; cuts = c.cuts; threads = every-change (thread_closed k) (is_thread who) past_identifier (λ t is. is) u.threads c.threads; processes = c.processes; views = c.views }
 keeps-closed k u (DrawsOrdinal who) ok c = record { tables = c.tables; ports = c.ports; messages = c.messages; waits = c.waits; registrations = all-changed k.ports (is_thread who) past_ordinal (λ t is. is) u.threads c.registrations; cuts = c.cuts; threads = every-change (thread_closed k) (is_thread who) past_ordinal (λ t is. is) u.threads c.threads; processes = c.processes; views = c.views }
+keeps-closed k u (Acts who own) ok c = record { tables = c.tables; ports = c.ports; messages = c.messages; waits = c.waits; registrations = all-changed k.ports (is_thread who) (acting own) (λ t is. is) u.threads c.registrations; cuts = c.cuts; threads = every-change (thread_closed k) (is_thread who) (acting own) (λ t is. is) u.threads c.threads; processes = c.processes; views = c.views }
 keeps-closed k u (Dies who status) ok c = record { tables = c.tables; ports = c.ports; messages = c.messages; waits = every-without (wait_closed k) (waits_as who) u.waits c.waits; registrations = all-changed k.ports (is_thread who) ended (λ t is. refl) u.threads c.registrations; cuts = c.cuts; threads = every-change (thread_closed k) (is_thread who) ended (λ t is. refl) u.threads c.threads; processes = c.processes; views = c.views }
 keeps-closed k u (Registers who b) ok c = record { tables = c.tables; ports = c.ports; messages = c.messages; waits = c.waits; registrations = all-changed k.ports (is_thread who) (registering b) (registering-all k.ports b ok) u.threads c.registrations; cuts = c.cuts; threads = every-change (thread_closed k) (is_thread who) (registering b) (λ t is. is) u.threads c.threads; processes = c.processes; views = c.views }
 keeps-closed k u (Unregisters who b) ok c = record { tables = c.tables; ports = c.ports; messages = c.messages; waits = c.waits; registrations = all-changed k.ports (is_thread who) (unregistering b) (unregistering-all k.ports b) u.threads c.registrations; cuts = c.cuts; threads = every-change (thread_closed k) (is_thread who) (unregistering b) (λ t is. is) u.threads c.threads; processes = c.processes; views = c.views }
+keeps-closed k u (DropsOwned b) ok c = record { tables = c.tables; ports = c.ports; messages = c.messages; waits = c.waits; registrations = c.registrations; cuts = c.cuts; threads = c.threads; processes = c.processes; views = every-mapped (space_closed k) (without_owned b) (λ t all. every-without (view_closed k) (is_owned_by b) t.rows all) u.views c.views }
 keeps-closed k u (Tells e) ok c = c
 keeps-closed k u (Frees o) ok c = absurd (cc)
 
@@ -315,7 +349,7 @@ pub record Behind (w u : World) : Type 0 where
   pub same : w ≡ thin alive u
   pub closed : Closed alive u
 
--- without a port, a section, a process or a thread
+-- without a port, a section, a token, a process or a thread
 abbrev but_birth : Birth → (Birth → Bool) → Birth → Bool
 but_birth b f x = f x && not (same_birth x b)
 
@@ -324,6 +358,9 @@ but b k = record k { ports = but_birth b k.ports }
 
 abbrev but_section : Birth → Alive → Alive
 but_section b k = record k { sections = but_birth b k.sections }
+
+abbrev but_token : Birth → Alive → Alive
+but_token b k = record k { tokens = but_birth b k.tokens }
 
 abbrev but_process : World → Birth → Alive → Alive
 but_process u b k = record k { processes = but_birth b k.processes; homes = λ n. k.homes n && is_live u n }
@@ -344,6 +381,7 @@ record Unnamed (b : Birth) (w : World) : Type 0 where
   messages : every (λ x. not (is_sent_on b x)) w.messages ≡ true
   waits : every (λ x. not (is_made_on b x)) w.waits ≡ true
   registrations : every (λ c. not (same_birth b c)) (all_registrations w) ≡ true
+  views : every (λ t. every (λ v. not (is_owned_by b v)) t.rows) w.views ≡ true
 
 unnamed-of : (w : World) (b : Birth) → is_unheld w (port_name b) ≡ true → Unnamed b w
 unnamed-of w b none =
@@ -353,18 +391,21 @@ unnamed-of w b none =
     let messages = count (is_sent_on b) w.messages in
     let waits = count (is_made_on b) w.waits in
     let registered = count (same_birth b) (all_registrations w) in
-    let all = is-zero (handles + (pairs + (connections + (messages + (waits + registered))))) none in
-    let two = sum-second handles (pairs + (connections + (messages + (waits + registered)))) all in
-    let three = sum-second pairs (connections + (messages + (waits + registered))) two in
-    let four = sum-second connections (messages + (waits + registered)) three in
-    let five = sum-second messages (waits + registered) four in
+    let owned = count (is_owned_by b) (all_views w) in
+    let all = is-zero (handles + (pairs + (connections + (messages + (waits + (registered + owned)))))) none in
+    let two = sum-second handles (pairs + (connections + (messages + (waits + (registered + owned))))) all in
+    let three = sum-second pairs (connections + (messages + (waits + (registered + owned)))) two in
+    let four = sum-second connections (messages + (waits + (registered + owned))) three in
+    let five = sum-second messages (waits + (registered + owned)) four in
+    let six = sum-second waits (registered + owned) five in
     record {
-      handles = every-each (λ h. not (same_object h.object (port_name b))) (λ t. t.rows) w.handles (none-pass (λ h. same_object h.object (port_name b)) (all_handles w) (sum-first handles (pairs + (connections + (messages + (waits + registered)))) all));
-      pairs = none-pass (is_paired_to b) w.ports (sum-first pairs (connections + (messages + (waits + registered))) two);
-      connections = none-pass (is_connected_to b) w.ports (sum-first connections (messages + (waits + registered)) three);
-      messages = none-pass (is_sent_on b) w.messages (sum-first messages (waits + registered) four);
-      waits = none-pass (is_made_on b) w.waits (sum-first waits registered five);
-      registrations = none-pass (same_birth b) (all_registrations w) (sum-second waits registered five);
+      handles = every-each (λ h. not (same_object h.object (port_name b))) (λ t. t.rows) w.handles (none-pass (λ h. same_object h.object (port_name b)) (all_handles w) (sum-first handles (pairs + (connections + (messages + (waits + (registered + owned))))) all));
+      pairs = none-pass (is_paired_to b) w.ports (sum-first pairs (connections + (messages + (waits + (registered + owned)))) two);
+      connections = none-pass (is_connected_to b) w.ports (sum-first connections (messages + (waits + (registered + owned))) three);
+      messages = none-pass (is_sent_on b) w.messages (sum-first messages (waits + (registered + owned)) four);
+      waits = none-pass (is_made_on b) w.waits (sum-first waits (registered + owned) five);
+      registrations = none-pass (same_birth b) (all_registrations w) (sum-first registered owned six);
+      views = every-each (λ v. not (is_owned_by b v)) (λ (t : ViewTable). t.rows) w.views (none-pass (is_owned_by b) (all_views w) (sum-second registered owned six));
     }
 
 -- a handle to another object
@@ -375,6 +416,10 @@ port-apart k b e x live off = live
 section-apart : (k : Alive) (b : Birth) (s : ObjectKind) (x : Birth) → alive_as k s x ≡ true → not (same_kind s kind.Section && same_birth x b) ≡ true → alive_as (but_section b k) s x ≡ true
 section-apart k b kind.Section x live off = and_from _ _ live off
 section-apart k b e x live off = live
+
+token-apart : (k : Alive) (b : Birth) (s : ObjectKind) (x : Birth) → alive_as k s x ≡ true → not (same_kind s kind.Token && same_birth x b) ≡ true → alive_as (but_token b k) s x ≡ true
+token-apart k b kind.Token x live off = and_from _ _ live off
+token-apart k b e x live off = live
 
 process-apart : (k : Alive) (u : World) (b : Birth) (s : ObjectKind) (x : Birth) → alive_as k s x ≡ true → not (same_kind s kind.Process && same_birth x b) ≡ true → alive_as (but_process u b k) s x ≡ true
 process-apart k u b kind.Process x live off = and_from _ _ live off
@@ -436,7 +481,8 @@ frees-one k u b none lonely c =
       cuts = cut-but k b u.ports lonely c.cuts;
       threads = c.threads;
       processes = c.processes;
-      views = c.views;
+      views = every-both (space_closed k) (λ t. every (λ v. not (is_owned_by b v)) t.rows) (space_closed (but b k))
+          (λ t closed apart. every-both (view_closed k) (λ v. not (is_owned_by b v)) (view_closed (but b k)) (λ v live off. and_from _ _ (first-true _ _ live) (named-off k b v.owner (second-true (k.sections v.section) _ live) off)) t.rows closed apart) u.views c.views n.views;
     }
 
 -- what holds of each row by a number that lives, holds of each row by its own
@@ -518,20 +564,42 @@ frees-thread k u b none c =
 frees-section : (k : Alive) (u : World) (b : Birth) → is_unheld (thin k u) (section_name b) ≡ true → Closed k u → Closed (but_section b k) u
 frees-section k u b none c =
     let v : World = thin k u in
-    let few = sum-second (handle_count v (section_name b)) (count (shows_section b) (all_views v)) (is-zero (handle_count v (section_name b) + count (shows_section b) (all_views v)) none) in
+    let both = sum-second (handle_count v (section_name b)) (count (shows_section b) (all_views v) + count (offers_section b) v.waits) (is-zero (handle_count v (section_name b) + (count (shows_section b) (all_views v) + count (offers_section b) v.waits)) none) in
+    let few = sum-first (count (shows_section b) (all_views v)) (count (offers_section b) v.waits) both in
+    let unoffered = none-pass (offers_section b) v.waits (sum-second (count (shows_section b) (all_views v)) (count (offers_section b) v.waits) both) in
     record {
       tables = tables-off k (but_section b k) (section_name b) u (section-apart k b) (none-handles v (section_name b) none) c.tables;
       ports = c.ports;
       messages = c.messages;
-      waits = c.waits;
+      waits = every-both (wait_closed k) (λ x. not (offers_section b x)) (wait_closed (but_section b k)) (λ x live off. and_from _ _ (first-true _ _ live) (offer-left x (offer_of x) refl (second-true (k.ports x.port) _ live) off)) u.waits c.waits unoffered;
       registrations = c.registrations;
       cuts = c.cuts;
       threads = c.threads;
       processes = c.processes;
       views = every-both (space_closed k) (λ t. every (λ x. not (shows_section b x)) t.rows) (space_closed (but_section b k))
-          (λ t closed apart. every-both (view_closed k) (λ x. not (shows_section b x)) (view_closed (but_section b k)) (λ x live off. and_from _ _ live off) t.rows closed apart) u.views c.views
+          (λ t closed apart. every-both (view_closed k) (λ x. not (shows_section b x)) (view_closed (but_section b k)) (λ x live off. and_from _ _ (and_from _ _ (first-true _ _ live) off) (second-true (k.sections x.section) _ live)) t.rows closed apart) u.views c.views
           (every-each (λ x. not (shows_section b x)) (λ (t : ViewTable). t.rows) u.views (none-pass (shows_section b) (all_views u) few));
     }
+  where
+    offer-left : (x : WaitRow) (o : Option Offer) → offer_of x ≡ o → offer_alive k (offer_of x) ≡ true → not (offers_section b x) ≡ true → offer_alive (but_section b k) (offer_of x) ≡ true
+    offer-left x None its live off = rw its refl
+    offer-left x (Some o) its live off =
+        let alive : k.sections o.section ≡ true = rw its at live in
+        let other : same_birth o.section b ≡ false = not-true (same_birth o.section b) (rw its at off) in
+        rw its (and_from _ _ alive (rw other refl))
+
+frees-token : (k : Alive) (u : World) (b : Birth) → is_unheld (thin k u) (token_name b) ≡ true → Closed k u → Closed (but_token b k) u
+frees-token k u b none c = record {
+  tables = tables-off k (but_token b k) (token_name b) u (token-apart k b) (none-handles (thin k u) (token_name b) none) c.tables;
+  ports = c.ports;
+  messages = c.messages;
+  waits = c.waits;
+  registrations = c.registrations;
+  cuts = c.cuts;
+  threads = c.threads;
+  processes = c.processes;
+  views = c.views;
+}
 
 bytes-but : (k : Alive) (b : Birth) (c : Contents) → in_known (without (is_content b)) (in_known (which (content_alive k)) c) ≡ in_known (which (content_alive (but_section b k))) c
 bytes-but k b Unknown = refl
@@ -560,7 +628,11 @@ behind-one w u o l none r = at o.kind o.birth (subst (λ v. IsLinked v) r.same l
           ∙ ap (λ c. record (thin (but_section b r.alive) u) { contents = c }) (bytes-but r.alive b u.contents);
       closed = frees-section r.alive u b off r.closed;
     }
-    at kind.Token b linked off = r
+    at kind.Token b linked off = record {
+      alive = but_token b r.alive;
+      same = ap (λ v. freed v kind.Token b) r.same ∙ ap (λ ts. record (thin r.alive u) { tokens = ts }) (sym (which-but (token_alive r.alive) (is_token b) u.tokens));
+      closed = frees-token r.alive u b off r.closed;
+    }
     at kind.Process b linked off = record {
       alive = but_process u b r.alive;
       same = ap (λ v. freed v kind.Process b) r.same ∙ ap (λ ps. record (thin r.alive u) { processes = ps }) (sym (which-but (process_alive r.alive) (λ p. same_birth p.birth b) u.processes));

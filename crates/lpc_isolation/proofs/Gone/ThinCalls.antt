@@ -1,7 +1,8 @@
 -- What each call does in a world without some rows that no row names: the same.
-use Rattle.lpc_model.specs.Memory.{section_test}
-use Rattle.std.proofs.Common.{◌≡◌, ℕ, List, [], ◌∷◌, ◌++◌, Bool, true, false, not, Option, Some, None, refl, ap, ◌∙◌, arith}
-use Rattle.std.proofs.lemmas.Bool.{and_from}
+use Rattle.std.specs.Prelude.{◌&&◌, ◌||◌, ◌==◌}
+use Rattle.lpc_model.specs.Memory.{section_test, SECTION_MAP_WRITE}
+use Rattle.std.proofs.Common.{◌≡◌, ℕ, List, [], ◌∷◌, ◌++◌, Bool, true, false, not, Option, Some, None, refl, ap, ◌∙◌, arith, Result, Ok}
+use Rattle.std.proofs.lemmas.Bool.{and_from, eqb-true}
 use Rattle.lpc_base.specs.Rows.{every, first, given}
 use Rattle.lpc_base.proofs.RowWords.{first-passes}
 use Rattle.lpc_base.proofs.RowMaps.{every-first}
@@ -11,17 +12,24 @@ use Rattle.lpc_model.specs.declared.entry.ObjectKind.TheVariants as kind
 use Rattle.lpc_model.specs.declared.message.Message.{Message}
 use Rattle.lpc_model.specs.Message.{asks, message_test}
 use Rattle.lpc_model.specs.Refusal.{found_or, refuse_if}
-use Rattle.lpc_model.specs.World.{Accepted, Birth, Connect, HandleTable, Listen, MessageRow, PortRow, Receive, Request, ThreadRow, WaitKind, WaitRow, World, SectionRow}
-use Rattle.lpc_model.specs.Found.{fits, fitted, handle_at, handles_of, has_value, is_port, is_table, port_row, rows_in, same_kind, is_section, section_row}
-use Rattle.lpc_model.specs.Basics.{Basic}
+use Rattle.lpc_model.specs.World.{Accepted, Birth, Connect, HandleTable, Listen, MessageRow, PortRow, Receive, Request, ThreadRow, WaitKind, WaitRow, World, SectionRow, Offer, ViewRow, Dacl, Qos, ProcessRow}
+use Rattle.lpc_model.specs.Found.{fits, fitted, handle_at, handles_of, has_value, is_port, is_table, port_row, rows_in, same_kind, is_section, section_row, offer_of, token_of, token_in, is_process, is_live_thread, live_thread}
+use Rattle.lpc_model.specs.Basics.{Basic, world_after}
 use Rattle.lpc_model.specs.Entering.{enter, given_steps, shown, takes, woken}
-use Rattle.lpc_model.specs.Tests.{includes, object_test, own_handle, port_test}
-use Rattle.lpc_model.specs.Connect.{answer_test, nt_accept_connect_port, nt_complete_connect_port, nt_connect_port, nt_create_port, nt_listen_port}
+use Rattle.lpc_model.specs.Tests.{includes, object_test, own_handle, port_test, next_birth, handles_test}
+use Rattle.lpc_model.specs.Connect.{answer_test, nt_accept_connect_port, nt_complete_connect_port, nt_connect_port, nt_create_port, nt_listen_port, connect_steps, connection_request, info_test, access_test, allow_steps}
 use Rattle.lpc_model.specs.Request.{given_reply, nt_reply_port, nt_reply_wait_receive_port, nt_request_port, nt_request_wait_reply_port, optional_message, receive_test}
 use Rattle.lpc_model.proofs.Calls.Holding.{Holds, bind_holds, found_holds, found_ok, holds_ok, not_refused}
 use Rattle.lpc_isolation.proofs.Views.Seen.{bind-same}
-use Rattle.lpc_isolation.proofs.Views.Filters.{first-inside}
-use Rattle.lpc_isolation.proofs.Gone.Thin.{client-thin, Alive, Closed, all_alive, handle_closed, is_closed, message_closed, port_alive, port_closed, table_closed, thin, wait_closed, port-live, section-live-as, section_alive}
+use Rattle.lpc_isolation.proofs.Views.Filters.{first-inside, first-agree}
+use Rattle.lpc_isolation.proofs.Gone.Thin.{client-thin, Alive, Closed, all_alive, handle_closed, is_closed, message_closed, port_alive, port_closed, table_closed, thin, wait_closed, port-live, section-live-as, section_alive, process_closed, process_alive, thread_closed}
+use Rattle.lpc_base.proofs.Bools.{first-true, second-true}
+use Rattle.lpc_model.specs.Lines.{}
+use Rattle.lpc_model.specs.Offers.{if_given, shared_test, view_test, wanted_test, mapped, offer_test, server_views}
+use Rattle.lpc_base.specs.declared.status.Status.{Status}
+use Rattle.lpc_model.specs.Then.{◌>>=◌}
+use Rattle.lpc_model.specs.declared.line.ViewWord.{ViewWord}
+use Rattle.lpc_model.specs.Named.{named_port}
 
 -- Look-ups
 pub row-thin : (k : Alive) (u : World) (b : Birth) → k.ports b ≡ true → port_row (thin k u) b ≡ port_row u b
@@ -94,7 +102,7 @@ first-same p f g same [] all = refl
 first-same p f g same (x ∷ xs) all = grind (arith, same x, first-same p f g same xs)
 
 pub fitted-thin : (k : Alive) (u : World) (port : Birth) (m : Message) → Closed k u → fitted (thin k u) port m ≡ fitted u port m
-fitted-thin k u port m c = first-same (wait_closed k) (fits (thin k u) port m) (fits u port m) (λ x closed. rw (row-thin k u x.port closed) refl) u.waits c.waits
+fitted-thin k u port m c = first-same (wait_closed k) (fits (thin k u) port m) (fits u port m) (λ x closed. rw (row-thin k u x.port (first-true _ _ closed)) refl) u.waits c.waits
 
 -- What enters
 abbrev pub AreClosed : Alive → List Basic → Type 0
@@ -107,8 +115,8 @@ given-closed k x y Receive true is asked = rw (is, asked) refl
 given-closed k x y Receive false is asked = rw (is, asked) refl
 given-closed k x y Listen true is asked = rw (is, asked) refl
 given-closed k x y Listen false is asked = rw (is, asked) refl
-given-closed k x y (Connect a) true is asked = rw (is, asked) refl
-given-closed k x y (Connect a) false is asked = rw (is, asked) refl
+given-closed k x y (Connect a offer) true is asked = rw (is, asked) refl
+given-closed k x y (Connect a offer) false is asked = rw (is, asked) refl
 given-closed k x y (Accepted a r) true is asked = rw (is, asked) refl
 given-closed k x y (Accepted a r) false is asked = rw (is, asked) refl
 
@@ -120,14 +128,44 @@ pub enter-closed : (k : Alive) (u : World) (x : MessageRow) → message_closed k
 enter-closed k u x ok = and_from _ _ ok (entered-closed k x (first (takes x) u.waits))
 
 -- Each call answers alike
-pub create-thin : (k : Alive) (u : World) (by : ThreadRow) (name : Option (List ℕ)) → nt_create_port (thin k u) by name ≡ nt_create_port u by name
+pub create-thin : (k : Alive) (u : World) (by : ThreadRow) (name : Option (List ℕ)) (dacl : Option Dacl) → nt_create_port (thin k u) by name dacl ≡ nt_create_port u by name dacl
 unfolding nt_create_port
-create-thin k u by None = refl
-create-thin k u by (Some name) = refl
+create-thin k u by None dacl = refl
+create-thin k u by (Some name) dacl = refl
 
-pub connect-thin : (k : Alive) (u : World) (by : ThreadRow) (name bytes : List ℕ) → nt_connect_port (thin k u) by name bytes ≡ nt_connect_port u by name bytes
+pub given-same : {A B : Type 0} (f g : A → Result B Status) → ((x : A) → f x ≡ g x) → (o : Option A) → if_given f o ≡ if_given g o
+given-same f g same None = refl
+given-same f g same (Some x) = rw (same x) refl
+
+wanted-thin : (k : Alive) (u : World) (by : ThreadRow) (view : Option ViewWord) → Closed k u → if_given (wanted_test (thin k u) by) view ≡ if_given (wanted_test u by) view
+wanted-thin k u by view c = given-same (wanted_test (thin k u) by) (wanted_test u by) (λ word. rw (section-thin k u by SECTION_MAP_WRITE word.handle c) refl) view
+
+-- the process of a live thread stands, so its token is found
+home-token : (k : Alive) (u : World) (pid : ℕ) → k.homes pid ≡ true → Closed k u → token_of (thin k u) pid ≡ token_of u pid
+home-token k u pid home c = ap token_in (first-agree (process_closed k) (process_alive k) (is_process pid) (is_process pid) (λ p closed. at p closed (p.number == pid) refl) u.processes c.processes)
+  where
+    held : (e a : Bool) → e ≡ true → (not e || a) ≡ true → a ≡ true
+    held e a is ok = grind arith
+
+    at : (p : ProcessRow) → process_closed k p ≡ true → (e : Bool) → (p.number == pid) ≡ e → (p.number == pid) ≡ (k.processes p.birth && (p.number == pid))
+    at p closed true is = let alive : k.processes p.birth ≡ true = held (k.homes p.number) (k.processes p.birth) (ap k.homes (eqb-true p.number pid is) ∙ home) closed in rw (alive, is) refl
+    at p closed false is = grind arith
+
+pub token-thin : (k : Alive) (u : World) (by : ThreadRow) → live_thread u by.number ≡ Some by → Closed k u → token_of (thin k u) by.process ≡ token_of u by.process
+token-thin k u by live c =
+    let passed : is_live_thread by.number by ≡ true = first-passes (is_live_thread by.number) u.threads by live in
+    home-token k u by.process (last by.live (k.threads by.birth) (k.homes by.process) (second-true (by.number == by.number) by.live passed) (every-first (thread_closed k) (is_live_thread by.number) u.threads by c.threads live)) c
+  where
+    last : (l a h : Bool) → l ≡ true → (not l || (a && h)) ≡ true → h ≡ true
+    last l a h is it = grind arith
+
+pub connect-thin : (k : Alive) (u : World) (by : ThreadRow) (name : List ℕ) (quality : Qos) (view : Option ViewWord) (bytes : List ℕ) → live_thread u by.number ≡ Some by → ((q : Birth) → named_port u name ≡ Ok q → k.ports q ≡ true) → Closed k u → nt_connect_port (thin k u) by name quality view bytes ≡ nt_connect_port u by name quality view bytes
 unfolding nt_connect_port
-connect-thin k u by name bytes = refl
+connect-thin k u by name quality view bytes live lives c = rw (wanted-thin k u by view c, token-thin k u by live c) (bind-same (if_given (wanted_test u by) view) _ _ (λ wanted _. bind-same (info_test bytes) _ _ (λ _ _. bind-same (if_given offer_test wanted) _ _ (λ offer _.
+    bind-same (named_port u name) _ _ (λ q at. rw (row-thin k u q (lives q at)) (bind-same (access_test u by q) _ _ (λ _ _. bind-same (handles_test u by.process 1) _ _ (λ _ _. given-alike offer q (if_given (view_test u by.process (next_birth by)) offer) (given-same (view_test (thin k u) by.process (next_birth by)) (view_test u by.process (next_birth by)) (λ o. refl) offer)))))))))
+  where
+    given-alike : (offer : Option Offer) (q : Birth) (r : Result (Option ViewRow) Status) → if_given (view_test (thin k u) by.process (next_birth by)) offer ≡ r → (if_given (view_test (thin k u) by.process (next_birth by)) offer >>= (λ own. Ok (connect_steps by q offer own (connection_request by offer bytes) (thin k u) ++ allow_steps u by quality))) ≡ (r >>= (λ own. Ok (connect_steps by q offer own (connection_request by offer bytes) u ++ allow_steps u by quality)))
+    given-alike offer q r same = rw same refl
 
 pub listen-thin : (k : Alive) (u : World) (by : ThreadRow) (handle : ℕ) → Closed k u → nt_listen_port (thin k u) by handle ≡ nt_listen_port u by handle
 unfolding nt_listen_port
@@ -136,10 +174,29 @@ listen-thin k u by handle c = rw (port-thin k u by handle c) refl
 answer-thin : (k : Alive) (u : World) (by : ThreadRow) (bytes : List ℕ) → Closed k u → answer_test (thin k u) by bytes ≡ answer_test u by bytes
 answer-thin k u by bytes c = bind-same (message_test bytes) _ _ (λ m _. rw (client-thin k u m.header.client c) refl)
 
-pub accept-thin : (k : Alive) (u : World) (by : ThreadRow) (context : ℕ) (bytes : List ℕ) (accept : Bool) → Closed k u → nt_accept_connect_port (thin k u) by context bytes accept ≡ nt_accept_connect_port u by context bytes accept
+shared-thin : (k : Alive) (u : World) (by : ThreadRow) (x : WaitRow) (offer : Option Offer) → shared_test (thin k u) by x offer ≡ shared_test u by x offer
+shared-thin k u by x offer =
+    rw (given-same (view_test (thin k u) by.process (next_birth by)) (view_test u by.process (next_birth by)) (λ o. refl) offer) (bind-same (if_given (view_test u by.process (next_birth by)) offer) _ _ (λ own _.
+    rw (given-same (view_test (world_after (thin k u) (mapped by.process own)) by.process (next_birth by)) (view_test (world_after u (mapped by.process own)) by.process (next_birth by)) (λ o. one own o) (offer_of x))
+    (bind-same (if_given (view_test (world_after u (mapped by.process own)) by.process (next_birth by)) (offer_of x)) _ _ (λ theirs _.
+    rw (given-same (view_test (world_after (thin k u) (server_views by own theirs)) x.process x.port) (view_test (world_after u (server_views by own theirs)) x.process x.port) (λ o. two own theirs o) offer) refl))))
+  where
+    one : (own : Option ViewRow) (o : Offer) → view_test (world_after (thin k u) (mapped by.process own)) by.process (next_birth by) o ≡ view_test (world_after u (mapped by.process own)) by.process (next_birth by) o
+    one None o = refl
+    one (Some v) o = refl
+
+    two : (own theirs : Option ViewRow) (o : Offer) → view_test (world_after (thin k u) (server_views by own theirs)) x.process x.port o ≡ view_test (world_after u (server_views by own theirs)) x.process x.port o
+    two None None o = refl
+    two None (Some b) o = refl
+    two (Some a) None o = refl
+    two (Some a) (Some b) o = refl
+
+pub accept-thin : (k : Alive) (u : World) (by : ThreadRow) (context : ℕ) (bytes : List ℕ) (accept : Bool) (view : Option ViewWord) → Closed k u → nt_accept_connect_port (thin k u) by context bytes accept view ≡ nt_accept_connect_port u by context bytes accept view
 unfolding nt_accept_connect_port
-accept-thin k u by context bytes true c = rw (answer-thin k u by bytes c) refl
-accept-thin k u by context bytes false c = rw (answer-thin k u by bytes c) refl
+accept-thin k u by context bytes true view c =
+    rw (wanted-thin k u by view c, answer-thin k u by bytes c) (bind-same (if_given (wanted_test u by) view) _ _ (λ wanted _. bind-same (answer_test u by bytes) _ _ (λ a _. bind-same (if_given offer_test wanted) _ _ (λ offer _.
+    bind-same (handles_test u by.process 1) _ _ (λ _ _. rw (shared-thin k u by a.wait offer) refl)))))
+accept-thin k u by context bytes false view c = rw (answer-thin k u by bytes c) refl
 
 pub complete-thin : (k : Alive) (u : World) (by : ThreadRow) (handle : ℕ) → Closed k u → nt_complete_connect_port (thin k u) by handle ≡ nt_complete_connect_port u by handle
 unfolding nt_complete_connect_port

@@ -1,18 +1,20 @@
 -- Each line keeps it that the bytes that are known are right.
+use Rattle.lpc_base.specs.declared.status.TheConstants.{OBJECT_NAME_COLLISION}
+use Rattle.lpc_model.specs.Refusal.{refuse_if}
 use Rattle.lpc_isolation.proofs.Rows.Paths.{paths-ways}
 use Rattle.lpc_isolation.proofs.Views.Mine.{Ways}
 use Rattle.lpc_isolation.proofs.Views.Reads.{FineLine}
 use Rattle.std.proofs.Common.{◌≡◌, ℕ, List, [], ◌++◌, Bool, true, false, cond, Option, Some, None, refl, ap, sym, subst, ◌∙◌}
-use Rattle.std.specs.Prelude.{Result, Ok, Err, is_none}
+use Rattle.std.specs.Prelude.{Result, Ok, Err, is_none, is_some}
 use Rattle.lpc_base.specs.Rows.{given, which}
 use Rattle.lpc_base.specs.declared.status.Status.{Status}
 use Rattle.lpc_model.specs.declared.entry.Entry.{Entry}
 use Rattle.lpc_model.specs.declared.entry.Word.TheVariants as word
-use Rattle.lpc_model.specs.World.{Birth, Contents, ThreadRow, WaitRow, World}
-use Rattle.lpc_model.specs.Found.{live_thread, wait_of}
+use Rattle.lpc_model.specs.World.{Birth, Contents, ThreadRow, WaitRow, World, Token}
+use Rattle.lpc_model.specs.Found.{live_thread, wait_of, named_token}
 use Rattle.lpc_model.specs.Basics.{Basic, world_after}
-use Rattle.lpc_model.specs.Lines.{ScriptCall, ScriptLine, boot, dir, link, run, thread}
-use Rattle.lpc_model.specs.Machine.{bare_steps, boot_line, dir_line, link_line, name_of_call, settled, thread_line, thread_test, unused_test}
+use Rattle.lpc_model.specs.Lines.{ScriptCall, ScriptLine, boot, dir, link, run, thread, token}
+use Rattle.lpc_model.specs.Machine.{bare_steps, boot_line, dir_line, link_line, name_of_call, settled, thread_line, thread_test, unused_test, boot_token, token_line, boot_steps}
 use Rattle.lpc_model.specs.Named.{free_name, spelled_name}
 use Rattle.lpc_model.proofs.Calls.Holding.{Holds, bind_holds, directed_holds, holds_ok}
 use Rattle.lpc_model.specs.Circle.{Group, Item, Whose, is_seen, line_whose, owner, thread_whose}
@@ -162,9 +164,13 @@ module _ (m : Group) (c : ℕ) (outer : Birth → Bool) (w : World) (t : List He
 abbrev Still : World → List Basic → Type 0
 Still w bs = (world_after w bs).contents ≡ w.contents
 
-boot-still : (w : World) (pid tid : ℕ) → Still w (served_steps (boot pid tid) w)
+boot-still : (w : World) (pid tid : ℕ) (name : Option (List ℕ)) → Still w (served_steps (boot pid tid name) w)
 unfolding bare_steps boot_line
-boot-still w pid tid = directed_holds (Still w) word.Boot (boot_line w pid tid) (bind_holds (unused_test w pid tid) _ (Still w) (λ _ _. refl)) (λ _. refl)
+boot-still w pid tid name = directed_holds (Still w) word.Boot (boot_line w pid tid name) (bind_holds (boot_token w name) _ (Still w) (λ _ _. bind_holds (unused_test w pid tid) _ (Still w) (λ _ _. refl))) (λ _. refl)
+
+token-still : (w : World) (name : List ℕ) (content : Token) → Still w (served_steps (token name content) w)
+unfolding bare_steps token_line
+token-still w name content = directed_holds (Still w) word.Token (token_line w name content) (bind_holds (refuse_if (is_some (named_token w name)) OBJECT_NAME_COLLISION) _ (Still w) (λ _ _. refl)) (λ _. refl)
 
 thread-still : (w : World) (tid pid : ℕ) → Still w (served_steps (thread tid pid) w)
 unfolding bare_steps thread_line
@@ -189,7 +195,8 @@ line-bytes_known m c outer w t k (run tid call) c_in st fine next ok shows apart
   hides = λ out. agree-outside m c (served_step w (run tid call)).world (thread_whose w tid) outer k w (served_steps (run tid call) w) ((owes-line m c w (record { seen = view m w; memo = t; bytes = k }) tid call c_in st fine next ok).apart out) (apart.writes out) a;
   shows = λ seen is. run-visible m c outer w t k tid call c_in st fine next ok shows a seen is;
 }
-line-bytes_known m c outer w t k (boot pid tid) c_in st fine next ok shows apart a = let same = to-world m outer k w.contents _ (boot-still w pid tid) a in record { hides = λ _. same; shows = λ _ _. same }
+line-bytes_known m c outer w t k (boot pid tid name) c_in st fine next ok shows apart a = let same = to-world m outer k w.contents _ (boot-still w pid tid name) a in record { hides = λ _. same; shows = λ _ _. same }
+line-bytes_known m c outer w t k (token name content) c_in st fine next ok shows apart a = let same = to-world m outer k w.contents _ (token-still w name content) a in record { hides = λ _. same; shows = λ _ _. same }
 line-bytes_known m c outer w t k (thread tid pid) c_in st fine next ok shows apart a = let same = to-world m outer k w.contents _ (thread-still w tid pid) a in record { hides = λ _. same; shows = λ _ _. same }
 line-bytes_known m c outer w t k (dir path) c_in st fine next ok shows apart a = let same = to-world m outer k w.contents _ (dir-still w path) a in record { hides = λ _. same; shows = λ _ _. same }
 line-bytes_known m c outer w t k (link path target) c_in st fine next ok shows apart a = let same = to-world m outer k w.contents _ (link-still w path target) a in record { hides = λ _. same; shows = λ _ _. same }

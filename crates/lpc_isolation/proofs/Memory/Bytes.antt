@@ -8,7 +8,7 @@ use Rattle.lpc_base.specs.declared.status.TheConstants.{ACCESS_VIOLATION}
 use Rattle.lpc_base.specs.declared.status.Status.{Status}
 use Rattle.lpc_model.specs.Refusal.{refuse_if}
 use Rattle.lpc_model.specs.Ranges.{Described, described_test, nt_write_request_data}
-use Rattle.lpc_isolation.proofs.Each.Mappings.{holding-view}
+use Rattle.lpc_isolation.proofs.Views.Places.{holding-view}
 use Rattle.lpc_model.specs.Memory.{new_section, place_in}
 use Rattle.std.proofs.Common.{◌≡◌, ℕ, Bool, List, [], true, cond, ◌∷◌, Option, Some, None, subst, sym, false, not, refl, ap, ◌∙◌}
 use Rattle.std.specs.Prelude.{is_none, length, option_map, Result, Ok}

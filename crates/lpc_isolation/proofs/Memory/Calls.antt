@@ -12,7 +12,7 @@ use Rattle.lpc_message.specs.declared.kind.TheConstants.{DATAGRAM, REQUEST}
 use Rattle.lpc_model.specs.declared.entry.Entry.TheVariants as entry
 use Rattle.lpc_model.specs.declared.message.Message.{Message}
 use Rattle.lpc_model.specs.Message.{asks}
-use Rattle.lpc_model.specs.World.{Birth, Listen, MessageRow, PortRow, Receive, ThreadRow, WaitKind, WaitRow, World}
+use Rattle.lpc_model.specs.World.{Birth, Listen, MessageRow, PortRow, Receive, ThreadRow, WaitKind, WaitRow, World, Offer, ViewRow}
 use Rattle.lpc_model.specs.Found.{fits, is_accepted, is_offered, is_request, same_birth, wait_of, waits_as}
 use Rattle.lpc_model.specs.Basics.{Awaits, Basic, entries_of, world_after}
 use Rattle.lpc_model.specs.Entering.{enter, given_steps, row_of, shown, take_connect_steps, take_steps, takes, woken}
@@ -96,14 +96,14 @@ request-sent m c u w by p q a k = record {
   on = λ asked. every-push (is_on by.number q) w.waits (request_wait by p.birth q (sent_by by REQUEST a)) (idle-on w by.number q k.idle) (rw (birth-self q) (grind arith));
 }
 
-pub connect-sent : (m : Group) (c : ℕ) (u w : World) (by : ThreadRow) (q : Birth) (bytes : List ℕ) → Caller m c u w by → Sent w by (starting by q bytes) (row by q bytes)
-connect-sent m c u w by q bytes k = record {
+pub connect-sent : (m : Group) (c : ℕ) (u w : World) (by : ThreadRow) (q : Birth) (offer : Option Offer) (own : Option ViewRow) (bytes : List ℕ) → Caller m c u w by → Sent w by (starting by q offer own bytes) (row by q offer own bytes)
+connect-sent m c u w by q offer own bytes k = record {
   begins = λ m memo. refl;
-  takers = first-push_off (takes (row by q bytes)) w.waits (connect_wait by q (connection_request by bytes)) refl;
+  takers = first-push_off (takes (row by q offer own bytes)) w.waits (connect_wait by q offer (connection_request by offer bytes)) refl;
   sender = refl;
   sort = refl;
-  own = every-push (is_by by.number by.process) w.waits (connect_wait by q (connection_request by bytes)) (idle-by w by.number by.process k.idle) (rw (same-number by.process) (grind arith));
-  on = λ asked. every-push (is_on by.number q) w.waits (connect_wait by q (connection_request by bytes)) (idle-on w by.number q k.idle) (rw (birth-self q) (grind arith));
+  own = every-push (is_by by.number by.process) w.waits (connect_wait by q offer (connection_request by offer bytes)) (idle-by w by.number by.process k.idle) (rw (same-number by.process) (grind arith));
+  on = λ asked. every-push (is_on by.number q) w.waits (connect_wait by q offer (connection_request by offer bytes)) (idle-on w by.number q k.idle) (rw (birth-self q) (grind arith));
 }
 
 -- by an outsider: what is remembered once the line's wakes are told

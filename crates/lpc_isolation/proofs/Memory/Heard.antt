@@ -19,7 +19,7 @@ use Rattle.lpc_model.specs.World.{Birth, MessageRow, PortRow, ThreadRow, UsedThr
 use Rattle.lpc_model.specs.Found.{is_listen, is_receive, live_thread, queue_of, wait_of, waits_as}
 use Rattle.lpc_model.specs.Basics.{Basic, entries_of, told}
 use Rattle.lpc_model.specs.Tests.{port_test}
-use Rattle.lpc_model.specs.Lines.{ScriptCall, ScriptLine, boot, dir, link, listen_port, reply_wait_receive_port, run, thread}
+use Rattle.lpc_model.specs.Lines.{ScriptCall, ScriptLine, boot, dir, link, listen_port, reply_wait_receive_port, run, thread, token}
 use Rattle.lpc_model.specs.Circle.{Group, Item}
 use Rattle.lpc_isolation.proofs.Views.View.{our_wait, view}
 use Rattle.lpc_isolation.proofs.Rows.Fair.{is_sent}
@@ -104,7 +104,8 @@ caller_memo m c v call e memo (Some by) = cond (by.process == c) memo (call_memo
 
 abbrev pub line_memo : Group → ℕ → World → List Heard → ScriptLine → List Item → List Heard
 line_memo m c v memo (run tid call) is = caller_memo m c v call (next_entry is) memo (live_thread v tid)
-line_memo m c v memo (boot pid tid) is = memo
+line_memo m c v memo (boot pid tid name) is = memo
+line_memo m c v memo (token name content) is = memo
 line_memo m c v memo (thread tid pid) is = memo
 line_memo m c v memo (dir path) is = memo
 line_memo m c v memo (link path target) is = memo

@@ -12,7 +12,7 @@ use Rattle.lpc_base.specs.declared.status.TheConstants.{REPLY_MESSAGE_MISMATCH}
 use Rattle.lpc_model.specs.declared.message.Message.{Message}
 use Rattle.lpc_model.specs.Message.{message_test}
 use Rattle.lpc_model.specs.Refusal.{found_or}
-use Rattle.lpc_model.specs.World.{Accepted, Birth, Connect, Listen, Receive, Request, ThreadRow, WaitKind, WaitRow, World}
+use Rattle.lpc_model.specs.World.{Accepted, Birth, Connect, Listen, Receive, Request, ThreadRow, WaitKind, WaitRow, World, Acceptance}
 use Rattle.lpc_model.specs.Found.{is_offered, is_the, no_birth, waits_as, waits_at}
 use Rattle.lpc_model.specs.Basics.{Accepts, Awaits, Basic, Frees, Receives, Wakes, accepted, basic, received, world_after, Dies}
 use Rattle.lpc_model.specs.Tests.{client_test}
@@ -45,11 +45,11 @@ abbrev pub are_known : Group → List Heard → World → List Basic → Bool
 are_known m memo w [] = true
 are_known m memo w (b ∷ bs) = keeps_known m memo w b && are_known m memo (basic w b) bs
 
-accepted-known : (m : Group) (memo : List Heard) (reply : List ℕ) (x : WaitRow) (sort : WaitKind) → x.kind ≡ sort → is_known m memo x ≡ true → is_known m memo (accepted reply x) ≡ true
+accepted-known : (m : Group) (memo : List Heard) (reply : Acceptance) (x : WaitRow) (sort : WaitKind) → x.kind ≡ sort → is_known m memo x ≡ true → is_known m memo (accepted reply x) ≡ true
 accepted-known m memo reply x (Request a) is known = rw is refl
 accepted-known m memo reply x Receive is known = rw is refl
 accepted-known m memo reply x Listen is known = rw is refl
-accepted-known m memo reply x (Connect a) is known = rw is refl
+accepted-known m memo reply x (Connect a offer) is known = rw is refl
 accepted-known m memo reply x (Accepted a r) is known = rw is refl
 
 basic-known : (m : Group) (memo : List Heard) (w : World) (b : Basic) → keeps_known m memo w b ≡ true → AllKnown m memo w → AllKnown m memo (basic w b)

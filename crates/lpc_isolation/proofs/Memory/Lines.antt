@@ -1,20 +1,22 @@
 -- Each line keeps it that what is remembered of outsiders' connects is right.
+use Rattle.lpc_base.specs.declared.status.TheConstants.{OBJECT_NAME_COLLISION}
+use Rattle.lpc_model.specs.Refusal.{refuse_if}
 use Rattle.lpc_isolation.proofs.Views.Reads.{FineLine}
 use Rattle.lpc_isolation.proofs.Calls.Services.{lawful}
 use Rattle.std.proofs.Common.{◌≡◌, ℕ, List, [], ◌∷◌, ◌++◌, Bool, true, false, cond, Option, Some, None, refl, ap, sym, subst, ◌∙◌}
-use Rattle.std.specs.Prelude.{◌==◌, Result, Ok, Err}
+use Rattle.std.specs.Prelude.{◌==◌, Result, Ok, Err, is_some}
 use Rattle.lpc_base.specs.Rows.{every}
 use Rattle.lpc_base.specs.declared.status.Status.{Status}
 use Rattle.lpc_base.proofs.RowWords.{every-more, every-which}
 use Rattle.lpc_model.specs.declared.entry.Entry.{Entry}
 use Rattle.lpc_model.specs.declared.entry.Entry.TheVariants as entry
 use Rattle.lpc_model.specs.declared.entry.Word.TheVariants as word
-use Rattle.lpc_model.specs.World.{Contents, ThreadRow, WaitRow, World}
-use Rattle.lpc_model.specs.Found.{live_thread, wait_of}
+use Rattle.lpc_model.specs.World.{Contents, ThreadRow, WaitRow, World, Token}
+use Rattle.lpc_model.specs.Found.{live_thread, wait_of, named_token}
 use Rattle.lpc_model.specs.Basics.{Basic, Tells, world_after}
 use Rattle.lpc_model.specs.Named.{free_name, spelled_name}
-use Rattle.lpc_model.specs.Lines.{ScriptCall, ScriptLine, boot, dir, link, run, thread}
-use Rattle.lpc_model.specs.Machine.{bare_steps, boot_line, dir_line, link_line, name_of_call, settled, thread_line, thread_test, unused_test}
+use Rattle.lpc_model.specs.Lines.{ScriptCall, ScriptLine, boot, dir, link, run, thread, token}
+use Rattle.lpc_model.specs.Machine.{bare_steps, boot_line, dir_line, link_line, name_of_call, settled, thread_line, thread_test, unused_test, boot_token, token_line, boot_steps}
 use Rattle.lpc_isolation.proofs.Gone.Served.{served, served_step, served_steps}
 use Rattle.lpc_model.proofs.Calls.Holding.{bind_holds, directed_holds, holds_ok}
 use Rattle.lpc_model.specs.Circle.{Group, Item, Whose, is_seen, line_whose, owner, thread_whose}
@@ -22,7 +24,7 @@ use Rattle.lpc_isolation.proofs.Views.Alone.{HasFineRows, alone}
 use Rattle.lpc_isolation.proofs.Views.View.{view}
 use Rattle.lpc_isolation.proofs.Views.Seen.{live-owner, live-view}
 use Rattle.lpc_isolation.proofs.Views.Apart.{Owned}
-use Rattle.lpc_isolation.proofs.Plays.Play.{absorbed, is_told_input, told_at, told_items}
+use Rattle.lpc_isolation.proofs.Plays.Play.{absorbed, is_told_input, told_at, told_items, gave_items, given_at}
 use Rattle.lpc_isolation.proofs.Plays.Lines.{OnceUsed, Owes, is_done, next_entry, turned}
 use Rattle.lpc_isolation.proofs.Calls.Lines.{busy, called, nobody, owner-in}
 use Rattle.lpc_isolation.proofs.Each.Listens.{own_entry}
@@ -36,7 +38,7 @@ use Rattle.lpc_isolation.proofs.Plays.Stands.{State, Stood, absorbed-memo, owes-
 -- what a line that the group doesn't see leaves remembered, and one that it sees, is right
 pub record Known (m : Group) (c : ℕ) (w : World) (t : List Heard) (k : Contents) (line : ScriptLine) : Type 0 where
   pub hides : is_seen m (line_whose w line) ≡ false → AllKnown m (absorbed (player m c) (record { seen = view m w; memo = t; bytes = k }) (told_at m c w line)).memo (served_step w line).world
-  pub shows : is_seen m (line_whose w line) ≡ true → (is : List Item) → AllKnown m (absorbed (player m c) ((player m c).after (record { seen = view m w; memo = t; bytes = k }) line (told_items (told_at m c w line) ++ is)) (told_at m c w line)).memo (served_step w line).world
+  pub shows : is_seen m (line_whose w line) ≡ true → (is : List Item) → AllKnown m (absorbed (player m c) ((player m c).after (record { seen = view m w; memo = t; bytes = k }) line (told_items (told_at m c w line) ++ (gave_items (given_at m c w line) ++ is))) (told_at m c w line)).memo (served_step w line).world
 
 -- A call
 module _ (m : Group) (c : ℕ) (w : World) (t : List Heard) (k : Contents) (tid : ℕ) (call : ScriptCall) (c_in : m c ≡ true) (st : Stood m c w (record { seen = view m w; memo = t; bytes = k })) (fine : HasFineRows m c w) (next : HasFineRows m c (served_step w (run tid call)).world) where
@@ -129,14 +131,14 @@ module _ (m : Group) (c : ℕ) (w : World) (t : List Heard) (k : Contents) (tid 
         shows = λ seen is. shown o seen is;
       }
     where
-      shown : Owes (leading m (known_queue t) k) m c w tid call → is_seen m (thread_whose w tid) ≡ true → (is : List Item) → AllKnown m (absorbed (player m c) ((player m c).after s (run tid call) (told_items (told_at m c w (run tid call)) ++ is)) (told_at m c w (run tid call))).memo (served_step w (run tid call)).world
+      shown : Owes (leading m (known_queue t) k) m c w tid call → is_seen m (thread_whose w tid) ≡ true → (is : List Item) → AllKnown m (absorbed (player m c) ((player m c).after s (run tid call) (told_items (told_at m c w (run tid call)) ++ (gave_items (given_at m c w (run tid call)) ++ is))) (told_at m c w (run tid call))).memo (served_step w (run tid call)).world
       shown o seen is =
           let u : World = (served_step w (run tid call)).world in
-          let items : List Item = told_items (told_at m c w (run tid call)) ++ is in
+          let items : List Item = told_items (told_at m c w (run tid call)) ++ (gave_items (given_at m c w (run tid call)) ++ is) in
           let told : List Entry = told_at m c w (run tid call) in
           let after : played_view m c s (run tid call) items ≡ view m u = (turned (leading m (known_queue t) k) m c w tid call is o st.kept.once seen).world in
           let silent : every (is_silent (view m u)) told ≡ true = every-which (is_silent (view m u)) (is_told_input m c u (thread_whose w tid)) (served_step w (run tid call)).entries (every-more (is_done u) (is_silent (view m u)) (done-silent m u) (served_step w (run tid call)).entries o.done) in
-          let noted : line_memo m c (view m w) t (run tid call) items ≡ caller_memo m c (view m w) call (own_entry (served_steps (run tid call) w)) t (live_thread w tid) = noted-next is o seen in
+          let noted : line_memo m c (view m w) t (run tid call) items ≡ caller_memo m c (view m w) call (own_entry (served_steps (run tid call) w)) t (live_thread w tid) = noted-next (gave_items (given_at m c w (run tid call)) ++ is) o seen in
           subst (λ memo. AllKnown m memo u)
           (sym (absorbed-memo m c ((player m c).after s (run tid call) items) told
           ∙ ap (λ v. entries_memo m v (line_memo m c (view m w) t (run tid call) items) told) after
@@ -157,14 +159,18 @@ directive-known m c w t k line none all plain =
     record {
       hides = λ out. subst (λ memo. AllKnown m memo u) (sym (absorbed-memo m c (record { seen = view m w; memo = t; bytes = k }) told ∙ entries-silent m (view m w) t told (silent (view m w)))) behind;
       shows = λ seen is.
-          let items : List Item = told_items told ++ is in
+          let items : List Item = told_items told ++ (gave_items (given_at m c w line) ++ is) in
           let after : State = (player m c).after (record { seen = view m w; memo = t; bytes = k }) line items in
           subst (λ memo. AllKnown m memo u) (sym (absorbed-memo m c after told ∙ entries-silent m after.seen after.memo told (silent after.seen) ∙ none items)) behind;
     }
 
-boot-plain : (m : Group) (t : List Heard) (w : World) (pid tid : ℕ) → Plain m t w (served_steps (boot pid tid) w)
+boot-plain : (m : Group) (t : List Heard) (w : World) (pid tid : ℕ) (name : Option (List ℕ)) → Plain m t w (served_steps (boot pid tid name) w)
 unfolding bare_steps boot_line
-boot-plain m t w pid tid = directed_holds (Plain m t w) word.Boot (boot_line w pid tid) (bind_holds (unused_test w pid tid) _ (Plain m t w) (λ _ _. (refl, λ v. refl))) (λ _. (refl, λ v. refl))
+boot-plain m t w pid tid name = directed_holds (Plain m t w) word.Boot (boot_line w pid tid name) (bind_holds (boot_token w name) _ (Plain m t w) (λ _ _. bind_holds (unused_test w pid tid) _ (Plain m t w) (λ _ _. (refl, λ v. refl)))) (λ _. (refl, λ v. refl))
+
+token-plain : (m : Group) (t : List Heard) (w : World) (name : List ℕ) (content : Token) → Plain m t w (served_steps (token name content) w)
+unfolding bare_steps token_line
+token-plain m t w name content = directed_holds (Plain m t w) word.Token (token_line w name content) (bind_holds (refuse_if (is_some (named_token w name)) OBJECT_NAME_COLLISION) _ (Plain m t w) (λ _ _. (refl, λ v. refl))) (λ _. (refl, λ v. refl))
 
 thread-plain : (m : Group) (t : List Heard) (w : World) (tid pid : ℕ) → Plain m t w (served_steps (thread tid pid) w)
 unfolding bare_steps thread_line
@@ -180,7 +186,8 @@ link-plain m t w path target = directed_holds (Plain m t w) word.Link (link_line
 
 pub line-known : (m : Group) (c : ℕ) (w : World) (t : List Heard) (k : Contents) (line : ScriptLine) → m c ≡ true → Stood m c w (record { seen = view m w; memo = t; bytes = k }) → HasFineRows m c w → HasFineRows m c (served_step w line).world → OnceUsed (served_step w line).world → FineLine m c k w line → Known m c w t k line
 line-known m c w t k (run tid call) c_in st fine next once ok = run-line_known m c w t k tid call c_in st fine next ok once
-line-known m c w t k (boot pid tid) c_in st fine next once ok = directive-known m c w t k (boot pid tid) (λ is. refl) st.known (boot-plain m t w pid tid)
+line-known m c w t k (boot pid tid name) c_in st fine next once ok = directive-known m c w t k (boot pid tid name) (λ is. refl) st.known (boot-plain m t w pid tid name)
+line-known m c w t k (token name content) c_in st fine next once ok = directive-known m c w t k (token name content) (λ is. refl) st.known (token-plain m t w name content)
 line-known m c w t k (thread tid pid) c_in st fine next once ok = directive-known m c w t k (thread tid pid) (λ is. refl) st.known (thread-plain m t w tid pid)
 line-known m c w t k (dir path) c_in st fine next once ok = directive-known m c w t k (dir path) (λ is. refl) st.known (dir-plain m t w path)
 line-known m c w t k (link path target) c_in st fine next once ok = directive-known m c w t k (link path target) (λ is. refl) st.known (link-plain m t w path target)

@@ -1,19 +1,21 @@
 -- Each call keeps it that a queued message that asks is its thread's own.
+use Rattle.lpc_model.specs.declared.entry.CallName.TheVariants.{NtOpenThreadToken, NtOpenProcessToken}
+use Rattle.lpc_model.specs.Impersonation.{impersonate_steps, token_steps, held_content, process_content}
 use Rattle.lpc_model.specs.Memory.{section_steps}
 use Rattle.lpc_isolation.proofs.Views.Seen.{handle-own}
 use Rattle.lpc_isolation.proofs.Calls.Doomed.{doomed-part, ended, steady}
-use Rattle.lpc_isolation.proofs.Calls.Deeds.{AreTame, Deeds, gives, more, none, numbers, registers, any-tame, maps, unmaps, writes}
+use Rattle.lpc_isolation.proofs.Calls.Deeds.{AreTame, Deeds, gives, more, none, numbers, registers, any-tame, maps, unmaps, writes, acts, guarded}
 use Rattle.lpc_isolation.proofs.Each.Closes.{caller-sure, handle-good}
 use Rattle.lpc_base.proofs.RowWords.{every-push}
 use Rattle.lpc_base.proofs.RowWords.{first-passes}
 use Rattle.lpc_base.specs.Rows.{every, first, has}
 use Rattle.lpc_isolation.proofs.Each.Accepts.{found-answer}
-use Rattle.lpc_isolation.proofs.Each.Connects.{row, starting}
+use Rattle.lpc_isolation.proofs.Each.Connects.{row, starting, steps_of}
 use Rattle.lpc_isolation.proofs.Each.Sends.{Caller}
 use Rattle.lpc_model.specs.Circle.{Group}
 use Rattle.lpc_message.specs.declared.kind.TheConstants.{DATAGRAM, REQUEST}
-use Rattle.lpc_model.specs.Basics.{Awaits, Basic, world_after, basic}
-use Rattle.lpc_model.specs.Connect.{listen_steps, answer_test, accept_steps, complete_steps, refuse_steps, connect_steps, create_steps, named_steps, unnamed_steps}
+use Rattle.lpc_model.specs.Basics.{Awaits, Basic, world_after, basic, Secures}
+use Rattle.lpc_model.specs.Connect.{listen_steps, answer_test, accept_steps, complete_steps, refuse_steps, connect_steps, create_steps, named_steps, unnamed_steps, accept_start, allow_steps}
 use Rattle.lpc_model.specs.Connect.{names_connect}
 use Rattle.lpc_model.specs.Entering.{enter, row_of, take_steps, takes}
 use Rattle.lpc_model.specs.Found.{same_birth, free_handle}
@@ -21,7 +23,7 @@ use Rattle.lpc_model.specs.Found.{is_queued, is_queued_connect, waits_as}
 use Rattle.lpc_model.specs.Request.{reply_test, datagram_start, receive_steps, receive_wait, request_start, sent_by, reply_steps, datagram_steps, request_steps}
 use Rattle.lpc_model.specs.Request.{request_wait}
 use Rattle.lpc_model.specs.Tests.{next_birth}
-use Rattle.lpc_model.specs.World.{Accepted, Birth, Connect, Listen, MessageRow, PortRow, Receive, Request, ThreadRow, WaitKind, WaitRow, World}
+use Rattle.lpc_model.specs.World.{Accepted, Birth, Connect, Listen, MessageRow, PortRow, Receive, Request, ThreadRow, WaitKind, WaitRow, World, ViewRow}
 use Rattle.lpc_model.specs.declared.message.Message.{Message}
 use Rattle.std.proofs.Common.{◌≡◌, ◌≤◌, ℕ, List, [], ◌∷◌, ◌++◌, true, false, not, Option, Some, None, refl, sym, subst, arith}
 use Rattle.std.proofs.lemmas.Bool.{and_from}
@@ -41,6 +43,7 @@ use Rattle.lpc_isolation.proofs.Each.Completes.{found-completion}
 use Rattle.lpc_isolation.proofs.Each.Receive.{replied-as}
 use Rattle.lpc_isolation.proofs.Each.Reply.{answered-fit}
 use Rattle.lpc_isolation.proofs.Rows.Asked.{Asked, is_sort, append-asked, are_asked, asks_of, enter-asked, idle-quiet, is_own, is_quiet, is_settled, run-asked, sender_of, settled-quiet, take-asked, take_connect-asked, basic-asked}
+use Rattle.lpc_model.specs.Offers.{SharedViews, mapped, shared_steps, server_views}
 
 abbrev AskedBy : World → List Basic → Type 0
 AskedBy w bs = are_asked w bs ≡ true
@@ -66,7 +69,7 @@ listened-asked w by port (Some y) at a =
 
 accepted-settled : (client : Birth) (x : WaitRow) (sort : WaitKind) → x.kind ≡ sort → is_accepted_on client x ≡ true → is_settled x ≡ true
 accepted-settled client x (Request b) k is = let off : (false && same_birth x.port client) ≡ true = rw k at is in absurd (cc)
-accepted-settled client x (Connect b) k is = let off : (false && same_birth x.port client) ≡ true = rw k at is in absurd (cc)
+accepted-settled client x (Connect b offer) k is = let off : (false && same_birth x.port client) ≡ true = rw k at is in absurd (cc)
 accepted-settled client x (Accepted b r) k is = rw k (grind arith)
 accepted-settled client x Receive k is = rw k (grind arith)
 accepted-settled client x Listen k is = rw k (grind arith)
@@ -100,18 +103,29 @@ keeps-asked w by v (b ∷ bs) (more numbers t) a = keeps-asked w by (basic v b) 
 keeps-asked w by v (b ∷ bs) (more (maps x s rights value at section owner) t) a = keeps-asked w by (basic v b) bs t (basic-asked v b refl a)
 keeps-asked w by v (b ∷ bs) (more (unmaps base) t) a = keeps-asked w by (basic v b) bs t (basic-asked v b refl a)
 keeps-asked w by v (b ∷ bs) (more (writes s place new) t) a = keeps-asked w by (basic v b) bs t (basic-asked v b refl a)
+keeps-asked w by v (b ∷ bs) (more (acts other) t) a = keeps-asked w by (basic v b) bs t (basic-asked v b refl a)
+
+mapped-asked : (w : World) (pid : ℕ) (o : Option ViewRow) → are_asked w (mapped pid o) ≡ true
+mapped-asked w pid None = refl
+mapped-asked w pid (Some v) = refl
+
+shared-asked : (w : World) (by : ThreadRow) (x : WaitRow) (views : SharedViews) → are_asked w (shared_steps by x views) ≡ true
+shared-asked w by x views =
+    append-asked w (server_views by views.own views.theirs) (mapped x.process views.across)
+    (append-asked w (mapped by.process views.own) (mapped by.process views.theirs) (mapped-asked w by.process views.own) (mapped-asked _ by.process views.theirs))
+    (mapped-asked _ x.process views.across)
 
 -- Each deed
 pub asked-deeds : (m : Group) (c : ℕ) (w : World) (by : ThreadRow) → Asked w → Caller m c w w by → Deeds w by (λ _ bs. Asked (world_after w bs))
 asked-deeds m c w by a k = record {
-  creates = after (create_steps by (unnamed_steps (next_birth by)) (free_handle w by.process)) refl;
-  founds = λ name path free. after (create_steps by (named_steps (next_birth by) path) (free_handle w by.process)) refl;
-  connects = λ name bytes q at.
-      after (connect_steps by q (connection_request by bytes) w) (sends-asked m c w by (starting by q bytes) (connect_wait by q (connection_request by bytes)) (row by q bytes) a k refl refl refl refl refl refl
-      (and_from _ _ (same-number by.number) (and_from _ _ (birth-self q) refl)) refl);
+  creates = λ _. after (create_steps by (unnamed_steps (next_birth by)) (free_handle w by.process)) refl;
+  founds = λ name dacl path free. guarded (λ bs. Asked (world_after w (create_steps by (named_steps (next_birth by) path) (free_handle w by.process) ++ bs))) (next_birth by) name dacl (after (create_steps by (named_steps (next_birth by) path) (free_handle w by.process)) refl) (λ s. after (create_steps by (named_steps (next_birth by) path) (free_handle w by.process) ++ Secures (next_birth by) s ∷ []) refl);
+  connects = λ name quality word bytes offer own q is.
+      after (connect_steps by q offer own (connection_request by offer bytes) w ++ allow_steps w by quality) (append-asked w (steps_of w by q offer own bytes) (allow_steps w by quality) (append-asked w (starting by q offer own bytes ++ enter (row by q offer own bytes) (world_after w (starting by q offer own bytes))) (mapped by.process own) (sends-asked m c w by (starting by q offer own bytes) (connect_wait by q offer (connection_request by offer bytes)) (row by q offer own bytes) a k refl refl refl refl refl refl
+      (and_from _ _ (same-number by.number) (and_from _ _ (birth-self q) refl)) refl) (mapped-asked _ by.process own)) refl);
   listens = λ handle p o at first. after (listen_steps by p.birth o) (listened-asked w by p.birth o first a);
-  refuses = λ context bytes r at. after (refuse_steps by r) (rw (quiet bytes r at) refl);
-  accepts = λ context bytes r at. after (accept_steps by context (free_handle w by.process) r) (rw (quiet bytes r at) refl);
+  refuses = λ context bytes word r at. after (refuse_steps by r) (rw (quiet bytes r at) refl);
+  accepts = λ context bytes word offer r views is. after (accept_steps by context (free_handle w by.process) r views) (append-asked w (accept_start by context (free_handle w by.process) r views) (shared_steps by r.wait views) (rw (quiet bytes r is.answered) refl) (shared-asked _ by r.wait views));
   completes = λ handle r at.
       let is = found-completion m c w w by handle r k at in
       after (complete_steps by (free_handle w r.wait.process) r) (rw (settled-quiet w (is_accepted_on r.client) r.wait a (k.once r.wait.thread) is.found (accepted-settled r.client r.wait r.wait.kind refl (first-passes (is_accepted_on r.client) w.waits r.wait is.found))) refl);
@@ -130,6 +144,9 @@ asked-deeds m c w by a k = record {
       (λ d x some at. after (receive_steps by p q (reply x d ∷ []) o) (receive-parts w by p q (reply x d ∷ []) o (rw (fit-quiet m c w by p d x a k at) refl) (taken-asked w (world_after w (reply x d ∷ [])) by p q o first refl a)));
   closes = λ handle r at. let g = handle-good m c by.process r (handle-own m c w by.process handle r k.fair at) in g.asked w w (caller-sure m c w w by k);
   makes_section = λ size prot. after (section_steps by size prot (free_handle w by.process)) refl;
+  impersonates = λ handle bytes own is. after (impersonate_steps by own) refl;
+  opens_own = λ own is. after (token_steps by NtOpenThreadToken (held_content own) (free_handle w by.process)) refl;
+  opens_primary = after (token_steps by NtOpenProcessToken (process_content w by) (free_handle w by.process)) refl;
   tames = any-tame (λ call name fields bs tame t. keeps-asked w by w bs t a);
   ends = λ call name own pid code ts doomed.
       let p = doomed-part m c w w by own pid code ts k doomed in

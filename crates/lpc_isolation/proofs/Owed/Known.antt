@@ -1,4 +1,7 @@
 -- What a call tells keeps it that what is remembered of outsiders' connects is right.
+use Rattle.lpc_tokens.specs.declared.security.Security.TheVariants.{Allows}
+use Rattle.lpc_isolation.proofs.Gone.Fine.{unsecured}
+use Rattle.lpc_model.specs.Impersonation.{impersonate_steps, token_steps, held_content, process_content}
 use Rattle.lpc_model.specs.Memory.{section_steps}
 use Rattle.lpc_model.specs.Death.{end_threads}
 use Rattle.lpc_model.specs.Close.{close_handle, close_steps}
@@ -9,33 +12,33 @@ use Rattle.lpc_isolation.proofs.Endings.Threads.{ends-mild}
 use Rattle.lpc_isolation.proofs.Closings.Mild.{mild-known}
 use Rattle.lpc_isolation.proofs.Each.Closes.{caller-sure, handle-good, handle-mild}
 use Rattle.lpc_isolation.proofs.Calls.Doomed.{doomed-part, doomed-whose, ended, steady}
-use Rattle.lpc_isolation.proofs.Calls.Deeds.{AreTame, Deeds, gives, more, none, numbers, registers, is_tame, any-tame, maps, unmaps, writes}
+use Rattle.lpc_isolation.proofs.Calls.Deeds.{AreTame, Deeds, gives, more, none, numbers, registers, is_tame, any-tame, maps, unmaps, writes, acts, guarded}
 use Rattle.lpc_isolation.proofs.Memory.Calls.{Hears, Still, still-hears, unnoted, wake-silent, answer-silent, sent-known, sent-hears, datagram-sent, request-sent, connect-sent, fits-outside, fits-c, noted, listened-known, listened-silent, received-known, received-silent, no-reply, one-reply, IsReply}
-use Rattle.std.proofs.Common.{◌≡◌, ℕ, List, [], ◌∷◌, Bool, true, false, cond, not, Option, Some, None, refl, ap, sym, subst, ◌∙◌, arith}
+use Rattle.std.proofs.Common.{◌≡◌, ℕ, List, [], ◌∷◌, Bool, true, false, cond, not, Option, Some, None, refl, ap, sym, subst, ◌∙◌, arith, ◌++◌, append-nil}
 use Rattle.std.specs.Prelude.{◌||◌, ◌==◌, Ok}
 use Rattle.std.proofs.lemmas.Bool.{eqb-true}
 use Rattle.lpc_base.specs.Rows.{every, first, passes}
-use Rattle.lpc_base.proofs.RowWords.{first-passes}
+use Rattle.lpc_base.proofs.RowWords.{first-passes, every-append}
 use Rattle.lpc_base.proofs.RowMaps.{every-first}
 use Rattle.lpc_base.proofs.Bools.{first-true}
 use Rattle.lpc_base.specs.declared.status.Status.{Status}
 use Rattle.lpc_base.specs.declared.status.TheConstants.{SUCCESS}
 use Rattle.lpc_message.specs.declared.kind.TheConstants.{DATAGRAM, REQUEST}
 use Rattle.lpc_model.specs.declared.entry.CallName.{CallName}
-use Rattle.lpc_model.specs.declared.entry.CallName.TheVariants.{NtConnectPort, NtListenPort, NtReplyWaitReceivePort, NtRequestPort, NtRequestWaitReplyPort}
+use Rattle.lpc_model.specs.declared.entry.CallName.TheVariants.{NtConnectPort, NtListenPort, NtReplyWaitReceivePort, NtRequestPort, NtRequestWaitReplyPort, NtOpenThreadToken, NtOpenProcessToken}
 use Rattle.lpc_model.specs.declared.entry.Entry.{Entry}
 use Rattle.lpc_model.specs.declared.entry.Entry.TheVariants as entry
 use Rattle.lpc_model.specs.declared.message.Message.{Message}
 use Rattle.lpc_model.specs.declared.entry.Field.{Field}
-use Rattle.lpc_model.specs.Fields.{id, msg, receipt}
-use Rattle.lpc_model.specs.World.{Birth, MessageRow, PortRow, ThreadRow, World}
-use Rattle.lpc_model.specs.Found.{fits, is_accepted, is_offered, is_queued, is_queued_connect, is_request, queue_of, same_birth, wait_of, free_handle}
-use Rattle.lpc_model.specs.Basics.{Basic, entries_of, world_after, Tells, basic}
+use Rattle.lpc_model.specs.Fields.{id, msg, receipt, connect_fields}
+use Rattle.lpc_model.specs.World.{Birth, MessageRow, PortRow, ThreadRow, World, ViewRow, Security}
+use Rattle.lpc_model.specs.Found.{fits, is_accepted, is_offered, is_queued, is_queued_connect, is_request, queue_of, same_birth, wait_of, free_handle, acting_token}
+use Rattle.lpc_model.specs.Basics.{Basic, entries_of, world_after, Tells, basic, Maps, Secures}
 use Rattle.lpc_model.specs.Entering.{enter, row_of}
-use Rattle.lpc_model.specs.Connect.{is_accepted_on, listen_steps, names_connect, ConnectAnswer, answer_test, accept_steps, refuse_steps, complete_steps, create_steps, unnamed_steps, named_steps}
+use Rattle.lpc_model.specs.Connect.{is_accepted_on, listen_steps, names_connect, ConnectAnswer, answer_test, accept_steps, refuse_steps, complete_steps, create_steps, unnamed_steps, named_steps, accept_start, allow_steps}
 use Rattle.lpc_model.specs.Request.{datagram_start, datagram_steps, receive_steps, reply, request_start, request_steps, sent_by, reply_steps}
 use Rattle.lpc_model.specs.Tests.{port_test, next_birth}
-use Rattle.lpc_model.specs.Lines.{ScriptCall, accept_connect_port, complete_connect_port, connect_port, create_port, listen_port, reply_port, reply_wait_receive_port, request_port, request_wait_reply_port, close, create_section}
+use Rattle.lpc_model.specs.Lines.{ScriptCall, accept_connect_port, complete_connect_port, connect_port, create_port, listen_port, reply_port, reply_wait_receive_port, request_port, request_wait_reply_port, close, create_section, impersonate_client_of_port, open_thread_token, open_process_token}
 use Rattle.lpc_model.specs.Circle.{Group, Whose, owner}
 use Rattle.lpc_isolation.proofs.Views.Alone.{HasFineRows}
 use Rattle.lpc_isolation.proofs.Views.View.{seen_port, view}
@@ -52,7 +55,10 @@ use Rattle.lpc_isolation.proofs.Rows.Ids.{Numbered, of_number}
 use Rattle.lpc_isolation.proofs.Rows.Asked.{Asked, is_sort}
 use Rattle.lpc_isolation.proofs.Memory.Heard.{Heard, Reads, call_memo, entries_memo, heard-message, heard-receipt, heard_in, is_silent_step, noted_of, of_port, of_queue, reads-of, silent-memo, takes_any}
 use Rattle.lpc_isolation.proofs.Memory.Knows.{AllKnown, are_known, run-known}
-use Rattle.lpc_isolation.proofs.Memory.Receptions.{Fits, take_connect-known}
+use Rattle.lpc_isolation.proofs.Memory.Receptions.{Fits, take_connect-known, known-append}
+use Rattle.lpc_model.specs.Offers.{SharedViews, mapped, shared_steps, server_views, base_of}
+use Rattle.lpc_model.proofs.Calls.Sharing.{shared-pass}
+use Rattle.lpc_model.proofs.Steps.InTurn.{entries-append, after-append}
 
 -- Tame steps
 knows : (m : Group) (memo : List Heard) (w : World) (by : ThreadRow) (v : World) (bs : List Basic) → AreTame w by bs → are_known m memo v bs ≡ true
@@ -63,6 +69,7 @@ knows m memo w by v (b ∷ bs) (more numbers t) = knows m memo w by (basic v b) 
 knows m memo w by v (b ∷ bs) (more (maps x s rights value at section owner) t) = knows m memo w by (basic v b) bs t
 knows m memo w by v (b ∷ bs) (more (unmaps base) t) = knows m memo w by (basic v b) bs t
 knows m memo w by v (b ∷ bs) (more (writes s place new) t) = knows m memo w by (basic v b) bs t
+knows m memo w by v (b ∷ bs) (more (acts other) t) = knows m memo w by (basic v b) bs t
 
 silent : (v w : World) (by : ThreadRow) (bs : List Basic) → AreTame w by bs → every (is_silent_step v) bs ≡ true
 silent v w by [] none = refl
@@ -72,6 +79,7 @@ silent v w by (b ∷ bs) (more numbers t) = silent v w by bs t
 silent v w by (b ∷ bs) (more (maps x s rights value at section owner) t) = silent v w by bs t
 silent v w by (b ∷ bs) (more (unmaps base) t) = silent v w by bs t
 silent v w by (b ∷ bs) (more (writes s place new) t) = silent v w by bs t
+silent v w by (b ∷ bs) (more (acts other) t) = silent v w by bs t
 
 tame-unnoted : (m : Group) (v : World) (by : ThreadRow) (call : ScriptCall) (e : Entry) (memo : List Heard) → is_tame call ≡ true → call_memo m v by call e memo ≡ memo
 tame-unnoted m v by (listen_port handle) e memo tame = absurd (cc)
@@ -81,6 +89,21 @@ tame-unnoted m v by call e memo tame = refl
 ends-unnoted : (m : Group) (v : World) (by : ThreadRow) (call : EndCall) (e : Entry) (memo : List Heard) → call_memo m v by (end_call call) e memo ≡ memo
 ends-unnoted m v by (of_thread target code) e memo = refl
 ends-unnoted m v by (of_process target code) e memo = refl
+
+-- Views that are mapped
+mapped-known : (m : Group) (memo : List Heard) (w : World) (pid : ℕ) (o : Option ViewRow) → are_known m memo w (mapped pid o) ≡ true
+mapped-known m memo w pid None = refl
+mapped-known m memo w pid (Some v) = refl
+
+accept-known : (m : Group) (memo : List Heard) (w : World) (by : ThreadRow) (context value : ℕ) (a : ConnectAnswer) (views : SharedViews) → are_known m memo w (accept_steps by context value a views) ≡ true
+accept-known m memo w by context value a views =
+    known-append m memo w (accept_start by context value a views) (shared_steps by a.wait views) refl
+    (known-append m memo _ (server_views by views.own views.theirs) (mapped a.wait.process views.across)
+    (known-append m memo _ (mapped by.process views.own) (mapped by.process views.theirs) (mapped-known m memo _ by.process views.own) (mapped-known m memo _ by.process views.theirs))
+    (mapped-known m memo _ a.wait.process views.across))
+
+accept-silent : (v : World) (by : ThreadRow) (context value : ℕ) (a : ConnectAnswer) (views : SharedViews) → every (is_silent_step v) (accept_steps by context value a views) ≡ true
+accept-silent v by context value a views = every-append (is_silent_step v) (accept_start by context value a views) (shared_steps by a.wait views) refl (shared-pass (is_silent_step v) by a.wait (λ _. refl) (λ _. refl) views)
 
 -- An outsider's call
 module _ (m : Group) (c : ℕ) (u w : World) (by : ThreadRow) (d : Whose) (memo : List Heard) (k : Caller m c u w by) (owned : Owned w w) (n : Numbered w) (a : Asked w) (all : AllKnown m memo w) (out : m by.process ≡ false) where
@@ -101,21 +124,38 @@ module _ (m : Group) (c : ℕ) (u w : World) (by : ThreadRow) (d : Whose) (memo 
   wakes : (bytes : List ℕ) (r : ConnectAnswer) → answer_test w by bytes ≡ Ok r → not (passes (wait_of (view m w) r.wait.thread) takes_any) ≡ true
   wakes bytes r at = let is = found-answer m c u w by bytes r k at in wake-silent m w (names_connect w by r.message) r.wait k.once is.found (rw is.offered (grind arith))
 
+  -- a view that is mapped is told to nobody
+  hears-mapped : (bs : List Basic) (pid : ℕ) (o : Option ViewRow) → Hears m c u d w memo bs → Hears m c u d w memo (bs ++ mapped pid o)
+  hears-mapped bs pid None is = subst (Hears m c u d w memo) (sym (append-nil bs)) is
+  hears-mapped bs pid (Some v) is =
+      let es : entries_of (bs ++ Maps pid v ∷ []) ≡ entries_of bs = entries-append bs (Maps pid v ∷ []) ∙ append-nil (entries_of bs) in
+      rw (es, after-append w bs (Maps pid v ∷ [])) is
+
+  -- nor is what a port allows
+  hears-secured : (bs : List Basic) (b : Birth) (s : Security) → Hears m c u d w memo bs → Hears m c u d w memo (bs ++ Secures b s ∷ [])
+  hears-secured bs b s is =
+      let es : entries_of (bs ++ Secures b s ∷ []) ≡ entries_of bs = entries-append bs (Secures b s ∷ []) ∙ append-nil (entries_of bs) in
+      rw (es, after-append w bs (Secures b s ∷ [])) is
+
   pub hears-deeds : Deeds w by (λ _ bs. HasFineRows m c (world_after w bs) → Hears m c u d w memo bs)
   hears-deeds = record {
-    creates = λ _. still (create_steps by (unnamed_steps (next_birth by)) (free_handle w by.process)) (refl, refl);
-    founds = λ name path free _. still (create_steps by (named_steps (next_birth by) path) (free_handle w by.process)) (refl, refl);
-    connects = λ name bytes q at fine.
-        subst (λ es. AllKnown m (entries_memo m (view m w) memo es) (world_after w (steps_of w by q bytes))) (sym (unheard-waits NtConnectPort (id by.next_identifier ∷ []) (entries_of (enter (row by q bytes) (world_after w (starting by q bytes))))))
-        (sent-hears m c u w by d memo (starting by q bytes) (row by q bytes) k all (connect-sent m c u w by q bytes k) (reads (row by q bytes) refl refl) out (fine-other m c by q (connect-fine m c w by q bytes fine) out));
+    creates = λ _ _. still (create_steps by (unnamed_steps (next_birth by)) (free_handle w by.process)) (refl, refl);
+    founds = λ name dacl path free _. guarded (λ bs. Hears m c u d w memo (create_steps by (named_steps (next_birth by) path) (free_handle w by.process) ++ bs)) (next_birth by) name dacl (still (create_steps by (named_steps (next_birth by) path) (free_handle w by.process)) (refl, refl)) (λ s. still (create_steps by (named_steps (next_birth by) path) (free_handle w by.process) ++ Secures (next_birth by) s ∷ []) (refl, refl));
+    connects = λ name quality word bytes offer own q is all_fine.
+        let fine = unsecured m c w (steps_of w by q offer own bytes) (next_birth by) _ all_fine in
+        let v : World = world_after w (starting by q offer own bytes) in
+        let es = enter (row by q offer own bytes) v in
+        hears-secured (steps_of w by q offer own bytes) (next_birth by) (Allows quality (acting_token w by)) (hears-mapped (starting by q offer own bytes ++ es) by.process own
+        (subst (λ inputs. AllKnown m (entries_memo m (view m w) memo inputs) (world_after v es)) (sym (unheard-waits NtConnectPort (connect_fields by.next_identifier (base_of own)) (entries_of es)))
+        (sent-hears m c u w by d memo (starting by q offer own bytes) (row by q offer own bytes) k all (connect-sent m c u w by q offer own bytes k) (reads (row by q offer own bytes) refl refl) out (fine-other m c by q (connect-fine m c w by q offer own bytes fine) out))));
     listens = λ handle p o at first _.
         let named = found-port m c u w by handle p k at in
         still (listen_steps by p.birth o) (
           listened-known m w by p.birth memo o (λ y there. fits-outside m memo w (is_queued_connect p.birth) y a k.once (first ∙ there) (ap (λ (b : Birth). m b.process) (listen-queue p.birth w y (first ∙ there)) ∙ ap m named.process ∙ out)),
           listened-silent (view m w) by p.birth o,
         );
-    refuses = λ context bytes r at _. still (refuse_steps by r) (refl, rw (wakes bytes r at) refl);
-    accepts = λ context bytes r at _. still (accept_steps by context (free_handle w by.process) r) (refl, refl);
+    refuses = λ context bytes word r at _. still (refuse_steps by r) (refl, rw (wakes bytes r at) refl);
+    accepts = λ context bytes word offer r views is _. still (accept_steps by context (free_handle w by.process) r views) (accept-known m memo w by context (free_handle w by.process) r views, accept-silent (view m w) by context (free_handle w by.process) r views);
     completes = λ handle r at _.
         let is = found-completion m c u w by handle r k at in
         let on : (is_accepted r.wait || (is_offered r.wait || is_request r.wait)) ≡ true = rw (first-true (is_accepted r.wait) (same_birth r.wait.port r.client) (first-passes (is_accepted_on r.client) w.waits r.wait is.found)) refl in
@@ -146,6 +186,9 @@ module _ (m : Group) (c : ℕ) (u w : World) (by : ThreadRow) (d : Whose) (memo 
         let behind : AllKnown m memo (world_after w (close_handle by.process r w)) = run-known m memo w (close_handle by.process r w) (mild-known m memo w (close_handle by.process r w) (handle-mild w by.process r)) all in
         rw (k.here, out) (subst (λ n. AllKnown m n (world_after w (close_handle by.process r w))) (sym mute) behind);
     makes_section = λ size prot _. still (section_steps by size prot (free_handle w by.process)) (refl, refl);
+    impersonates = λ handle bytes own is _. still (impersonate_steps by own) (refl, refl);
+    opens_own = λ own is _. still (token_steps by NtOpenThreadToken (held_content own) (free_handle w by.process)) (refl, refl);
+    opens_primary = λ _. still (token_steps by NtOpenProcessToken (process_content w by) (free_handle w by.process)) (refl, refl);
     tames = any-tame (λ call name fields bs tame t _. still (Tells (entry.Answer by.number name SUCCESS fields) ∷ bs) (knows m memo w by w bs t, silent (view m w) w by bs t));
     ends = λ call name own pid code ts doomed _.
         let p = doomed-part m c u w by own pid code ts k doomed in
@@ -229,12 +272,13 @@ module _ (m : Group) (c : ℕ) (u w : World) (by : ThreadRow) (memo : List Heard
 
   pub notes-deeds : Deeds w by Notes
   notes-deeds = record {
-    creates = quiet (create_port None) (create_steps by (unnamed_steps (next_birth by)) (free_handle w by.process)) (λ e. refl) refl;
-    founds = λ name path free. quiet (create_port (Some name)) (create_steps by (named_steps (next_birth by) path) (free_handle w by.process)) (λ e. refl) refl;
-    connects = λ name bytes q at. quiet (connect_port name bytes) (steps_of w by q bytes) (λ e. refl) (sent-known m w by memo (starting by q bytes) (row by q bytes) (connect-sent m c u w by q bytes k) by_in);
+    creates = λ dacl. quiet (create_port None dacl) (create_steps by (unnamed_steps (next_birth by)) (free_handle w by.process)) (λ e. refl) refl;
+    founds = λ name dacl path free. guarded (λ bs. Notes (create_port (Some name) dacl) (create_steps by (named_steps (next_birth by) path) (free_handle w by.process) ++ bs)) (next_birth by) name dacl (quiet (create_port (Some name) dacl) (create_steps by (named_steps (next_birth by) path) (free_handle w by.process)) (λ e. refl) refl) (λ s. quiet (create_port (Some name) dacl) (create_steps by (named_steps (next_birth by) path) (free_handle w by.process) ++ Secures (next_birth by) s ∷ []) (λ e. refl) refl);
+    connects = λ name quality word bytes offer own q is. quiet (connect_port name quality word bytes) (steps_of w by q offer own bytes ++ allow_steps w by quality) (λ e. refl)
+        (known-append m memo w (steps_of w by q offer own bytes) (allow_steps w by quality) (known-append m memo w (starting by q offer own bytes ++ enter (row by q offer own bytes) (world_after w (starting by q offer own bytes))) (mapped by.process own) (sent-known m w by memo (starting by q offer own bytes) (row by q offer own bytes) (connect-sent m c u w by q offer own bytes k) by_in) (mapped-known m memo _ by.process own)) refl);
     listens = λ handle p o at first. let named = found-port m c u w by handle p k at in listens handle p at named.process o first;
-    refuses = λ context bytes r at. quiet (accept_connect_port context bytes false) (refuse_steps by r) (λ e. refl) refl;
-    accepts = λ context bytes r at. quiet (accept_connect_port context bytes true) (accept_steps by context (free_handle w by.process) r) (λ e. refl) refl;
+    refuses = λ context bytes word r at. quiet (accept_connect_port context bytes false word) (refuse_steps by r) (λ e. refl) refl;
+    accepts = λ context bytes word offer r views is. quiet (accept_connect_port context bytes true word) (accept_steps by context (free_handle w by.process) r views) (λ e. refl) (accept-known m memo w by context (free_handle w by.process) r views);
     completes = λ handle r at. quiet (complete_connect_port handle) (complete_steps by (free_handle w r.wait.process) r) (λ e. refl) refl;
     sends = λ handle bytes s at.
         quiet (request_port handle bytes) (datagram_steps by s.port s.queue (sent_by by DATAGRAM s.message) w) (λ e. refl)
@@ -251,6 +295,9 @@ module _ (m : Group) (c : ℕ) (u w : World) (by : ThreadRow) (memo : List Heard
         (λ e x some at. receives handle bytes b p q replied (reply x e ∷ []) r (one-reply x e) o first);
     closes = λ handle r at. quiet (close handle) (close_steps by r w) (λ e. refl) (mild-known m memo w (close_handle by.process r w) (handle-mild w by.process r));
     makes_section = λ size prot. quiet (create_section size prot) (section_steps by size prot (free_handle w by.process)) (λ e. refl) refl;
+    impersonates = λ handle bytes own is. quiet (impersonate_client_of_port handle bytes) (impersonate_steps by own) (λ e. refl) refl;
+    opens_own = λ own is. quiet open_thread_token (token_steps by NtOpenThreadToken (held_content own) (free_handle w by.process)) (λ e. refl) refl;
+    opens_primary = quiet open_process_token (token_steps by NtOpenProcessToken (process_content w by) (free_handle w by.process)) (λ e. refl) refl;
     tames = any-tame (λ call name fields bs tame t. quiet call (Tells (entry.Answer by.number name SUCCESS fields) ∷ bs) (λ e. tame-unnoted m (view m w) by call e memo tame) (knows m memo w by w bs t));
     ends = λ call name own pid code ts doomed.
         let known : are_known m memo w (end_threads pid code ts w) ≡ true = mild-known m memo w (end_threads pid code ts w) (ends-mild pid code ts w) in

@@ -1,24 +1,27 @@
 -- Each call tells its caller first, adds no thread, and begins no wait of a thread that it woke.
+use Rattle.lpc_tokens.specs.declared.security.Security.TheVariants.{Allows}
+use Rattle.lpc_model.specs.Tests.{next_birth}
+use Rattle.lpc_model.specs.declared.entry.Entry.TheVariants as entry
 use Rattle.std.proofs.Common.{◌≡◌, ℕ, List, [], ◌∷◌, ◌++◌, Bool, true, false, Option, Some, None, refl, arith}
 use Rattle.std.specs.Prelude.{◌==◌}
 use Rattle.lpc_base.specs.Rows.{first, given}
 use Rattle.lpc_base.specs.declared.status.TheConstants.{SUCCESS}
-use Rattle.lpc_base.proofs.Bools.{number-turned, same-number}
+use Rattle.lpc_base.proofs.Bools.{number-turned, same-number, first-true}
 use Rattle.lpc_message.specs.declared.kind.TheConstants.{DATAGRAM, REQUEST}
 use Rattle.lpc_model.specs.declared.message.Message.{Message}
 use Rattle.lpc_model.specs.Message.{asks}
-use Rattle.lpc_model.specs.World.{Accepted, Birth, Connect, Listen, MessageRow, PortRow, Receive, Request, ThreadRow, WaitKind, WaitRow, World}
-use Rattle.lpc_model.specs.Found.{fits, wait_of, waits_as}
-use Rattle.lpc_model.specs.Basics.{Basic, world_after}
+use Rattle.lpc_model.specs.World.{Accepted, Birth, Connect, Listen, MessageRow, PortRow, Receive, Request, ThreadRow, WaitKind, WaitRow, World, ViewRow, Security}
+use Rattle.lpc_model.specs.Found.{fits, wait_of, waits_as, acting_token, free_handle}
+use Rattle.lpc_model.specs.Basics.{Basic, world_after, Wakes, Tells, Secures}
 use Rattle.lpc_model.specs.Entering.{enter, given_steps, row_of, shown, take_connect_steps, take_steps, takes, woken}
-use Rattle.lpc_model.specs.Connect.{client_port, connect_start, connection_request, listen_steps}
+use Rattle.lpc_model.specs.Connect.{client_port, connect_start, connection_request, listen_steps, create_steps, named_steps}
 use Rattle.lpc_model.specs.Request.{datagram_start, request_start, receive_steps, reply, sent_by}
 use Rattle.lpc_model.specs.Circle.{Group}
 use Rattle.lpc_isolation.proofs.Each.Reply.{answered-fit}
 use Rattle.lpc_isolation.proofs.Each.Sends.{Caller}
 use Rattle.lpc_isolation.proofs.Each.Receive.{replied-as}
-use Rattle.lpc_isolation.proofs.Calls.Serves.{is_call_of, is_orderly, tells_own}
-use Rattle.lpc_isolation.proofs.Calls.Deeds.{AreTame, Deeds, gives, more, none, numbers, registers, any-tame, maps, unmaps, writes}
+use Rattle.lpc_isolation.proofs.Calls.Serves.{is_call_of, is_orderly, tells_own, is_calm, adds_none}
+use Rattle.lpc_isolation.proofs.Calls.Deeds.{AreTame, Deeds, gives, more, none, numbers, registers, any-tame, maps, unmaps, writes, acts, guarded}
 use Rattle.lpc_isolation.proofs.Calls.Doomed.{doomed-heads, ended, heads_own}
 use Rattle.lpc_isolation.proofs.Closings.Mild.{AreMild, mild-orderly}
 use Rattle.lpc_isolation.proofs.Each.Closes.{handle-mild}
@@ -28,6 +31,9 @@ use Rattle.lpc_model.specs.Death.{end_threads}
 use Rattle.lpc_base.specs.declared.status.Status.{Status}
 use Rattle.lpc_base.proofs.Bools.{second-true}
 use Rattle.std.proofs.lemmas.Bool.{and_from}
+use Rattle.lpc_model.specs.Offers.{SharedViews, mapped, shared_steps, server_views}
+use Rattle.lpc_base.proofs.RowWords.{every-append}
+use Rattle.lpc_model.proofs.Calls.Sharing.{mapped-pass}
 
 given-orderly : (x : MessageRow) (y : WaitRow) (k : WaitKind) (asked : Bool) → y.kind ≡ k → asks x.message ≡ asked → is_orderly (given_steps y x ++ woken SUCCESS (shown y x) y ∷ []) ≡ true
 given-orderly x y (Request a) true k asked = rw (k, asked) refl
@@ -36,8 +42,8 @@ given-orderly x y Receive true k asked = rw (k, asked) refl
 given-orderly x y Receive false k asked = rw (k, asked) refl
 given-orderly x y Listen true k asked = rw (k, asked) refl
 given-orderly x y Listen false k asked = rw (k, asked) refl
-given-orderly x y (Connect a) true k asked = rw (k, asked) refl
-given-orderly x y (Connect a) false k asked = rw (k, asked) refl
+given-orderly x y (Connect a offer) true k asked = rw (k, asked) refl
+given-orderly x y (Connect a offer) false k asked = rw (k, asked) refl
 given-orderly x y (Accepted a r) true k asked = rw (k, asked) refl
 given-orderly x y (Accepted a r) false k asked = rw (k, asked) refl
 
@@ -89,6 +95,7 @@ tame-orderly w by (b ∷ bs) (more numbers t) = tame-orderly w by bs t
 tame-orderly w by (b ∷ bs) (more (maps v s rights value at section owner) t) = tame-orderly w by bs t
 tame-orderly w by (b ∷ bs) (more (unmaps base) t) = tame-orderly w by bs t
 tame-orderly w by (b ∷ bs) (more (writes s place new) t) = tame-orderly w by bs t
+tame-orderly w by (b ∷ bs) (more (acts other) t) = tame-orderly w by bs t
 
 -- its first step ends a thread of the caller's process
 abbrev starts : World → ℕ → List Basic → Bool
@@ -104,15 +111,41 @@ unfolding end_threads
 ends-orderly w pid tid code [] own = absurd (cc)
 ends-orderly w pid tid code (t ∷ ts) own = mild-call w tid (end_threads pid code (t ∷ ts) w) (ends-mild pid code (t ∷ ts) w) own
 
+-- views that are mapped behind
+orderly-mapped : (bs : List Basic) (pid : ℕ) (o : Option ViewRow) → is_orderly bs ≡ true → is_orderly (bs ++ mapped pid o) ≡ true
+orderly-mapped [] pid None is = refl
+orderly-mapped [] pid (Some v) is = refl
+orderly-mapped (Wakes who call status fields ∷ bs) pid o is =
+    and_from _ _ (every-append (is_calm who) bs (mapped pid o) (first-true _ _ is) (mapped-pass (is_calm who) pid (λ _. refl) o)) (orderly-mapped bs pid o (second-true _ _ is))
+orderly-mapped (Tells (entry.Wakes who call status fields) ∷ bs) pid o is = absurd (cc)
+orderly-mapped (b ∷ bs) pid o is =
+    and_from (adds_none b) (is_orderly (bs ++ mapped pid o)) (first-true (adds_none b) (is_orderly bs) is) (orderly-mapped bs pid o (second-true (adds_none b) (is_orderly bs) is))
+
+orderly-secured : (bs : List Basic) (b : Birth) (s : Security) → is_orderly bs ≡ true → is_orderly (bs ++ Secures b s ∷ []) ≡ true
+orderly-secured [] b s is = refl
+orderly-secured (Wakes who call status fields ∷ bs) b s is =
+    and_from _ _ (every-append (is_calm who) bs (Secures b s ∷ []) (first-true _ _ is) refl) (orderly-secured bs b s (second-true _ _ is))
+orderly-secured (Tells (entry.Wakes who call status fields) ∷ bs) b s is = absurd (cc)
+orderly-secured (d ∷ bs) b s is =
+    and_from (adds_none d) (is_orderly (bs ++ Secures b s ∷ [])) (first-true (adds_none d) (is_orderly bs) is) (orderly-secured bs b s (second-true (adds_none d) (is_orderly bs) is))
+
+shared-orderly : (by : ThreadRow) (x : WaitRow) (views : SharedViews) → is_orderly (shared_steps by x views) ≡ true
+shared-orderly by x views =
+    orderly-mapped (server_views by views.own views.theirs) x.process views.across
+    (orderly-mapped (mapped by.process views.own) by.process views.theirs (orderly-mapped [] by.process views.own refl))
+
 -- Each deed
 pub orderly-deeds : (m : Group) (c : ℕ) (u w : World) (by : ThreadRow) → Caller m c u w by → Deeds w by (λ _ bs. is_call_of w by.number bs ≡ true)
 orderly-deeds m c u w by k = record {
-  creates = rw (same-number by.number) refl;
-  founds = λ name path free. rw (same-number by.number) refl;
-  connects = λ name bytes q at. rw (same-number by.number) (enter-orderly (world_after w (connect_start by q (connection_request by bytes))) (row_of q (client_port by q) (connection_request by bytes)));
+  creates = λ _. rw (same-number by.number) refl;
+  founds = λ name dacl path free. guarded (λ bs. is_call_of w by.number (create_steps by (named_steps (next_birth by) path) (free_handle w by.process) ++ bs) ≡ true) (next_birth by) name dacl (rw (same-number by.number) refl) (λ s. rw (same-number by.number) refl);
+  connects = λ name quality word bytes offer own q is.
+      let v : World = world_after w (connect_start by q offer own (connection_request by offer bytes)) in
+      let row = row_of q (client_port by q) (connection_request by offer bytes) in
+      rw (same-number by.number) (orderly-secured (enter row v ++ mapped by.process own) (next_birth by) (Allows quality (acting_token w by)) (orderly-mapped (enter row v) by.process own (enter-orderly v row)));
   listens = λ handle p o at first. listen-orderly w by p.birth o;
-  refuses = λ context bytes a at. rw (same-number by.number) refl;
-  accepts = λ context bytes a at. rw (same-number by.number) refl;
+  refuses = λ context bytes word a at. rw (same-number by.number) refl;
+  accepts = λ context bytes word offer a views is. rw (same-number by.number) (shared-orderly by a.wait views);
   completes = λ handle r at. rw (same-number by.number) refl;
   sends = λ handle bytes s at. rw (same-number by.number) (enter-orderly (world_after w (datagram_start by)) (row_of s.queue s.port (sent_by by DATAGRAM s.message)));
   asks = λ handle bytes s at. rw (same-number by.number) (enter-orderly (world_after w (request_start by s.port.birth s.queue (sent_by by REQUEST s.message))) (row_of s.queue s.port (sent_by by REQUEST s.message)));
@@ -123,6 +156,9 @@ orderly-deeds m c u w by k = record {
       (λ b y some at. replied-orderly w by p q y b o (asked-by o) (other-thread w by.number (fits w p.birth b) y k.idle (answered-fit w p b y at)) (λ x there. asked-is o x there));
   closes = λ handle r at. and_from _ _ (and_from _ _ (same-number by.number) refl) (mild-orderly (close_handle by.process r w) (handle-mild w by.process r));
   makes_section = λ size prot. rw (same-number by.number) refl;
+  impersonates = λ handle bytes own is. rw (same-number by.number) refl;
+  opens_own = λ own is. rw (same-number by.number) refl;
+  opens_primary = rw (same-number by.number) refl;
   tames = any-tame (λ call name fields bs tame t. rw (same-number by.number) (tame-orderly w by bs t));
   ends = λ call name own pid code ts doomed. ended (λ bs. is_call_of w by.number bs ≡ true) by name own pid code ts w
       (λ mine. ends-orderly w pid by.number code ts (doomed-heads m c w by own pid ts k.fair k.live k.own doomed mine))

@@ -5,8 +5,8 @@ use Rattle.lpc_base.proofs.RowWords.{every-change, every-more, first-kept}
 use Rattle.lpc_base.specs.Rows.{change, every, first, has}
 use Rattle.lpc_isolation.proofs.Each.Accepts.{found-answer}
 use Rattle.lpc_isolation.proofs.Each.Closes.{handle-mild}
-use Rattle.lpc_isolation.proofs.Each.Connects.{row, starting}
-use Rattle.lpc_isolation.proofs.Calls.Deeds.{AreTame, Deeds, gives, more, none, numbers, registers, any-tame, maps, unmaps, writes}
+use Rattle.lpc_isolation.proofs.Each.Connects.{row, starting, steps_of}
+use Rattle.lpc_isolation.proofs.Calls.Deeds.{AreTame, Deeds, gives, more, none, numbers, registers, any-tame, maps, unmaps, writes, acts, guarded}
 use Rattle.lpc_isolation.proofs.Calls.Doomed.{ended}
 use Rattle.lpc_isolation.proofs.Endings.Threads.{ends-mild}
 use Rattle.lpc_isolation.proofs.Gone.Fresh.{is_new, next-new}
@@ -20,18 +20,19 @@ use Rattle.lpc_model.proofs.Calls.Holding.{holds_ok}
 use Rattle.lpc_model.specs.Basics.{Basic, Makes, accepted, basic, world_after}
 use Rattle.lpc_model.specs.Circle.{Group}
 use Rattle.lpc_model.specs.Close.{close_handle}
-use Rattle.lpc_model.specs.Connect.{listen_steps, names_connect, server_port}
+use Rattle.lpc_model.specs.Connect.{listen_steps, names_connect, server_port, accept_start, allow_steps, create_steps, named_steps}
 use Rattle.lpc_model.specs.Death.{end_threads}
 use Rattle.lpc_model.specs.Entering.{enter, row_of}
-use Rattle.lpc_model.specs.Found.{is_port, is_request, is_server_port, port_row, waits_as}
+use Rattle.lpc_model.specs.Found.{is_port, is_request, is_server_port, port_row, waits_as, free_handle}
 use Rattle.lpc_model.specs.Request.{datagram_start, given_reply, receive_steps, request_start, request_wait, sent_by}
 use Rattle.lpc_model.specs.SoundWaits.{IsSoundWorld, is_connect_on, lacks_connects}
 use Rattle.lpc_model.specs.Tests.{next_birth, port_test}
-use Rattle.lpc_model.specs.World.{Birth, Connect, PortRow, ThreadRow, WaitKind, WaitRow, World}
+use Rattle.lpc_model.specs.World.{Birth, Connect, PortRow, ThreadRow, WaitKind, WaitRow, World, Acceptance, ViewRow}
 use Rattle.lpc_model.specs.declared.message.Message.{Message}
-use Rattle.std.proofs.Common.{Bool, List, None, Option, Some, [], arith, false, not, refl, subst, sym, true, ℕ, ◌∷◌, ◌≡◌}
+use Rattle.std.proofs.Common.{Bool, List, None, Option, Some, [], arith, false, not, refl, subst, sym, true, ℕ, ◌∷◌, ◌≡◌, ◌++◌}
 use Rattle.std.proofs.lemmas.Bool.{and_from}
 use Rattle.std.specs.Prelude.{◌&&◌, ◌||◌}
+use Rattle.lpc_model.specs.Offers.{SharedViews, mapped, shared_steps, server_views, acceptance}
 
 -- of tame steps
 keeps-paths : (w : World) (by : ThreadRow) (v : World) (bs : List Basic) → AreTame w by bs → are_paths v bs ≡ true
@@ -42,6 +43,7 @@ keeps-paths w by v (b ∷ bs) (more numbers t) = keeps-paths w by (basic v b) bs
 keeps-paths w by v (b ∷ bs) (more (maps x s rights value at section owner) t) = keeps-paths w by (basic v b) bs t
 keeps-paths w by v (b ∷ bs) (more (unmaps base) t) = keeps-paths w by (basic v b) bs t
 keeps-paths w by v (b ∷ bs) (more (writes s place new) t) = keeps-paths w by (basic v b) bs t
+keeps-paths w by v (b ∷ bs) (more (acts other) t) = keeps-paths w by (basic v b) bs t
 
 -- an accept joins neither end of such a path
 off-client : (w : World) (y : WaitRow) → IsSoundWorld w → has (is_connect_on y.port) w.waits ≡ true → (p : PortRow) (b : Birth) → port_row w b ≡ Some p → is_server_port p ≡ true → is_port y.port p ≡ false
@@ -73,8 +75,8 @@ off-both w y n s there new x is = at (is_request x) refl (port_row w x.port) ref
     at true go None row = let none : (not (is_request x) || false) ≡ true = rw row at is in absurd (grind arith)
     at true go (Some p) row = let off = off-row w y n s there new p x.port row in rw (row, off) (grind arith)
 
-accepted-off : (w : World) (client server : Birth) (reply : List ℕ) (x : WaitRow) (sort : WaitKind) → x.kind ≡ sort → is_off w client server x ≡ true → is_off w client server (accepted reply x) ≡ true
-accepted-off w client server reply x (Connect a) is off = rw is refl
+accepted-off : (w : World) (client server : Birth) (reply : Acceptance) (x : WaitRow) (sort : WaitKind) → x.kind ≡ sort → is_off w client server x ≡ true → is_off w client server (accepted reply x) ≡ true
+accepted-off w client server reply x (Connect a offer) is off = rw is refl
 accepted-off w client server reply x b is off = rw is (rw is at off)
 
 made-off : (w : World) (p : PortRow) (client server : Birth) (x : WaitRow) → is_off w client server x ≡ true → is_off (basic w (Makes p)) client server x ≡ true
@@ -88,24 +90,36 @@ found-on : (ws : List WaitRow) (test : WaitRow → Bool) (y : WaitRow) → first
 found-on [] test y at is = absurd (cc)
 found-on (x ∷ xs) test y at is = grind (arith, found-on xs test y)
 
+mapped-paths : (w : World) (pid : ℕ) (o : Option ViewRow) → are_paths w (mapped pid o) ≡ true
+mapped-paths w pid None = refl
+mapped-paths w pid (Some v) = refl
+
+shared-paths : (w : World) (by : ThreadRow) (x : WaitRow) (views : SharedViews) → are_paths w (shared_steps by x views) ≡ true
+shared-paths w by x views =
+    append-paths w (server_views by views.own views.theirs) (mapped x.process views.across)
+    (append-paths w (mapped by.process views.own) (mapped by.process views.theirs) (mapped-paths w by.process views.own) (mapped-paths _ by.process views.theirs))
+    (mapped-paths _ x.process views.across)
+
 -- Each deed
 pub paths-deeds : (m : Group) (c : ℕ) (w : World) (by : ThreadRow) → Paths w → Caller m c w w by → Deeds w by (λ _ bs. are_paths w bs ≡ true)
 paths-deeds m c w by all k = record {
-  creates = refl;
-  founds = λ name path free. refl;
-  connects = λ name bytes q at. then-paths w (starting by q bytes) (row by q bytes) refl;
+  creates = λ _. refl;
+  founds = λ name dacl path free. guarded (λ bs. are_paths w (create_steps by (named_steps (next_birth by) path) (free_handle w by.process) ++ bs) ≡ true) (next_birth by) name dacl (refl) (λ s. refl);
+  connects = λ name quality word bytes offer own q is.
+      append-paths w (steps_of w by q offer own bytes) (allow_steps w by quality) (append-paths w (starting by q offer own bytes ++ enter (row by q offer own bytes) (world_after w (starting by q offer own bytes))) (mapped by.process own)
+      (then-paths w (starting by q offer own bytes) (row by q offer own bytes) refl) (mapped-paths _ by.process own)) refl;
   listens = λ handle p o at first. still-paths w (listen_steps by p.birth o) (listened-still by p.birth o);
-  refuses = λ context bytes a at. refl;
-  accepts = λ context bytes a at.
-      let is = found-answer m c w w by bytes a k at in
-      let on : has (is_connect_on a.wait.port) w.waits ≡ true = found-on w.waits (names_connect w by a.message) a.wait is.found (and_from _ _ (rw is.offered refl) (birth-self a.wait.port)) in
+  refuses = λ context bytes word a at. refl;
+  accepts = λ context bytes word offer a views is.
+      let it = found-answer m c w w by bytes a k is.answered in
+      let on : has (is_connect_on a.wait.port) w.waits ≡ true = found-on w.waits (names_connect w by a.message) a.wait it.found (and_from _ _ (rw it.offered refl) (birth-self a.wait.port)) in
       let new = next-new w by.number by k.sound k.live in
       let v : World = basic w (Makes (server_port (next_birth by) a.wait.queue)) in
       let off : every (is_off w a.wait.port (next_birth by)) w.waits ≡ true = every-more (is_path w) (is_off w a.wait.port (next_birth by)) (off-both w a.wait (next_birth by) k.sound on new) w.waits all in
       let made : every (is_off v a.wait.port (next_birth by)) w.waits ≡ true = every-more (is_off w a.wait.port (next_birth by)) (is_off v a.wait.port (next_birth by)) (made-off w (server_port (next_birth by) a.wait.queue) a.wait.port (next_birth by)) w.waits off in
-      let still : every (is_off v a.wait.port (next_birth by)) (change (waits_as a.wait.thread) (accepted a.message.body) w.waits) ≡ true
-      = every-change (is_off v a.wait.port (next_birth by)) (waits_as a.wait.thread) (accepted a.message.body) (λ x off. accepted-off v a.wait.port (next_birth by) a.message.body x x.kind refl off) w.waits made in
-      rw still refl;
+      let still : every (is_off v a.wait.port (next_birth by)) (change (waits_as a.wait.thread) (accepted (acceptance a.message.body views)) w.waits) ≡ true
+      = every-change (is_off v a.wait.port (next_birth by)) (waits_as a.wait.thread) (accepted (acceptance a.message.body views)) (λ x off. accepted-off v a.wait.port (next_birth by) (acceptance a.message.body views) x x.kind refl off) w.waits made in
+      append-paths w (accept_start by context (free_handle w by.process) a views) (shared_steps by a.wait views) (rw still refl) (shared-paths _ by a.wait views);
   completes = λ handle r at. refl;
   sends = λ handle bytes s at. then-paths w (datagram_start by) (row_of s.queue s.port (sent_by by DATAGRAM s.message)) refl;
   asks = λ handle bytes s at.
@@ -119,6 +133,9 @@ paths-deeds m c w by all k = record {
   receives = λ handle bytes a p q replied o is first. still-paths w (receive_steps by p q replied o) (received-still by p q replied o (holds_ok AreStill (given_reply w p a) replied (replied-still w p a) is.reply_made));
   closes = λ handle r at. mild-paths w (close_handle by.process r w) (handle-mild w by.process r);
   makes_section = λ size prot. refl;
+  impersonates = λ handle bytes own is. refl;
+  opens_own = λ own is. refl;
+  opens_primary = refl;
   tames = any-tame (λ call name fields bs tame t. keeps-paths w by w bs t);
   ends = λ call name own pid code ts doomed. let is = mild-paths w (end_threads pid code ts w) (ends-mild pid code ts w) in ended (λ bs. are_paths w bs ≡ true) by name own pid code ts w (λ _. is) (λ _. is);
 }

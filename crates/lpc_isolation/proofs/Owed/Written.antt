@@ -1,9 +1,10 @@
 -- What a call writes to sections is told by its words: the steps of it that change bytes are these.
+use Rattle.lpc_model.specs.Tests.{next_birth}
 use Rattle.lpc_isolation.proofs.Views.Callers.{on_ok}
 use Rattle.lpc_model.specs.Ranges.{Described, described_test}
-use Rattle.lpc_model.specs.Found.{view_holding}
+use Rattle.lpc_model.specs.Found.{view_holding, free_handle}
 use Rattle.lpc_model.specs.Memory.{new_section, place_in, memory_test, write_steps}
-use Rattle.std.proofs.Common.{◌≡◌, List, [], ◌∷◌, Bool, true, not, Option, Some, None, refl, arith, ℕ, sym, ◌∙◌}
+use Rattle.std.proofs.Common.{◌≡◌, List, [], ◌∷◌, Bool, true, not, Option, Some, None, refl, arith, ℕ, sym, ◌∙◌, ◌++◌}
 use Rattle.std.specs.Prelude.{Ok, length}
 use Rattle.lpc_base.specs.Rows.{every, which, given}
 use Rattle.lpc_base.proofs.RowWords.{every-append, every-more}
@@ -12,16 +13,18 @@ use Rattle.lpc_model.specs.declared.message.Message.{Message}
 use Rattle.lpc_model.specs.World.{MessageRow, PortRow, ThreadRow, World, ViewRow}
 use Rattle.lpc_model.specs.Basics.{AddsSection, Basic, Frees, Writes, world_after}
 use Rattle.lpc_model.specs.Close.{close_handle, close_steps}
-use Rattle.lpc_model.specs.Connect.{client_port, connect_start, connect_steps, connection_request, listen_steps}
+use Rattle.lpc_model.specs.Connect.{client_port, connect_start, connect_steps, connection_request, listen_steps, accept_steps, allow_steps, create_steps, named_steps}
 use Rattle.lpc_model.specs.Entering.{enter, received_steps, row_of}
 use Rattle.lpc_model.specs.Lines.{ScriptCall, create_section, write_virtual_memory, write_request_data}
 use Rattle.lpc_model.specs.Request.{datagram_start, datagram_steps, given_reply, receive_steps, reply_test, request_start, request_steps, sent_by}
 use Rattle.lpc_model.proofs.Calls.Holding.{Holds, bind_holds, holds_ok}
 use Rattle.lpc_model.proofs.Calls.Outcomes.{Outcomes, EndCall, end_call, of_process, of_thread}
 use Rattle.lpc_model.proofs.Steps.Ending.{answered_end, ending-enter, ending-receipt, handle-ending, is_ending, steps-end}
-use Rattle.lpc_isolation.proofs.Calls.Deeds.{served-does, memory-held}
+use Rattle.lpc_isolation.proofs.Calls.Deeds.{served-does, memory-held, guarded}
 use Rattle.lpc_isolation.proofs.Gone.Served.{served}
 use Rattle.lpc_isolation.proofs.Views.Bytes.{is_byte_step}
+use Rattle.lpc_model.specs.Offers.{mapped}
+use Rattle.lpc_model.proofs.Calls.Sharing.{mapped-pass, shared-pass}
 
 -- what is written through a described range
 abbrev pub written_range : List ℕ → Described → List Basic
@@ -65,13 +68,16 @@ given-blank w port (Some m) = bind_holds (reply_test w port m) _ AreBlank (λ x 
 module _ (w : World) (by : ThreadRow) where
   written-outcomes : Outcomes w by (λ call bs. which is_byte_step bs ≡ written_by w by call)
   written-outcomes = record {
-    creates = refl;
-    founds = λ name path free. refl;
-    connects = λ name bytes q at. let y = connection_request by bytes in blank-none (connect_steps by q y w) (enter-blank (row_of q (client_port by q) y) (world_after w (connect_start by q y)));
+    creates = λ _. refl;
+    founds = λ name dacl path free. guarded (λ bs. which is_byte_step (create_steps by (named_steps (next_birth by) path) (free_handle w by.process) ++ bs) ≡ []) (next_birth by) name dacl (refl) (λ s. refl);
+    connects = λ name quality word bytes offer own q is.
+        let y = connection_request by offer bytes in
+        let es = enter (row_of q (client_port by q) y) (world_after w (connect_start by q offer own y)) in
+        blank-none (connect_steps by q offer own y w ++ allow_steps w by quality) (every-append is_blank (connect_steps by q offer own y w) (allow_steps w by quality) (every-append is_blank es (mapped by.process own) (enter-blank (row_of q (client_port by q) y) (world_after w (connect_start by q offer own y))) (mapped-pass is_blank by.process (λ _. refl) own)) refl);
     listens = λ handle port m l at. blank-none (listen_steps by port.birth (Some m)) (taken-blank m);
     awaits_connect = λ handle port l at. refl;
-    refuses = λ context bytes a at. refl;
-    accepts = λ context bytes a at. refl;
+    refuses = λ context bytes word a at. refl;
+    accepts = λ context bytes word offer a views is. blank-none (accept_steps by context (free_handle w by.process) a views) (shared-pass is_blank by a.wait (λ _. refl) (λ _. refl) views);
     completes = λ handle r at. refl;
     sends = λ handle bytes s at. let y = sent_by by DATAGRAM s.message in blank-none (datagram_steps by s.port s.queue y w) (enter-blank (row_of s.queue s.port y) (world_after w (datagram_start by)));
     asks = λ handle bytes s at. let y = sent_by by REQUEST s.message in blank-none (request_steps by s.port s.queue y w) (enter-blank (row_of s.queue s.port y) (world_after w (request_start by s.port.birth s.queue y)));
@@ -86,6 +92,11 @@ module _ (w : World) (by : ThreadRow) where
     spawns = λ pid tid new unused. refl;
     starts = λ target tid pid at lives unused. refl;
     makes_section = λ size prot asked. refl;
+    impersonates = λ handle bytes own is. refl;
+    reverts = λ class. refl;
+    opens_own = λ own is. refl;
+    opens_primary = refl;
+    asks_token = λ handle class t field at told. refl;
     maps_view = λ handle offset size prot s rounded base is. refl;
     unmaps_view = λ address v at. refl;
     reads_memory = λ address n v at. refl;

@@ -1,27 +1,28 @@
 -- A directive's line, in a play.
-use Rattle.std.proofs.Common.{◌≡◌, ℕ, List, [], ◌∷◌, ◌++◌, Bool, true, false, cond, not, map, None, refl, ap, sym, subst, ◌∙◌}
+use Rattle.lpc_model.specs.Refusal.{refuse_if, found_or}
+use Rattle.std.proofs.Common.{◌≡◌, ℕ, List, [], ◌∷◌, ◌++◌, Bool, true, false, cond, not, map, None, refl, ap, sym, subst, ◌∙◌, Option, Some}
 use Rattle.std.proofs.Math.Bool.{and-false}
-use Rattle.std.specs.Prelude.{◌&&◌, ◌||◌, ◌==◌, nat_le, Result, Ok, Err}
+use Rattle.std.specs.Prelude.{◌&&◌, ◌||◌, ◌==◌, nat_le, Result, Ok, Err, is_some}
 use Rattle.lpc_base.specs.declared.status.Status.{Status}
-use Rattle.lpc_base.specs.declared.status.TheConstants.{INVALID_CID, OBJECT_NAME_COLLISION, QUOTA_EXCEEDED, SUCCESS}
+use Rattle.lpc_base.specs.declared.status.TheConstants.{INVALID_CID, OBJECT_NAME_COLLISION, QUOTA_EXCEEDED, SUCCESS, OBJECT_NAME_NOT_FOUND}
 use Rattle.lpc_model.specs.declared.entry.Entry.{Entry}
 use Rattle.lpc_model.specs.declared.entry.Entry.TheVariants as entry
 use Rattle.lpc_model.specs.declared.entry.Word.{Word}
 use Rattle.lpc_model.specs.declared.entry.Word.TheVariants as word
-use Rattle.lpc_model.specs.World.{Path, World}
-use Rattle.lpc_model.specs.Basics.{AddsProcess, AddsThread, Basic, Binds, basic, entries_of, world_after}
-use Rattle.lpc_model.specs.Lines.{ScriptLine, boot, dir, link, run, thread}
-use Rattle.lpc_model.specs.Machine.{boot_line, dir_line, directed, directive_birth, link_line, new_process, new_thread, live_test, bare_steps, thread_line, thread_test, unused_test, unused_thread_test}
+use Rattle.lpc_model.specs.World.{Path, World, Token}
+use Rattle.lpc_model.specs.Basics.{AddsProcess, AddsThread, Basic, Binds, basic, entries_of, world_after, NamesToken}
+use Rattle.lpc_model.specs.Lines.{ScriptLine, boot, dir, link, run, thread, token}
+use Rattle.lpc_model.specs.Machine.{boot_line, dir_line, directed, directive_birth, link_line, new_process, new_thread, live_test, bare_steps, thread_line, thread_test, unused_test, unused_thread_test, boot_token, token_line, boot_steps}
 use Rattle.lpc_isolation.proofs.Gone.Served.{served_step, served_steps}
 use Rattle.lpc_model.specs.Named.{as_status, free_name, spelled_name}
-use Rattle.lpc_model.specs.Found.{is_live, live_count, was_process, was_thread}
+use Rattle.lpc_model.specs.Found.{is_live, live_count, was_process, was_thread, named_token}
 use Rattle.lpc_base.specs.declared.limits.TheConstants.{THREAD_LIMIT}
 use Rattle.lpc_names.specs.Path.{spelled}
 use Rattle.lpc_model.proofs.Calls.Holding.{Holds, bind_holds}
 use Rattle.lpc_names.specs.Walk.{LinkTo, Stands, free_path}
 use Rattle.lpc_names.specs.declared.fault.NameFault.{NameFault}
 use Rattle.lpc_names.specs.declared.names.Found.TheVariants.{Directory}
-use Rattle.lpc_model.specs.Circle.{Everyone, Group, Item, Nobody, Of, Ran, Told, Whose, is_seen, item_of, items, line_whose, told_event}
+use Rattle.lpc_model.specs.Circle.{Everyone, Group, Item, Nobody, Of, Ran, Told, Whose, is_seen, item_of, items, line_whose, told_event, gave_event, given_in}
 use Rattle.lpc_isolation.proofs.Views.Alone.{alone}
 use Rattle.lpc_isolation.proofs.Gone.Bare.{bare_line_events}
 use Rattle.lpc_isolation.proofs.Views.View.{view}
@@ -29,7 +30,7 @@ use Rattle.lpc_isolation.proofs.Views.Basics.{basic-unseen, run-ours}
 use Rattle.lpc_isolation.proofs.Views.Apart.{absorb_all, c_seen}
 use Rattle.lpc_isolation.proofs.Views.Callers.{on_ok}
 use Rattle.lpc_isolation.proofs.Rows.Names.{SeenNames, free-view}
-use Rattle.lpc_isolation.proofs.Each.Refuses.{Refuses, bind, if_refuses, named}
+use Rattle.lpc_isolation.proofs.Each.Refuses.{Refuses, bind, if_refuses, named, found}
 use Rattle.lpc_isolation.proofs.Plays.Play.{told_at, told_inputs, told_items}
 use Rattle.lpc_isolation.proofs.Plays.Lines.{next_entry}
 
@@ -44,7 +45,8 @@ succeeds (entry.NoThread who) = false
 succeeds (entry.Died who status) = false
 
 abbrev pub effect : World → ScriptLine → List Basic
-effect v (boot pid tid) = AddsProcess (new_process pid None (directive_birth pid pid)) ∷ AddsThread (new_thread tid pid (directive_birth tid pid)) ∷ []
+effect v (boot pid tid name) = on_ok (boot_token v name) (boot_steps pid tid)
+effect v (token name content) = NamesToken (record { name = name; token = content }) ∷ []
 effect v (thread tid pid) = AddsThread (new_thread tid pid (directive_birth tid pid)) ∷ []
 effect v (dir path) = on_ok (free_name v path) (λ p. Binds p (Stands Directory) ∷ [])
 effect v (link path target) = on_ok (spelled_name target) (λ to. on_ok (free_name v path) (λ p. Binds p (LinkTo to) ∷ []))
@@ -61,6 +63,7 @@ pub record Directs (m : Group) (w : World) (line : ScriptLine) (name : Word) (d 
   pub is : served_steps line w ≡ directed name r
   pub whose : (v : World) → line_whose v line ≡ d
   pub silent : Holds (λ bs. entries_of bs ≡ []) r
+  pub gives : Holds (λ bs. given_in bs ≡ []) r
   pub refuses : Refuses r
   pub seen : is_seen m d ≡ true → Holds (λ bs. view m (world_after w bs) ≡ world_after (view m w) (effect (view m w) line)) r
   pub hidden : is_seen m d ≡ false → Holds (λ bs. view m (world_after w bs) ≡ view m w) r
@@ -82,6 +85,10 @@ directed-entries : (name : Word) (r : Result (List Basic) Status) → Holds (λ 
 directed-entries name (Ok bs) none = ap (λ es. entry.Directive name SUCCESS ∷ es) none
 directed-entries name (Err s) none = refl
 
+directed-gives : (name : Word) (r : Result (List Basic) Status) → Holds (λ bs. given_in bs ≡ []) r → given_in (directed name r) ≡ []
+directed-gives name (Ok bs) none = none
+directed-gives name (Err s) none = refl
+
 told-directive : (m : Group) (c : ℕ) (u : World) (d : Whose) (name : Word) (status : Status) → told_inputs m c u d (entry.Directive name status ∷ []) ≡ cond (is_seen m d) (entry.Directive name status ∷ []) []
 told-directive m c u (Of pid) name status = rw (and-false (pid == c)) (at (m pid))
   where
@@ -100,8 +107,9 @@ directive-told m c w line name d r o =
 
 directive-items : (m : Group) (c : ℕ) (w : World) (line : ScriptLine) (name : Word) (d : Whose) (r : Result (List Basic) Status) → Directs m w line name d r → items (alone c) (bare_line_events w line) ≡ cond (is_seen (alone c) d) (Ran line ∷ Told (entry.Directive name (status_of r)) ∷ []) []
 directive-items m c w line name d r o =
-    ap (λ d. items (alone c) (record { whose = d; item = Ran line } ∷ map (told_event (served_step w line).world d) (served_step w line).entries)) (o.whose w)
-    ∙ ap (λ es. items (alone c) (record { whose = d; item = Ran line } ∷ map (told_event (served_step w line).world d) es)) (ap entries_of o.is ∙ directed-entries name r o.silent)
+    ap (λ d. items (alone c) (record { whose = d; item = Ran line } ∷ (map (told_event (served_step w line).world d) (served_step w line).entries ++ map (gave_event d) (given_in (served_steps line w))))) (o.whose w)
+    ∙ ap (λ es. items (alone c) (record { whose = d; item = Ran line } ∷ (map (told_event (served_step w line).world d) es ++ map (gave_event d) (given_in (served_steps line w))))) (ap entries_of o.is ∙ directed-entries name r o.silent)
+    ∙ ap (λ gs. items (alone c) (record { whose = d; item = Ran line } ∷ (map (told_event (served_step w line).world d) (entry.Directive name (status_of r) ∷ []) ++ map (gave_event d) gs))) (ap given_in o.is ∙ directed-gives name r o.gives)
     ∙ at (is_seen (alone c) d)
   where
     at : (b : Bool) → map item_of (cond b (record { whose = d; item = Ran line } ∷ cond b (told_event (served_step w line).world d (entry.Directive name (status_of r)) ∷ []) []) (cond b (told_event (served_step w line).world d (entry.Directive name (status_of r)) ∷ []) [])) ≡ cond b (Ran line ∷ Told (entry.Directive name (status_of r)) ∷ []) []
@@ -142,16 +150,41 @@ directive-visible m c w line name d r is o seen =
     world (Err s) f h = rw f refl
 
 -- Each directive
-pub boot-directs : (m : Group) (w : World) (pid tid : ℕ) → Directs m w (boot pid tid) word.Boot (Of pid) (boot_line w pid tid)
+found-token : (w : World) (name : Option (List ℕ)) → Refuses (boot_token w name)
+found-token w None = tt
+found-token w (Some name) = bind (found_or (named_token w name) OBJECT_NAME_NOT_FOUND) _ (found (named_token w name) OBJECT_NAME_NOT_FOUND refl) (λ _. tt)
+
+-- all views show the names of all tokens
+same-token : (m : Group) (w : World) (name : Option (List ℕ)) → boot_token (view m w) name ≡ boot_token w name
+same-token m w None = refl
+same-token m w (Some name) = refl
+
+pub boot-directs : (m : Group) (w : World) (pid tid : ℕ) (name : Option (List ℕ)) → Directs m w (boot pid tid name) word.Boot (Of pid) (boot_line w pid tid name)
 unfolding bare_steps boot_line
-boot-directs m w pid tid = record {
+boot-directs m w pid tid name = record {
   is = refl;
   whose = λ v. refl;
-  silent = bind_holds (unused_test w pid tid) _ (λ bs. entries_of bs ≡ []) (λ _ _. refl);
-  refuses = bind (unused_test w pid tid) _ (if_refuses (was_process w pid || was_thread w tid) OBJECT_NAME_COLLISION refl) (λ _. tt);
-  seen = λ is. bind_holds (unused_test w pid tid) _ (λ bs. view m (world_after w bs) ≡ world_after (view m w) (effect (view m w) (boot pid tid))) (λ _ _. run-ours m w (effect w (boot pid tid)) (rw is refl));
-  hidden = λ out. bind_holds (unused_test w pid tid) _ (λ bs. view m (world_after w bs) ≡ view m w) (λ _ _.
-      basic-unseen m (basic w (AddsProcess (new_process pid None (directive_birth pid pid)))) (AddsThread (new_thread tid pid (directive_birth tid pid))) out refl ∙ basic-unseen m w (AddsProcess (new_process pid None (directive_birth pid pid))) out refl);
+  silent = bind_holds (boot_token w name) _ (λ bs. entries_of bs ≡ []) (λ _ _. bind_holds (unused_test w pid tid) _ (λ bs. entries_of bs ≡ []) (λ _ _. refl));
+  gives = bind_holds (boot_token w name) _ (λ bs. given_in bs ≡ []) (λ _ _. bind_holds (unused_test w pid tid) _ (λ bs. given_in bs ≡ []) (λ _ _. refl));
+  refuses = bind (boot_token w name) _ (found-token w name) (λ _. bind (unused_test w pid tid) _ (if_refuses (was_process w pid || was_thread w tid) OBJECT_NAME_COLLISION refl) (λ _. tt));
+  seen = λ is.
+      let P : List Basic → Type 0 = λ bs. view m (world_after w bs) ≡ world_after (view m w) (effect (view m w) (boot pid tid name)) in
+      bind_holds (boot_token w name) _ P (λ content at. bind_holds (unused_test w pid tid) _ P (λ _ _.
+      subst (λ r. view m (world_after w (boot_steps pid tid content)) ≡ world_after (view m w) (on_ok r (boot_steps pid tid))) (sym (same-token m w name ∙ at)) (run-ours m w (boot_steps pid tid content) (rw is refl))));
+  hidden = λ out. bind_holds (boot_token w name) _ (λ bs. view m (world_after w bs) ≡ view m w) (λ content _. bind_holds (unused_test w pid tid) _ (λ bs. view m (world_after w bs) ≡ view m w) (λ _ _.
+      basic-unseen m (basic w (AddsProcess (new_process pid None (directive_birth pid pid) content))) (AddsThread (new_thread tid pid (directive_birth tid pid))) out refl ∙ basic-unseen m w (AddsProcess (new_process pid None (directive_birth pid pid) content)) out refl));
+}
+
+pub token-directs : (m : Group) (w : World) (name : List ℕ) (content : Token) → Directs m w (token name content) word.Token Everyone (token_line w name content)
+unfolding bare_steps token_line
+token-directs m w name content = record {
+  is = refl;
+  whose = λ v. refl;
+  silent = bind_holds (refuse_if (is_some (named_token w name)) OBJECT_NAME_COLLISION) _ (λ bs. entries_of bs ≡ []) (λ _ _. refl);
+  gives = bind_holds (refuse_if (is_some (named_token w name)) OBJECT_NAME_COLLISION) _ (λ bs. given_in bs ≡ []) (λ _ _. refl);
+  refuses = bind (refuse_if (is_some (named_token w name)) OBJECT_NAME_COLLISION) _ (if_refuses (is_some (named_token w name)) OBJECT_NAME_COLLISION refl) (λ _. tt);
+  seen = λ is. bind_holds (refuse_if (is_some (named_token w name)) OBJECT_NAME_COLLISION) _ (λ bs. view m (world_after w bs) ≡ world_after (view m w) (effect (view m w) (token name content))) (λ _ _. run-ours m w (NamesToken (record { name = name; token = content }) ∷ []) refl);
+  hidden = λ out. absurd (cc);
 }
 
 pub thread-directs : (m : Group) (w : World) (tid pid : ℕ) → Directs m w (thread tid pid) word.Thread (Of pid) (thread_line w tid pid)
@@ -160,6 +193,7 @@ thread-directs m w tid pid = record {
   is = refl;
   whose = λ v. refl;
   silent = bind_holds (thread_test w tid pid) _ (λ bs. entries_of bs ≡ []) (λ _ _. refl);
+  gives = bind_holds (thread_test w tid pid) _ (λ bs. given_in bs ≡ []) (λ _ _. refl);
   refuses = bind (thread_test w tid pid) _ (bind (live_test w pid) _ (if_refuses (not (is_live w pid)) INVALID_CID refl) (λ _. bind (unused_thread_test w tid) _ (if_refuses (was_thread w tid) OBJECT_NAME_COLLISION refl) (λ _. if_refuses (nat_le THREAD_LIMIT (live_count w pid)) QUOTA_EXCEEDED refl))) (λ _. tt);
   seen = λ is. bind_holds (thread_test w tid pid) _ (λ bs. view m (world_after w bs) ≡ world_after (view m w) (effect (view m w) (thread tid pid))) (λ _ _. run-ours m w (effect w (thread tid pid)) (rw is refl));
   hidden = λ out. bind_holds (thread_test w tid pid) _ (λ bs. view m (world_after w bs) ≡ view m w) (λ _ _. basic-unseen m w (AddsThread (new_thread tid pid (directive_birth tid pid))) out refl);
@@ -178,6 +212,7 @@ dir-directs m w text s = record {
   is = refl;
   whose = λ v. refl;
   silent = bind_holds (free_name w text) _ (λ bs. entries_of bs ≡ []) (λ _ _. refl);
+  gives = bind_holds (free_name w text) _ (λ bs. given_in bs ≡ []) (λ _ _. refl);
   refuses = bind (free_name w text) _ (named (free_path w.bindings text)) (λ _. tt);
   seen = λ is. bind_holds (free_name w text) _ (λ bs. view m (world_after w bs) ≡ world_after (view m w) (effect (view m w) (dir text))) (λ path at.
       rw (free-named m w text path s at) (run-ours m w (Binds path (Stands Directory) ∷ []) refl));
@@ -190,6 +225,7 @@ link-directs m w text target s = record {
   is = refl;
   whose = λ v. refl;
   silent = bind_holds (spelled_name target) _ (λ bs. entries_of bs ≡ []) (λ to _. bind_holds (free_name w text) _ (λ bs. entries_of bs ≡ []) (λ _ _. refl));
+  gives = bind_holds (spelled_name target) _ (λ bs. given_in bs ≡ []) (λ to _. bind_holds (free_name w text) _ (λ bs. given_in bs ≡ []) (λ _ _. refl));
   refuses = bind (spelled_name target) _ (named (spelled target)) (λ to. bind (free_name w text) _ (named (free_path w.bindings text)) (λ _. tt));
   seen = λ is. bind_holds (spelled_name target) _ (λ bs. view m (world_after w bs) ≡ world_after (view m w) (effect (view m w) (link text target))) (λ to to_at.
       bind_holds (free_name w text) _ (λ bs. view m (world_after w bs) ≡ world_after (view m w) (effect (view m w) (link text target))) (λ path at.

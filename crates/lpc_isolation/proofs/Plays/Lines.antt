@@ -9,12 +9,12 @@ use Rattle.lpc_base.proofs.Bools.{first-true, second-true}
 use Rattle.lpc_base.specs.declared.status.TheConstants.{SUCCESS}
 use Rattle.lpc_model.specs.declared.entry.Entry.{Entry}
 use Rattle.lpc_model.specs.declared.entry.Entry.TheVariants as entry
-use Rattle.lpc_model.specs.World.{Contents, ThreadRow, UsedThread, WaitRow, World}
+use Rattle.lpc_model.specs.World.{Contents, ThreadRow, UsedThread, WaitRow, World, Impersonation}
 use Rattle.lpc_model.specs.Found.{is_used_thread, live_thread, waits_as}
 use Rattle.lpc_model.specs.Basics.{Basic, entries_of, world_after}
-use Rattle.lpc_model.specs.Lines.{ScriptCall, run, read_virtual_memory, read_request_data}
+use Rattle.lpc_model.specs.Lines.{ScriptCall, run, read_virtual_memory, read_request_data, ScriptLine}
 use Rattle.lpc_isolation.proofs.Gone.Served.{served_step, served_steps}
-use Rattle.lpc_model.specs.Circle.{Everyone, Event, Group, Item, Nobody, Of, Ran, Told, Whose, entry_whose, is_item, is_seen, is_told_to, item_of, items, owned, owner, thread_whose, told_event}
+use Rattle.lpc_model.specs.Circle.{Everyone, Event, Group, Item, Nobody, Of, Ran, Told, Whose, entry_whose, is_item, is_seen, is_told_to, item_of, items, owned, owner, thread_whose, told_event, Gave, gave_event, given_in}
 use Rattle.lpc_isolation.proofs.Views.Alone.{alone}
 use Rattle.lpc_isolation.proofs.Gone.Bare.{bare_line_events}
 use Rattle.lpc_isolation.proofs.Views.Filters.{first-kept, first-none_kept}
@@ -22,7 +22,7 @@ use Rattle.lpc_isolation.proofs.Views.View.{our_used, our_wait, view}
 use Rattle.lpc_isolation.proofs.Views.Apart.{absorb, absorb_all, are_apart, c_seen, heard, is_heard, run-apart, run-quiet}
 use Rattle.lpc_isolation.proofs.Views.Callers.{Led}
 use Rattle.lpc_isolation.proofs.Each.Listens.{own_entry}
-use Rattle.lpc_isolation.proofs.Plays.Play.{told_at, told_inputs, told_items, is_told_input}
+use Rattle.lpc_isolation.proofs.Plays.Play.{told_at, told_inputs, told_items, is_told_input, gave_items, given_at, items-append}
 
 -- Owners in a view
 abbrev pub OnceUsed : World → Type 0
@@ -142,6 +142,27 @@ abbrev pub next_entry : List Item → Entry
 next_entry [] = entry.Busy 0
 next_entry (Ran line ∷ is) = entry.Busy 0
 next_entry (Told e ∷ is) = e
+next_entry (Gave own ∷ is) = entry.Busy 0
+
+-- the token that comes next, behind the entries of its line
+abbrev pub next_given : List Item → Option Impersonation
+next_given [] = None
+next_given (Ran line ∷ is) = None
+next_given (Told e ∷ is) = next_given is
+next_given (Gave own ∷ is) = Some own
+
+-- the token that steps let a thread have
+abbrev pub first_given : List Impersonation → Option Impersonation
+first_given [] = None
+first_given (own ∷ gs) = Some own
+
+-- a token is the first that is given, where one is
+abbrev pub IsGiven : Option Impersonation → List Impersonation → Type 0
+IsGiven o [] = Unit {0}
+IsGiven o (own ∷ gs) = o ≡ Some own
+
+abbrev pub own_given : List Basic → Option Impersonation
+own_given bs = first_given (given_in bs)
 
 abbrev pub accepts : Entry → Bool
 accepts (entry.Answer who call status fields) = status.0 == SUCCESS.0
@@ -154,7 +175,7 @@ accepts (entry.Directive word status) = false
 
 -- what the calls of members other than c do in a view, by what they are told; the bytes that are known
 pub record Leads : Type 0 where
-  pub lead : World → ThreadRow → ScriptCall → Entry → List Basic
+  pub lead : World → ThreadRow → ScriptCall → Entry → Option Impersonation → List Basic
   pub bytes : Contents
 
 -- what a call of c's sees of bytes: a read sees those that are known; the view has none, and no other call sees any
@@ -163,40 +184,72 @@ seeing k v (read_virtual_memory address n) = record v { contents = k }
 seeing k v (read_request_data handle bytes index n) = record v { contents = k }
 seeing k v call = v
 
-abbrev pub led_line : Leads → World → ℕ → ScriptCall → Entry → List Basic
-led_line led v tid call e = cond (accepts e) (given (live_thread v tid) (λ by. led.lead v by call e)) []
+abbrev pub led_line : Leads → World → ℕ → ScriptCall → Entry → Option Impersonation → List Basic
+led_line led v tid call e o = cond (accepts e) (given (live_thread v tid) (λ by. led.lead v by call e o)) []
 
 abbrev pub turn : Leads → ℕ → World → ℕ → ScriptCall → List Item → List Basic
-turn led c v tid call is = cond (is_seen (alone c) (thread_whose v tid)) (served_steps (run tid call) (seeing led.bytes v call)) (led_line led v tid call (next_entry is))
+turn led c v tid call is = cond (is_seen (alone c) (thread_whose v tid)) (served_steps (run tid call) (seeing led.bytes v call)) (led_line led v tid call (next_entry is) (next_given is))
 
 abbrev pub shown_run : Leads → ℕ → World → ℕ → ScriptCall → List Item → List Item
 shown_run led c v tid call is =
     cond (is_seen (alone c) (thread_whose v tid)) (Ran (run tid call) ∷ []) []
-    ++ told_items (heard (alone c) (world_after v (turn led c v tid call is)) (thread_whose v tid) (entries_of (turn led c v tid call is)))
+    ++ (told_items (heard (alone c) (world_after v (turn led c v tid call is)) (thread_whose v tid) (entries_of (turn led c v tid call is)))
+    ++ gave_items (cond (is_seen (alone c) (thread_whose v tid)) (given_in (turn led c v tid call is)) []))
 
 -- what a call's line owes: of an outsider, of c, of another member
 pub record Owes (led : Leads) (m : Group) (c : ℕ) (w : World) (tid : ℕ) (call : ScriptCall) : Type 0 where
   pub apart : is_seen m (thread_whose w tid) ≡ false → are_apart m c (served_step w (run tid call)).world (thread_whose w tid) w (served_steps (run tid call) w) ≡ true
   pub own : is_seen (alone c) (thread_whose w tid) ≡ true → Led m c (served_step w (run tid call)).world (thread_whose w tid) w (served_steps (run tid call) w) (served_steps (run tid call) (seeing led.bytes (view m w) call))
   pub leads : is_seen m (thread_whose w tid) ≡ true → is_seen (alone c) (thread_whose w tid) ≡ false
-      → Led m c (served_step w (run tid call)).world (thread_whose w tid) w (served_steps (run tid call) w) (led_line led (view m w) tid call (own_entry (served_steps (run tid call) w)))
+      → Led m c (served_step w (run tid call)).world (thread_whose w tid) w (served_steps (run tid call) w) (led_line led (view m w) tid call (own_entry (served_steps (run tid call) w)) (own_given (served_steps (run tid call) w)))
+  -- the token that it gives is the next of the inputs
+  pub gives : is_seen m (thread_whose w tid) ≡ true → is_seen (alone c) (thread_whose w tid) ≡ false
+      → (is : List Item) → led_line led (view m w) tid call (own_entry (served_steps (run tid call) w)) (next_given (told_items (told_at m c w (run tid call)) ++ (gave_items (given_at m c w (run tid call)) ++ is))) ≡ led_line led (view m w) tid call (own_entry (served_steps (run tid call) w)) (own_given (served_steps (run tid call) w))
+  pub own_gives : is_seen (alone c) (thread_whose w tid) ≡ true → given_in (served_steps (run tid call) (seeing led.bytes (view m w) call)) ≡ given_in (served_steps (run tid call) w)
   pub first : is_seen m (thread_whose w tid) ≡ true → is_seen (alone c) (thread_whose w tid) ≡ false
       → (is : List Item) → next_entry (told_items (told_at m c w (run tid call)) ++ is) ≡ own_entry (served_steps (run tid call) w)
   pub done : every (is_done (served_step w (run tid call)).world) (served_step w (run tid call)).entries ≡ true
 
--- c's items of the line
-ran-own : (c : ℕ) (w : World) (tid : ℕ) (call : ScriptCall) → items (alone c) (bare_line_events w (run tid call))
-    ≡ cond (is_seen (alone c) (thread_whose w tid)) (Ran (run tid call) ∷ []) [] ++ told_items (heard (alone c) (served_step w (run tid call)).world (thread_whose w tid) (served_step w (run tid call)).entries)
-ran-own c w tid call = at (is_seen (alone c) (thread_whose w tid)) (own-told c (served_step w (run tid call)).world (thread_whose w tid) (served_step w (run tid call)).entries)
+-- c's tokens of a line
+own-gave : (c : ℕ) (d : Whose) (gs : List Impersonation) → items (alone c) (map (gave_event d) gs) ≡ gave_items (cond (is_seen (alone c) d) gs [])
+own-gave c d [] = at (is_seen (alone c) d)
   where
+    at : (b : Bool) → [] ≡ gave_items (cond b [] [])
+    at true = refl
+    at false = refl
+own-gave c d (own ∷ gs) = at (is_seen (alone c) d) (own-gave c d gs)
+  where
+    at : (b : Bool) → items (alone c) (map (gave_event d) gs) ≡ gave_items (cond b gs [])
+        → map item_of (cond b (gave_event d own ∷ which (is_item (alone c)) (map (gave_event d) gs)) (which (is_item (alone c)) (map (gave_event d) gs))) ≡ gave_items (cond b (own ∷ gs) [])
+    at true rest = ap (λ is. Gave own ∷ is) rest
+    at false rest = rest
+
+abbrev own_items : ℕ → World → Whose → List Basic → ScriptLine → List Item
+own_items c u d bs line = cond (is_seen (alone c) d) (Ran line ∷ []) [] ++ (told_items (heard (alone c) u d (entries_of bs)) ++ gave_items (cond (is_seen (alone c) d) (given_in bs) []))
+
+-- c's items of the line
+ran-own : (c : ℕ) (w : World) (tid : ℕ) (call : ScriptCall) → items (alone c) (bare_line_events w (run tid call)) ≡ own_items c (served_step w (run tid call)).world (thread_whose w tid) (served_steps (run tid call) w) (run tid call)
+ran-own c w tid call = at (is_seen (alone c) (thread_whose w tid)) both
+  where
+    told_events : List Event
+    told_events = map (told_event (served_step w (run tid call)).world (thread_whose w tid)) (served_step w (run tid call)).entries
+
+    gave_events : List Event
+    gave_events = map (gave_event (thread_whose w tid)) (given_in (served_steps (run tid call) w))
+
     es : List Event
-    es = map (told_event (served_step w (run tid call)).world (thread_whose w tid)) (served_step w (run tid call)).entries
+    es = told_events ++ gave_events
 
-    told : List Item
-    told = told_items (heard (alone c) (served_step w (run tid call)).world (thread_whose w tid) (served_step w (run tid call)).entries)
+    said : List Item
+    said = told_items (heard (alone c) (served_step w (run tid call)).world (thread_whose w tid) (served_step w (run tid call)).entries) ++ gave_items (cond (is_seen (alone c) (thread_whose w tid)) (given_in (served_steps (run tid call) w)) [])
 
-    at : (b : Bool) → map item_of (which (is_item (alone c)) es) ≡ told
-        → map item_of (cond b (record { whose = thread_whose w tid; item = Ran (run tid call) } ∷ which (is_item (alone c)) es) (which (is_item (alone c)) es)) ≡ cond b (Ran (run tid call) ∷ []) [] ++ told
+    both : map item_of (which (is_item (alone c)) es) ≡ said
+    both = items-append (alone c) told_events gave_events
+        ∙ ap (λ is. is ++ items (alone c) gave_events) (own-told c (served_step w (run tid call)).world (thread_whose w tid) (served_step w (run tid call)).entries)
+        ∙ ap (λ is. told_items (heard (alone c) (served_step w (run tid call)).world (thread_whose w tid) (served_step w (run tid call)).entries) ++ is) (own-gave c (thread_whose w tid) (given_in (served_steps (run tid call) w)))
+
+    at : (b : Bool) → map item_of (which (is_item (alone c)) es) ≡ said
+        → map item_of (cond b (record { whose = thread_whose w tid; item = Ran (run tid call) } ∷ which (is_item (alone c)) es) (which (is_item (alone c)) es)) ≡ cond b (Ran (run tid call) ∷ []) [] ++ said
     at true rest = ap (λ is. Ran (run tid call) ∷ is) rest
     at false rest = rest
 
@@ -210,7 +263,7 @@ run-hidden led m c w tid call c_in o out =
     let quiet : heard (alone c) u d (entries_of bs) ≡ [] = run-quiet m c u d w bs c_in (o.apart out) in
     let off : is_seen (alone c) d ≡ false = c_seen m c d c_in out in (
       run-apart m c u d w bs (o.apart out) ∙ sym (ap (absorb_all (view m w)) (quiet-inputs m c u d (entries_of bs) quiet)),
-      ran-own c w tid call ∙ ap (λ b. cond b (Ran (run tid call) ∷ []) [] ++ told_items (heard (alone c) u d (entries_of bs))) off ∙ ap told_items quiet,
+      ran-own c w tid call ∙ ap (λ b. cond b (Ran (run tid call) ∷ []) [] ++ (told_items (heard (alone c) u d (entries_of bs)) ++ gave_items (cond b (given_in bs) []))) off ∙ ap (λ es. told_items es ++ []) quiet,
     )
 
 -- a member's line is visible
@@ -221,35 +274,48 @@ whose-same m (Some p) is = rw is refl
 pub thread-same : (m : Group) (w : World) (tid : ℕ) → OnceUsed w → is_seen m (thread_whose w tid) ≡ true → thread_whose (view m w) tid ≡ thread_whose w tid
 thread-same m w tid once is = ap owned (owner-view m w tid once) ∙ whose-same m (owner w tid) is
 
--- what a turn leaves, and tells c
+-- what a turn leaves, tells c, and lets c have
 pub record Turned (m : Group) (c : ℕ) (w : World) (tid : ℕ) (call : ScriptCall) (taken : List Basic) : Type 0 where
   pub world : world_after (view m w) taken ≡ view m (served_step w (run tid call)).world
   pub told : heard (alone c) (served_step w (run tid call)).world (thread_whose w tid) (entries_of taken) ≡ heard (alone c) (served_step w (run tid call)).world (thread_whose w tid) (served_step w (run tid call)).entries
+  pub gave : cond (is_seen (alone c) (thread_whose w tid)) (given_in taken) [] ≡ cond (is_seen (alone c) (thread_whose w tid)) (given_in (served_steps (run tid call) w)) []
 
-pub turned : (led : Leads) (m : Group) (c : ℕ) (w : World) (tid : ℕ) (call : ScriptCall) (is : List Item) → Owes led m c w tid call → OnceUsed w → is_seen m (thread_whose w tid) ≡ true → Turned m c w tid call (turn led c (view m w) tid call (told_items (told_at m c w (run tid call)) ++ is))
-turned led m c w tid call is o once seen = subst (λ b. Turned m c w tid call (cond b (served_steps (run tid call) (seeing led.bytes (view m w) call)) (led_line led (view m w) tid call (next_entry (told_items (told_at m c w (run tid call)) ++ is))))) (sym mine) (at (is_seen (alone c) (thread_whose w tid)) refl)
+pub turned : (led : Leads) (m : Group) (c : ℕ) (w : World) (tid : ℕ) (call : ScriptCall) (is : List Item) → Owes led m c w tid call → OnceUsed w → is_seen m (thread_whose w tid) ≡ true → Turned m c w tid call (turn led c (view m w) tid call (told_items (told_at m c w (run tid call)) ++ (gave_items (given_at m c w (run tid call)) ++ is)))
+turned led m c w tid call is o once seen = subst (λ b. Turned m c w tid call (cond b (served_steps (run tid call) (seeing led.bytes (view m w) call)) (led_line led (view m w) tid call (next_entry said) (next_given said)))) (sym mine) (at (is_seen (alone c) (thread_whose w tid)) refl)
   where
+    said : List Item
+    said = told_items (told_at m c w (run tid call)) ++ (gave_items (given_at m c w (run tid call)) ++ is)
+
     mine : is_seen (alone c) (thread_whose (view m w) tid) ≡ is_seen (alone c) (thread_whose w tid)
     mine = ap (is_seen (alone c)) (thread-same m w tid once seen)
 
-    at : (b : Bool) → is_seen (alone c) (thread_whose w tid) ≡ b → Turned m c w tid call (cond b (served_steps (run tid call) (seeing led.bytes (view m w) call)) (led_line led (view m w) tid call (next_entry (told_items (told_at m c w (run tid call)) ++ is))))
-    at true is_c = let l = o.own is_c in record { world = sym l.world; told = sym l.told }
+    both : (b : Bool) (gs hs : List Impersonation) → gs ≡ hs → cond b gs [] ≡ cond b hs []
+    both b gs hs same = ap (λ gs. cond b gs []) same
+
+    none : (b : Bool) (gs hs : List Impersonation) → b ≡ false → cond b gs [] ≡ cond b hs []
+    none b gs hs off = rw off refl
+
+    at : (b : Bool) → is_seen (alone c) (thread_whose w tid) ≡ b → Turned m c w tid call (cond b (served_steps (run tid call) (seeing led.bytes (view m w) call)) (led_line led (view m w) tid call (next_entry said) (next_given said)))
+    at true is_c = let l = o.own is_c in record { world = sym l.world; told = sym l.told; gave = both (is_seen (alone c) (thread_whose w tid)) _ _ (o.own_gives is_c) }
     at false other =
         let l = o.leads seen other in
-        subst (λ e. Turned m c w tid call (led_line led (view m w) tid call e)) (sym (o.first seen other is)) (record { world = sym l.world; told = sym l.told })
+        subst (λ e. Turned m c w tid call (led_line led (view m w) tid call e (next_given said))) (sym (o.first seen other (gave_items (given_at m c w (run tid call)) ++ is)))
+        (subst (Turned m c w tid call) (sym (o.gives seen other is)) (record { world = sym l.world; told = sym l.told; gave = none (is_seen (alone c) (thread_whose w tid)) _ _ other }))
 
 pub run-visible : (led : Leads) (m : Group) (c : ℕ) (w : World) (tid : ℕ) (call : ScriptCall) (is : List Item) → m c ≡ true → Owes led m c w tid call → OnceUsed w → OnceUsed (served_step w (run tid call)).world → is_seen m (thread_whose w tid) ≡ true
-    → (view m (served_step w (run tid call)).world ≡ absorb_all (world_after (view m w) (turn led c (view m w) tid call (told_items (told_at m c w (run tid call)) ++ is))) (told_at m c w (run tid call)))
-    × (items (alone c) (bare_line_events w (run tid call)) ≡ shown_run led c (view m w) tid call (told_items (told_at m c w (run tid call)) ++ is))
+    → (view m (served_step w (run tid call)).world ≡ absorb_all (world_after (view m w) (turn led c (view m w) tid call (told_items (told_at m c w (run tid call)) ++ (gave_items (given_at m c w (run tid call)) ++ is)))) (told_at m c w (run tid call)))
+    × (items (alone c) (bare_line_events w (run tid call)) ≡ shown_run led c (view m w) tid call (told_items (told_at m c w (run tid call)) ++ (gave_items (given_at m c w (run tid call)) ++ is)))
 run-visible led m c w tid call is c_in o once next seen =
     let u : World = (served_step w (run tid call)).world in
     let d : Whose = thread_whose w tid in
-    let taken : List Basic = turn led c (view m w) tid call (told_items (told_at m c w (run tid call)) ++ is) in
+    let bs : List Basic = served_steps (run tid call) w in
+    let taken : List Basic = turn led c (view m w) tid call (told_items (told_at m c w (run tid call)) ++ (gave_items (given_at m c w (run tid call)) ++ is)) in
     let t : Turned m c w tid call taken = turned led m c w tid call is o once seen in
     let same : thread_whose (view m w) tid ≡ d = thread-same m w tid once seen in (
       sym (ap (λ v. absorb_all v (told_at m c w (run tid call))) t.world ∙ absorbed-done m u (is_told_input m c u d) (served_step w (run tid call)).entries o.done),
       ran-own c w tid call
-          ∙ ap (λ is. cond (is_seen (alone c) d) (Ran (run tid call) ∷ []) [] ++ told_items is) (sym t.told ∙ sym (heard-view m c u d (entries_of taken) c_in next))
-          ∙ ap (λ v. cond (is_seen (alone c) d) (Ran (run tid call) ∷ []) [] ++ told_items (heard (alone c) v d (entries_of taken))) (sym t.world)
-          ∙ ap (λ d. cond (is_seen (alone c) d) (Ran (run tid call) ∷ []) [] ++ told_items (heard (alone c) (world_after (view m w) taken) d (entries_of taken))) (sym same),
+          ∙ ap (λ is. cond (is_seen (alone c) d) (Ran (run tid call) ∷ []) [] ++ (told_items is ++ gave_items (cond (is_seen (alone c) d) (given_in bs) []))) (sym t.told ∙ sym (heard-view m c u d (entries_of taken) c_in next))
+          ∙ ap (λ gs. cond (is_seen (alone c) d) (Ran (run tid call) ∷ []) [] ++ (told_items (heard (alone c) (view m u) d (entries_of taken)) ++ gave_items gs)) (sym t.gave)
+          ∙ ap (λ v. own_items c v d taken (run tid call)) (sym t.world)
+          ∙ ap (λ d. own_items c (world_after (view m w) taken) d taken (run tid call)) (sym same),
     )

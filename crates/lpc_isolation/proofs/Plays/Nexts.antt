@@ -1,24 +1,26 @@
 -- What each line keeps, in a run in which a group is a circle of c.
+use Rattle.lpc_model.specs.Creation.{unused_test}
 use Rattle.lpc_isolation.proofs.Calls.Services.{lawful}
 use Rattle.lpc_isolation.proofs.Calls.Laws.{at-most}
 use Rattle.std.proofs.Common.{◌≡◌, ℕ, List, [], ◌∷◌, Bool, true, false, Option, Some, None, refl, sym, subst}
 use Rattle.std.proofs.lemmas.Bool.{and_from}
-use Rattle.std.specs.Prelude.{◌||◌, Result, Ok, Err}
+use Rattle.std.specs.Prelude.{◌||◌, Result, Ok, Err, is_some}
 use Rattle.lpc_base.specs.Rows.{has}
 use Rattle.lpc_base.specs.declared.status.Status.{Status}
-use Rattle.lpc_model.specs.World.{Birth, ThreadRow, WaitRow, World}
-use Rattle.lpc_model.specs.Found.{is_used_thread, live_thread, wait_of, was_process, was_thread}
-use Rattle.lpc_model.specs.Basics.{AddsProcess, AddsThread, Basic, Binds, used, world_after}
+use Rattle.lpc_model.specs.World.{Birth, ThreadRow, WaitRow, World, Token}
+use Rattle.lpc_model.specs.Found.{is_used_thread, live_thread, wait_of, was_process, was_thread, named_token}
+use Rattle.lpc_model.specs.Basics.{AddsProcess, AddsThread, Basic, Binds, used, world_after, NamesToken}
 use Rattle.lpc_model.specs.Named.{free_name, spelled_name}
 use Rattle.lpc_model.specs.Refusal.{refuse_if}
 use Rattle.lpc_model.specs.Then.{◌>>=◌}
 use Rattle.lpc_base.specs.declared.status.TheConstants.{OBJECT_NAME_COLLISION}
 use Rattle.lpc_model.specs.declared.entry.Word.{Word}
 use Rattle.lpc_model.specs.declared.entry.Word.TheVariants.{Boot, Dir, Link, Thread}
+use Rattle.lpc_model.specs.declared.entry.Word.TheVariants as word
 use Rattle.lpc_names.specs.Walk.{LinkTo, Stands}
 use Rattle.lpc_names.specs.declared.names.Found.TheVariants.{Directory}
-use Rattle.lpc_model.specs.Lines.{ScriptCall, ScriptLine, boot, dir, link, run, thread}
-use Rattle.lpc_model.specs.Machine.{boot_line, dir_line, directed, directive_birth, link_line, live_test, name_of_call, new_process, new_thread, settled, thread_count_test, thread_line, thread_test, unused_thread_test}
+use Rattle.lpc_model.specs.Lines.{ScriptCall, ScriptLine, boot, dir, link, run, thread, token}
+use Rattle.lpc_model.specs.Machine.{boot_line, dir_line, directed, directive_birth, link_line, live_test, name_of_call, new_process, new_thread, settled, thread_count_test, thread_line, thread_test, unused_thread_test, boot_token, token_line, boot_steps}
 use Rattle.lpc_isolation.proofs.Gone.Served.{served, served_step}
 use Rattle.lpc_model.proofs.Calls.Holding.{Holds, bind_holds, holds_any, holds_ok, not_refused}
 use Rattle.lpc_model.specs.Circle.{Group}
@@ -37,7 +39,7 @@ use Rattle.lpc_isolation.proofs.Each.Instances.{At}
 use Rattle.lpc_isolation.proofs.Rows.Bound.{OnceBound, once-bound, seen-names}
 use Rattle.lpc_isolation.proofs.Rows.Bindings.{free-unbound}
 use Rattle.lpc_isolation.proofs.Rows.NamesKept.{bound-call}
-use Rattle.lpc_isolation.proofs.Plays.Directives.{boot-directs, dir-directs, link-directs, thread-directs}
+use Rattle.lpc_isolation.proofs.Plays.Directives.{boot-directs, dir-directs, link-directs, thread-directs, token-directs}
 use Rattle.lpc_isolation.proofs.Plays.Stands.{Kept, State, Stood, ready-at}
 use Rattle.lpc_isolation.proofs.Memory.Knows.{known_queue}
 use Rattle.lpc_isolation.proofs.Each.Creates.{id-most}
@@ -47,24 +49,26 @@ unused-number : (w : World) (tid pid : ℕ) → Holds (λ (u : Unit {0}). was_th
 unused-number w tid pid = bind_holds (live_test w pid) _ (λ u. was_thread w tid ≡ false) (λ _ _.
     bind_holds (unused_thread_test w tid) _ (λ u. was_thread w tid ≡ false) (λ u is. holds_any (was_thread w tid ≡ false) (not_refused (was_thread w tid) OBJECT_NAME_COLLISION u is) (thread_count_test w pid)))
 
-boot-next : (m : Group) (c : ℕ) (w : World) (pid tid : ℕ) → has_ids (boot pid tid) ≡ true → Kept m c w → (r : Result (List Basic) Status) → boot_line w pid tid ≡ r → Kept m c (world_after w (directed Boot r))
+boot-next : (m : Group) (c : ℕ) (w : World) (pid tid : ℕ) (name : Option (List ℕ)) → has_ids (boot pid tid name) ≡ true → Kept m c w → Holds (λ bs. Kept m c (world_after w bs)) (boot_line w pid tid name)
 unfolding boot_line
-boot-next m c w pid tid ids n (Err s) is = n
-boot-next m c w pid tid ids n (Ok bs) is = at (was_process w pid || was_thread w tid) refl is
+boot-next m c w pid tid name ids n = bind_holds (boot_token w name) _ (λ bs. Kept m c (world_after w bs)) (λ content _.
+    bind_holds (unused_test w pid tid) _ (λ bs. Kept m c (world_after w bs)) (λ (u : Unit {0}) is. booted content (not_refused (was_process w pid || was_thread w tid) OBJECT_NAME_COLLISION u is)))
   where
-    at : (b : Bool) → (was_process w pid || was_thread w tid) ≡ b → (refuse_if b OBJECT_NAME_COLLISION >>= (λ (u : Unit {0}). Ok (AddsProcess (new_process pid None (directive_birth pid pid)) ∷ AddsThread (new_thread tid pid (directive_birth tid pid)) ∷ []))) ≡ Ok bs → Kept m c (world_after w bs)
-    at true used is = absurd (cc)
-    at false unused is =
+    booted : (content : Token) → (was_process w pid || was_thread w tid) ≡ false → Kept m c (world_after w (boot_steps pid tid content))
+    booted content unused =
         let new : has (is_used_thread tid) w.used_threads ≡ false = second-off (was_process w pid) (was_thread w tid) unused in
-        let same : (AddsProcess (new_process pid None (directive_birth pid pid)) ∷ AddsThread (new_thread tid pid (directive_birth tid pid)) ∷ []) ≡ bs = cc in
-        subst (λ bs. Kept m c (world_after w bs)) same (record {
-          fair = run-fair m c w (AddsProcess (new_process pid None (directive_birth pid pid)) ∷ AddsThread (new_thread tid pid (directive_birth tid pid)) ∷ []) (rw (new, together-of m pid pid refl) refl) n.fair;
+        record {
+          fair = run-fair m c w (boot_steps pid tid content) (rw (new, together-of m pid pid refl) refl) n.fair;
           once = λ t. at-most t w.used_threads (used (new_thread tid pid (directive_birth tid pid))) new (n.once t);
           names = n.names;
           paths = n.paths;
-          numbered = every-push of_number w.used_threads (used (new_thread tid pid (directive_birth tid pid))) n.numbered (and_from _ _ (id-most pid (first-true _ _ ids)) (id-most tid (second-true _ _ ids)));
+          numbered = every-push of_number w.used_threads (used (new_thread tid pid (directive_birth tid pid))) n.numbered (and_from _ _ (id-most pid (first-true (is_id pid) (is_id tid) ids)) (id-most tid (second-true (is_id pid) (is_id tid) ids)));
           asked = record { sorts = n.asked.sorts; own = n.asked.own; one = n.asked.one };
-        })
+        }
+
+token-next : (m : Group) (c : ℕ) (w : World) (name : List ℕ) (content : Token) → Kept m c w → Holds (λ bs. Kept m c (world_after w bs)) (token_line w name content)
+unfolding token_line
+token-next m c w name content n = bind_holds (refuse_if (is_some (named_token w name)) OBJECT_NAME_COLLISION) _ (λ bs. Kept m c (world_after w bs)) (λ _ _. record { fair = run-fair m c w (NamesToken (record { name = name; token = content }) ∷ []) refl n.fair; once = n.once; names = n.names; paths = n.paths; numbered = n.numbered; asked = record { sorts = n.asked.sorts; own = n.asked.own; one = n.asked.one } })
 
 thread-holds : (m : Group) (c : ℕ) (w : World) (tid pid : ℕ) → has_ids (thread tid pid) ≡ true → Kept m c w → Holds (λ bs. Kept m c (world_after w bs)) (thread_line w tid pid)
 unfolding thread_line
@@ -122,7 +126,8 @@ run-next m c w s tid call ids c_in st fine next = at (live_thread w tid) refl
 
 pub line-next : (m : Group) (c : ℕ) (w : World) (s : State) (line : ScriptLine) → has_ids line ≡ true → m c ≡ true → Stood m c w s → HasFineRows m c w → HasFineRows m c (served_step w line).world → Kept m c (served_step w line).world
 line-next m c w s (run tid call) ids c_in st fine next = run-next m c w s tid call (second-true (is_id tid) _ ids) c_in st fine next
-line-next m c w s (boot pid tid) ids c_in st fine next = subst (λ bs. Kept m c (world_after w bs)) (sym (boot-directs m w pid tid).is) (boot-next m c w pid tid ids st.kept (boot_line w pid tid) refl)
+line-next m c w s (boot pid tid name) ids c_in st fine next = subst (λ bs. Kept m c (world_after w bs)) (sym (boot-directs m w pid tid name).is) (directed-next m c w Boot (boot_line w pid tid name) st.kept (boot-next m c w pid tid name ids st.kept))
+line-next m c w s (token name content) ids c_in st fine next = subst (λ bs. Kept m c (world_after w bs)) (sym (token-directs m w name content).is) (directed-next m c w word.Token (token_line w name content) st.kept (token-next m c w name content st.kept))
 line-next m c w s (thread tid pid) ids c_in st fine next = subst (λ bs. Kept m c (world_after w bs)) (sym (thread-directs m w tid pid).is) (thread-next m c w tid pid ids st.kept (thread_line w tid pid) refl)
 line-next m c w s (dir path) ids c_in st fine next = subst (λ bs. Kept m c (world_after w bs)) (sym (dir-directs m w path (seen-names m w.bindings st.kept.names)).is) (directed-next m c w Dir (dir_line w path) st.kept (dir-next m c w path st.kept))
 line-next m c w s (link path target) ids c_in st fine next = subst (λ bs. Kept m c (world_after w bs)) (sym (link-directs m w path target (seen-names m w.bindings st.kept.names)).is) (directed-next m c w Link (link_line w path target) st.kept (link-next m c w path target st.kept))

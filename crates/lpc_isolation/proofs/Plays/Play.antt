@@ -7,11 +7,11 @@ use Rattle.std.proofs.Math.Bool.{and-true}
 use Rattle.lpc_base.specs.Rows.{which}
 use Rattle.lpc_base.proofs.Bools.{first-true, second-true}
 use Rattle.lpc_model.specs.declared.entry.Entry.{Entry}
-use Rattle.lpc_model.specs.World.{Birth, World, no_rows}
+use Rattle.lpc_model.specs.World.{Birth, World, no_rows, Impersonation}
 use Rattle.lpc_model.specs.Lines.{ScriptLine}
-use Rattle.lpc_isolation.proofs.Gone.Served.{served_step}
+use Rattle.lpc_isolation.proofs.Gone.Served.{served_step, served_steps}
 use Rattle.lpc_model.specs.Run.{said_in}
-use Rattle.lpc_model.specs.Circle.{Event, Everyone, Group, Item, Nobody, Of, Ran, Told, Whose, entry_whose, inputs, is_fine_line, is_input, is_item, is_seen, is_told_to, item_of, items, line_whose, members, told_event}
+use Rattle.lpc_model.specs.Circle.{Event, Everyone, Group, Item, Nobody, Of, Ran, Told, Whose, entry_whose, inputs, is_fine_line, is_input, is_item, is_seen, is_told_to, item_of, items, line_whose, members, told_event, Gave, gave_event, given_in}
 use Rattle.lpc_isolation.proofs.Views.Alone.{HasFineRows, alone}
 use Rattle.lpc_isolation.proofs.Gone.Bare.{IsApartAt, IsBareCircle, BareIsolation, bare_events, bare_line_events, HasViewsApart}
 
@@ -25,6 +25,7 @@ abbrev pub play : {S : Type 0} → Player S → S → List Item → List Item
 play p v [] = []
 play p v (Ran line ∷ is) = p.shown_at v line is ++ play p (p.after v line is) is
 play p v (Told e ∷ is) = play p (p.absorb_at v e) is
+play p v (Gave own ∷ is) = play p v is
 
 abbrev pub absorbed : {S : Type 0} → Player S → S → List Entry → S
 absorbed p v [] = v
@@ -37,6 +38,13 @@ pub play-told : {S : Type 0} (p : Player S) (v : S) (es : List Entry) (is : List
 play-told p v [] is = refl
 play-told p v (e ∷ es) is = play-told p (p.absorb_at v e) es is
 
+abbrev pub gave_items : List Impersonation → List Item
+gave_items gs = map Gave gs
+
+play-gave : {S : Type 0} (p : Player S) (v : S) (gs : List Impersonation) (is : List Item) → play p v (gave_items gs ++ is) ≡ play p v is
+play-gave p v [] is = refl
+play-gave p v (own ∷ gs) is = play-gave p v gs is
+
 -- the entries of a line that are inputs
 abbrev pub is_told_input : Group → ℕ → World → Whose → Entry → Bool
 is_told_input m c u d e = is_seen m (entry_whose u d e) && not (is_told_to c (entry_whose u d e) (Told e))
@@ -48,6 +56,16 @@ told_inputs m c u d es = which (is_told_input m c u d) es
 abbrev pub told_at : Group → ℕ → World → ScriptLine → List Entry
 told_at m c w line = told_inputs m c (served_step w line).world (line_whose w line) (served_step w line).entries
 
+-- the tokens of a line that are inputs
+abbrev pub is_given_input : Group → ℕ → Whose → Impersonation → Bool
+is_given_input m c d own = is_seen m d && not (is_told_to c d (Gave own))
+
+abbrev pub given_inputs : Group → ℕ → Whose → List Impersonation → List Impersonation
+given_inputs m c d gs = which (is_given_input m c d) gs
+
+abbrev pub given_at : Group → ℕ → World → ScriptLine → List Impersonation
+given_at m c w line = given_inputs m c (line_whose w line) (given_in (served_steps line w))
+
 -- a line that the group doesn't see, and one that it sees, where a state stands for a world
 pub record Hidden {S : Type 0} (p : Player S) (Stands : World → S → Type 0) (m : Group) (c : ℕ) (w : World) (v : S) (line : ScriptLine) : Type 0 where
   pub unseen : is_seen m (line_whose w line) ≡ false
@@ -56,15 +74,15 @@ pub record Hidden {S : Type 0} (p : Player S) (Stands : World → S → Type 0) 
 
 pub record Visible {S : Type 0} (p : Player S) (Stands : World → S → Type 0) (m : Group) (c : ℕ) (w : World) (v : S) (line : ScriptLine) : Type 0 where
   pub seen : is_seen m (line_whose w line) ≡ true
-  pub stands : (is : List Item) → Stands (served_step w line).world (absorbed p (p.after v line (told_items (told_at m c w line) ++ is)) (told_at m c w line))
-  pub shown : (is : List Item) → items (alone c) (bare_line_events w line) ≡ p.shown_at v line (told_items (told_at m c w line) ++ is)
+  pub stands : (is : List Item) → Stands (served_step w line).world (absorbed p (p.after v line (told_items (told_at m c w line) ++ (gave_items (given_at m c w line) ++ is))) (told_at m c w line))
+  pub shown : (is : List Item) → items (alone c) (bare_line_events w line) ≡ p.shown_at v line (told_items (told_at m c w line) ++ (gave_items (given_at m c w line) ++ is))
 
 pub data Played {S : Type 0} (p : Player S) (Stands : World → S → Type 0) (m : Group) (c : ℕ) (w : World) (v : S) (line : ScriptLine) : Type 0 where
   hidden : Hidden p Stands m c w v line → Played p Stands m c w v line
   visible : Visible p Stands m c w v line → Played p Stands m c w v line
 
 -- Filters of one list of events
-items-append : (m : Group) (xs ys : List Event) → items m (xs ++ ys) ≡ items m xs ++ items m ys
+pub items-append : (m : Group) (xs ys : List Event) → items m (xs ++ ys) ≡ items m xs ++ items m ys
 items-append m xs ys = ap (map item_of) (filter-append (is_item m) xs ys) ∙ map-append item_of (which (is_item m) xs) (which (is_item m) ys)
 
 inputs-append : (m : Group) (c : ℕ) (xs ys : List Event) → inputs m c (xs ++ ys) ≡ inputs m c xs ++ inputs m c ys
@@ -79,22 +97,45 @@ told-inputs m c u d (e ∷ es) = at (is_told_input m c u d e) (told-inputs m c u
     at true rest = ap (λ is. Told e ∷ is) rest
     at false rest = rest
 
+gave-inputs : (m : Group) (c : ℕ) (d : Whose) (gs : List Impersonation) → inputs m c (map (gave_event d) gs) ≡ gave_items (given_inputs m c d gs)
+gave-inputs m c d [] = refl
+gave-inputs m c d (own ∷ gs) = at (is_given_input m c d own) (gave-inputs m c d gs)
+  where
+    at : (b : Bool) → inputs m c (map (gave_event d) gs) ≡ gave_items (given_inputs m c d gs)
+        → map item_of (cond b (gave_event d own ∷ which (is_input m c) (map (gave_event d) gs)) (which (is_input m c) (map (gave_event d) gs))) ≡ map Gave (cond b (own ∷ given_inputs m c d gs) (given_inputs m c d gs))
+    at true rest = ap (λ is. Gave own ∷ is) rest
+    at false rest = rest
+
 ran-input : (m : Group) (c : ℕ) (whose : Whose) (line : ScriptLine) → is_input m c (record { whose = whose; item = Ran line }) ≡ is_seen m whose
 ran-input m c (Of pid) line = and-true (m pid)
 ran-input m c Everyone line = refl
 ran-input m c Nobody line = refl
 
 -- the inputs of a line
-line-inputs : (m : Group) (c : ℕ) (w : World) (line : ScriptLine) → inputs m c (bare_line_events w line) ≡ cond (is_seen m (line_whose w line)) (Ran line ∷ told_items (told_inputs m c (served_step w line).world (line_whose w line) (served_step w line).entries)) (told_items (told_inputs m c (served_step w line).world (line_whose w line) (served_step w line).entries))
-line-inputs m c w line = subst (λ b. map item_of (cond b (record { whose = line_whose w line; item = Ran line } ∷ which (is_input m c) es) (which (is_input m c) es)) ≡ cond (is_seen m (line_whose w line)) (Ran line ∷ told) told) (sym (ran-input m c (line_whose w line) line)) (at (is_seen m (line_whose w line)) (told-inputs m c (served_step w line).world (line_whose w line) (served_step w line).entries))
+abbrev said_at : Group → ℕ → World → ScriptLine → List Item
+said_at m c w line = told_items (told_at m c w line) ++ gave_items (given_at m c w line)
+
+line-inputs : (m : Group) (c : ℕ) (w : World) (line : ScriptLine) → inputs m c (bare_line_events w line) ≡ cond (is_seen m (line_whose w line)) (Ran line ∷ said_at m c w line) (said_at m c w line)
+line-inputs m c w line = subst (λ b. map item_of (cond b (record { whose = line_whose w line; item = Ran line } ∷ which (is_input m c) es) (which (is_input m c) es)) ≡ cond (is_seen m (line_whose w line)) (Ran line ∷ said) said) (sym (ran-input m c (line_whose w line) line)) (at (is_seen m (line_whose w line)) both)
   where
+    told : List Event
+    told = map (told_event (served_step w line).world (line_whose w line)) (served_step w line).entries
+
+    gave : List Event
+    gave = map (gave_event (line_whose w line)) (given_in (served_steps line w))
+
     es : List Event
-    es = map (told_event (served_step w line).world (line_whose w line)) (served_step w line).entries
+    es = told ++ gave
 
-    told : List Item
-    told = told_items (told_inputs m c (served_step w line).world (line_whose w line) (served_step w line).entries)
+    said : List Item
+    said = said_at m c w line
 
-    at : (b : Bool) → map item_of (which (is_input m c) es) ≡ told → map item_of (cond b (record { whose = line_whose w line; item = Ran line } ∷ which (is_input m c) es) (which (is_input m c) es)) ≡ cond b (Ran line ∷ told) told
+    both : map item_of (which (is_input m c) es) ≡ said
+    both = inputs-append m c told gave
+        ∙ ap (λ is. is ++ inputs m c gave) (told-inputs m c (served_step w line).world (line_whose w line) (served_step w line).entries)
+        ∙ ap (λ is. told_items (told_at m c w line) ++ is) (gave-inputs m c (line_whose w line) (given_in (served_steps line w)))
+
+    at : (b : Bool) → map item_of (which (is_input m c) es) ≡ said → map item_of (cond b (record { whose = line_whose w line; item = Ran line } ∷ which (is_input m c) es) (which (is_input m c) es)) ≡ cond b (Ran line ∷ said) said
     at true rest = ap (λ is. Ran line ∷ is) rest
     at false rest = rest
 
@@ -115,18 +156,27 @@ head-fine m c outer w [] is = is
 head-fine m c outer w (None ∷ later) is = head-fine m c outer w later is
 head-fine m c outer w (Some line ∷ later) is = (is.0, is.1)
 
+joined : (xs ys zs : List Item) → (xs ++ ys) ++ zs ≡ xs ++ (ys ++ zs)
+joined [] ys zs = refl
+joined (x ∷ xs) ys zs = ap (λ is. x ∷ is) (joined xs ys zs)
+
 -- one line, and then the rest
 played-line : {S : Type 0} (p : Player S) (Stands : World → S → Type 0) (m : Group) (c : ℕ) (w : World) (v : S) (line : ScriptLine) (own rest : List Item) → Played p Stands m c w v line → ((v : S) → Stands (served_step w line).world v → own ≡ play p v rest)
     → items (alone c) (bare_line_events w line) ++ own ≡ play p v (inputs m c (bare_line_events w line) ++ rest)
 played-line p Stands m c w v line own rest (hidden h) later =
     let told = told_at m c w line in
-    let ins : inputs m c (bare_line_events w line) ≡ told_items told = line-inputs m c w line ∙ ap (λ b. cond b (Ran line ∷ told_items told) (told_items told)) h.unseen in
-    ap (λ is. is ++ own) h.silent ∙ later (absorbed p v told) h.stands ∙ sym (play-told p v told rest) ∙ ap (λ is. play p v (is ++ rest)) (sym ins)
+    let gave = given_at m c w line in
+    let ins : inputs m c (bare_line_events w line) ≡ said_at m c w line = line-inputs m c w line ∙ ap (λ b. cond b (Ran line ∷ said_at m c w line) (said_at m c w line)) h.unseen in
+    ap (λ is. is ++ own) h.silent ∙ later (absorbed p v told) h.stands ∙ sym (play-gave p (absorbed p v told) gave rest) ∙ sym (play-told p v told (gave_items gave ++ rest))
+    ∙ ap (play p v) (sym (joined (told_items told) (gave_items gave) rest)) ∙ ap (λ is. play p v (is ++ rest)) (sym ins)
 played-line p Stands m c w v line own rest (visible h) later =
     let told = told_at m c w line in
-    let ins : inputs m c (bare_line_events w line) ≡ Ran line ∷ told_items told = line-inputs m c w line ∙ ap (λ b. cond b (Ran line ∷ told_items told) (told_items told)) h.seen in
+    let gave = given_at m c w line in
+    let items_at : List Item = told_items told ++ (gave_items gave ++ rest) in
+    let ins : inputs m c (bare_line_events w line) ≡ Ran line ∷ said_at m c w line = line-inputs m c w line ∙ ap (λ b. cond b (Ran line ∷ said_at m c w line) (said_at m c w line)) h.seen in
     ap (λ is. is ++ own) (h.shown rest)
-    ∙ ap (λ is. p.shown_at v line (told_items told ++ rest) ++ is) (later (absorbed p (p.after v line (told_items told ++ rest)) told) (h.stands rest) ∙ sym (play-told p (p.after v line (told_items told ++ rest)) told rest))
+    ∙ ap (λ is. p.shown_at v line items_at ++ is) (later (absorbed p (p.after v line items_at) told) (h.stands rest) ∙ sym (play-gave p (absorbed p (p.after v line items_at) told) gave rest) ∙ sym (play-told p (p.after v line items_at) told (gave_items gave ++ rest)))
+    ∙ ap (λ is. play p v (Ran line ∷ is)) (sym (joined (told_items told) (gave_items gave) rest))
     ∙ ap (λ is. play p v (is ++ rest)) (sym ins)
 
 -- the theorem of one run: c's items are a function of the inputs

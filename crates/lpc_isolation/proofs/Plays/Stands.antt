@@ -10,8 +10,8 @@ use Rattle.lpc_model.specs.World.{Contents, ThreadRow, WaitRow, World}
 use Rattle.lpc_model.specs.Found.{live_thread, wait_of}
 use Rattle.lpc_model.specs.Basics.{world_after}
 use Rattle.lpc_model.specs.Connect.{ConnectAnswer, answer_test}
-use Rattle.lpc_model.specs.Lines.{ScriptCall, ScriptLine, boot, dir, link, run, thread}
-use Rattle.lpc_model.specs.Machine.{boot_line, dir_line, link_line, thread_line}
+use Rattle.lpc_model.specs.Lines.{ScriptCall, ScriptLine, boot, dir, link, run, thread, token}
+use Rattle.lpc_model.specs.Machine.{boot_line, dir_line, link_line, thread_line, token_line}
 use Rattle.lpc_isolation.proofs.Gone.Served.{served_step}
 use Rattle.lpc_model.proofs.Calls.Holding.{holds_ok}
 use Rattle.lpc_model.proofs.Calls.Usable.{live-number}
@@ -27,12 +27,12 @@ use Rattle.lpc_isolation.proofs.Rows.Bound.{OnceBound, seen-names}
 use Rattle.lpc_isolation.proofs.Rows.Asked.{Asked}
 use Rattle.lpc_isolation.proofs.Rows.Ids.{Numbered, all-readable}
 use Rattle.lpc_isolation.proofs.Rows.Paths.{Paths, paths-ways}
-use Rattle.lpc_isolation.proofs.Plays.Play.{Player, absorbed, told_at, told_items}
+use Rattle.lpc_isolation.proofs.Plays.Play.{Player, absorbed, told_at, told_items, gave_items, given_at}
 use Rattle.lpc_isolation.proofs.Plays.Lines.{OnceUsed, Owes, run-hidden, run-visible, shown_run, turn}
 use Rattle.lpc_isolation.proofs.Calls.Lines.{owes-busy, owes-call, owes-none}
 use Rattle.lpc_isolation.proofs.Each.Instances.{At, leading}
 use Rattle.lpc_isolation.proofs.Rows.Kept.{owned-sound}
-use Rattle.lpc_isolation.proofs.Plays.Directives.{boot-directs, dir-directs, directive-hidden, directive-visible, directive_shown, directive_turn, link-directs, thread-directs}
+use Rattle.lpc_isolation.proofs.Plays.Directives.{boot-directs, dir-directs, directive-hidden, directive-visible, directive_shown, directive_turn, link-directs, thread-directs, token-directs}
 use Rattle.lpc_model.specs.Connect.{reaches}
 use Rattle.lpc_model.specs.Found.{is_offered, names_wait}
 use Rattle.lpc_isolation.proofs.Each.Accepts.{reached-of, reached-own}
@@ -49,21 +49,24 @@ pub record State : Type 0 where
 
 abbrev pub played_view : Group → ℕ → State → ScriptLine → List Item → World
 played_view m c s (run tid call) is = world_after s.seen (turn (leading m (known_queue s.memo) s.bytes) c s.seen tid call is)
-played_view m c s (boot pid tid) is = world_after s.seen (directive_turn s.seen (boot pid tid) is)
+played_view m c s (boot pid tid name) is = world_after s.seen (directive_turn s.seen (boot pid tid name) is)
+played_view m c s (token name content) is = world_after s.seen (directive_turn s.seen (token name content) is)
 played_view m c s (thread tid pid) is = world_after s.seen (directive_turn s.seen (thread tid pid) is)
 played_view m c s (dir path) is = world_after s.seen (directive_turn s.seen (dir path) is)
 played_view m c s (link path target) is = world_after s.seen (directive_turn s.seen (link path target) is)
 
 abbrev pub played_items : Group → ℕ → State → ScriptLine → List Item → List Item
 played_items m c s (run tid call) is = shown_run (leading m (known_queue s.memo) s.bytes) c s.seen tid call is
-played_items m c s (boot pid tid) is = directive_shown c s.seen (boot pid tid) is
+played_items m c s (boot pid tid name) is = directive_shown c s.seen (boot pid tid name) is
+played_items m c s (token name content) is = directive_shown c s.seen (token name content) is
 played_items m c s (thread tid pid) is = directive_shown c s.seen (thread tid pid) is
 played_items m c s (dir path) is = directive_shown c s.seen (dir path) is
 played_items m c s (link path target) is = directive_shown c s.seen (link path target) is
 
 abbrev pub played_bytes : Group → ℕ → State → ScriptLine → List Item → Contents
 played_bytes m c s (run tid call) is = contents_after s.bytes (written_turn (leading m (known_queue s.memo) s.bytes) c s.seen tid call is)
-played_bytes m c s (boot pid tid) is = s.bytes
+played_bytes m c s (boot pid tid name) is = s.bytes
+played_bytes m c s (token name content) is = s.bytes
 played_bytes m c s (thread tid pid) is = s.bytes
 played_bytes m c s (dir path) is = s.bytes
 played_bytes m c s (link path target) is = s.bytes
@@ -118,6 +121,7 @@ ready-at m c w s tid by c_in st fine live idle =
       fair = st.kept.fair;
       fine = fine;
       sound = st.firm.sound;
+      linked = st.firm.linked;
       shut = firm-shut w st.firm;
       owned = owned-sound m c w st.kept.fair st.firm.sound.waits;
       names = seen-names m w.bindings st.kept.names;
@@ -158,22 +162,25 @@ owes-line m c w s tid call c_in st fine next line = at (live_thread w tid) refl
 -- What each line leaves of a view, and what c sees of it
 pub record Line (m : Group) (c : ℕ) (w : World) (s : State) (line : ScriptLine) : Type 0 where
   pub hides : is_seen m (line_whose w line) ≡ false → (view m (served_step w line).world ≡ absorb_all s.seen (told_at m c w line)) × (items (alone c) (bare_line_events w line) ≡ [])
-  pub shows : is_seen m (line_whose w line) ≡ true → (is : List Item) → (view m (served_step w line).world ≡ absorb_all (played_view m c s line (told_items (told_at m c w line) ++ is)) (told_at m c w line))
-      × (items (alone c) (bare_line_events w line) ≡ played_items m c s line (told_items (told_at m c w line) ++ is))
+  pub shows : is_seen m (line_whose w line) ≡ true → (is : List Item) → (view m (served_step w line).world ≡ absorb_all (played_view m c s line (told_items (told_at m c w line) ++ (gave_items (given_at m c w line) ++ is))) (told_at m c w line))
+      × (items (alone c) (bare_line_events w line) ≡ played_items m c s line (told_items (told_at m c w line) ++ (gave_items (given_at m c w line) ++ is)))
 
 pub of-line : (m : Group) (c : ℕ) (w : World) (t : List Heard) (k : Contents) (line : ScriptLine) → m c ≡ true → Stood m c w (record { seen = view m w; memo = t; bytes = k }) → HasFineRows m c w → HasFineRows m c (served_step w line).world → OnceUsed (served_step w line).world → FineLine m c k w line → Line m c w (record { seen = view m w; memo = t; bytes = k }) line
 of-line m c w t k (run tid call) c_in st fine next once line =
     let o = owes-line m c w (record { seen = view m w; memo = t; bytes = k }) tid call c_in st fine next line in
     record { hides = λ out. run-hidden (leading m (known_queue t) k) m c w tid call c_in o out; shows = λ seen is. run-visible (leading m (known_queue t) k) m c w tid call is c_in o st.kept.once once seen }
-of-line m c w t k (boot pid tid) c_in st fine next once line =
-    let o = boot-directs m w pid tid in
-    record { hides = λ out. directive-hidden m c w (boot pid tid) _ (Of pid) (boot_line w pid tid) c_in o out; shows = λ seen is. directive-visible m c w (boot pid tid) _ (Of pid) (boot_line w pid tid) is o seen }
+of-line m c w t k (boot pid tid name) c_in st fine next once line =
+    let o = boot-directs m w pid tid name in
+    record { hides = λ out. directive-hidden m c w (boot pid tid name) _ (Of pid) (boot_line w pid tid name) c_in o out; shows = λ seen is. directive-visible m c w (boot pid tid name) _ (Of pid) (boot_line w pid tid name) (gave_items (given_at m c w (boot pid tid name)) ++ is) o seen }
+of-line m c w t k (token name content) c_in st fine next once line =
+    let o = token-directs m w name content in
+    record { hides = λ out. directive-hidden m c w (token name content) _ Everyone (token_line w name content) c_in o out; shows = λ seen is. directive-visible m c w (token name content) _ Everyone (token_line w name content) (gave_items (given_at m c w (token name content)) ++ is) o seen }
 of-line m c w t k (thread tid pid) c_in st fine next once line =
     let o = thread-directs m w tid pid in
-    record { hides = λ out. directive-hidden m c w (thread tid pid) _ (Of pid) (thread_line w tid pid) c_in o out; shows = λ seen is. directive-visible m c w (thread tid pid) _ (Of pid) (thread_line w tid pid) is o seen }
+    record { hides = λ out. directive-hidden m c w (thread tid pid) _ (Of pid) (thread_line w tid pid) c_in o out; shows = λ seen is. directive-visible m c w (thread tid pid) _ (Of pid) (thread_line w tid pid) (gave_items (given_at m c w (thread tid pid)) ++ is) o seen }
 of-line m c w t k (dir path) c_in st fine next once line =
     let o = dir-directs m w path (seen-names m w.bindings st.kept.names) in
-    record { hides = λ out. directive-hidden m c w (dir path) _ Everyone (dir_line w path) c_in o out; shows = λ seen is. directive-visible m c w (dir path) _ Everyone (dir_line w path) is o seen }
+    record { hides = λ out. directive-hidden m c w (dir path) _ Everyone (dir_line w path) c_in o out; shows = λ seen is. directive-visible m c w (dir path) _ Everyone (dir_line w path) (gave_items (given_at m c w (dir path)) ++ is) o seen }
 of-line m c w t k (link path target) c_in st fine next once line =
     let o = link-directs m w path target (seen-names m w.bindings st.kept.names) in
-    record { hides = λ out. directive-hidden m c w (link path target) _ Everyone (link_line w path target) c_in o out; shows = λ seen is. directive-visible m c w (link path target) _ Everyone (link_line w path target) is o seen }
+    record { hides = λ out. directive-hidden m c w (link path target) _ Everyone (link_line w path target) c_in o out; shows = λ seen is. directive-visible m c w (link path target) _ Everyone (link_line w path target) (gave_items (given_at m c w (link path target)) ++ is) o seen }

@@ -188,7 +188,7 @@ waking-asked u v z call fields same quiet = rw (same, quiet) refl
 
 given-asked : (v : World) (y : MessageRow) (z : WaitRow) (sort : WaitKind) → z.kind ≡ sort → takes y z ≡ true → is_patient v z ≡ true → Asked (basic v (Enters y)) → is_quiet (v.messages ++ y ∷ []) z.thread ≡ true → are_asked (basic v (Enters y)) (given_steps z y ++ woken SUCCESS (shown z y) z ∷ []) ≡ true
 given-asked v y z (Request b) k is patient a quiet = let off : (false && same_birth z.queue y.queue) ≡ true = rw k at is in absurd (cc)
-given-asked v y z (Connect b) k is patient a quiet = let off : (false && same_birth z.queue y.queue) ≡ true = rw k at is in absurd (cc)
+given-asked v y z (Connect b offer) k is patient a quiet = let off : (false && same_birth z.queue y.queue) ≡ true = rw k at is in absurd (cc)
 given-asked v y z (Accepted b r) k is patient a quiet = let off : (false && same_birth z.queue y.queue) ≡ true = rw k at is in absurd (cc)
 given-asked v y z Receive k is patient a quiet =
     let u : World = basic (basic v (Enters y)) (Takes y.queue) in
@@ -203,7 +203,7 @@ given-asked v y z Listen k is patient a quiet =
 
 taker-settled : (y : MessageRow) (z : WaitRow) (sort : WaitKind) → z.kind ≡ sort → takes y z ≡ true → is_settled z ≡ true
 taker-settled y z (Request b) k is = let off : (false && same_birth z.queue y.queue) ≡ true = rw k at is in absurd (cc)
-taker-settled y z (Connect b) k is = let off : (false && same_birth z.queue y.queue) ≡ true = rw k at is in absurd (cc)
+taker-settled y z (Connect b offer) k is = let off : (false && same_birth z.queue y.queue) ≡ true = rw k at is in absurd (cc)
 taker-settled y z (Accepted b r) k is = let off : (false && same_birth z.queue y.queue) ≡ true = rw k at is in absurd (cc)
 taker-settled y z Receive k is = rw k (grind arith)
 taker-settled y z Listen k is = rw k (grind arith)

@@ -4,11 +4,11 @@ use Rattle.std.specs.Prelude.{◌&&◌, ◌||◌, ◌==◌, is_none, option_map,
 use Rattle.std.proofs.lemmas.Bool.{and_from, eqb-true}
 use Rattle.lpc_base.specs.Rows.{every, first, has, passes}
 use Rattle.lpc_base.proofs.RowWords.{every-append, every-change, every-more, every-push, every-which, every-without, first-kept, first-passes, first-push}
-use Rattle.lpc_base.proofs.RowMaps.{every-both, every-change_to, every-first, every-map, every-without_first}
+use Rattle.lpc_base.proofs.RowMaps.{every-both, every-change_to, every-first, every-map, every-without_first, every-mapped}
 use Rattle.lpc_base.proofs.Bools.{first-true, same-number, second-true}
-use Rattle.lpc_model.specs.World.{Accepted, Birth, Connect, Creator, HandleRow, HandleTable, Listen, MessageRow, PortRow, ProcessRow, Receive, Request, ThreadRow, UsedThread, ViewRow, ViewTable, WaitKind, WaitRow, World}
-use Rattle.lpc_model.specs.Found.{has_value, is_client_port, is_connect, is_listen, is_own_of, is_port, is_queued, is_receive, is_server_port, is_table, is_thread, is_space, is_used_thread, lies_at, same_birth, views_in, views_of, waits_as, waits_at}
-use Rattle.lpc_model.specs.Basics.{Accepts, AddsHandle, AddsProcess, AddsSection, AddsThread, Awaits, Basic, Binds, Completes, Cuts, DrawsIdentifier, DrawsOrdinal, DropsHandle, DropsViewsOf, Empties, Enters, Frees, Joins, Makes, Maps, Receives, Takes, TakesConnect, Tells, Unbinds, Unmaps, Wakes, Withdraws, Writes, accepted, accepted_as, basic, completed, cut, is_end_of, joined, no_handles, no_views, past_identifier, past_ordinal, received, used, with_handle, with_view, without_handle, without_view, without_views, world_after, Dies, Registers, Unregisters, ended, registering, unregistering}
+use Rattle.lpc_model.specs.World.{Accepted, Birth, Connect, Creator, HandleRow, HandleTable, Listen, MessageRow, PortRow, ProcessRow, Receive, Request, ThreadRow, UsedThread, ViewRow, ViewTable, WaitKind, WaitRow, World, Acceptance, Offer}
+use Rattle.lpc_model.specs.Found.{has_value, is_client_port, is_connect, is_listen, is_own_of, is_port, is_queued, is_receive, is_server_port, is_table, is_thread, is_space, is_used_thread, lies_at, same_birth, views_in, views_of, waits_as, waits_at, is_owned_by, offer_of}
+use Rattle.lpc_model.specs.Basics.{Accepts, AddsHandle, AddsProcess, AddsSection, AddsThread, Awaits, Basic, Binds, Completes, Cuts, DrawsIdentifier, DrawsOrdinal, DropsHandle, DropsViewsOf, Empties, Enters, Frees, Joins, Makes, Maps, Receives, Takes, TakesConnect, Tells, Unbinds, Unmaps, Wakes, Withdraws, Writes, accepted, accepted_as, basic, completed, cut, is_end_of, joined, no_handles, no_views, past_identifier, past_ordinal, received, used, with_handle, with_view, without_handle, without_view, without_views, world_after, Dies, Registers, Unregisters, ended, registering, unregistering, DropsOwned, without_owned, Acts, AddsToken, NamesToken, Secures, acting, secured}
 use Rattle.lpc_model.specs.Circle.{Group, owner}
 use Rattle.lpc_isolation.proofs.Views.View.{of_birth}
 
@@ -99,6 +99,10 @@ is_fair_view m c pid v =
 abbrev pub is_fair_space : Group → ℕ → ViewTable → Bool
 is_fair_space m c t = every (is_fair_view m c t.process) t.rows
 
+-- a connect offers a section that its process made
+abbrev pub is_fair_offer : WaitRow → Bool
+is_fair_offer x = all_of (offer_of x) (λ (o : Offer). o.section.process == x.process)
+
 pub record Fair (m : Group) (c : ℕ) (w : World) : Type 0 where
   pub tables : every is_fair_table w.handles ≡ true
   pub ports : every (is_fair_port m c) w.ports ≡ true
@@ -111,6 +115,7 @@ pub record Fair (m : Group) (c : ℕ) (w : World) : Type 0 where
   pub processes : every (is_fair_process m) w.processes ≡ true
   pub lives : every (is_fair_life m) w.threads ≡ true
   pub views : every (is_fair_space m c) w.views ≡ true
+  pub offers : every is_fair_offer w.waits ≡ true
 
 -- what a step must be, so that it stays so
 abbrev pub is_server_at : Birth → PortRow → Bool
@@ -120,7 +125,7 @@ abbrev pub is_no_server_at : Birth → PortRow → Bool
 is_no_server_at b p = not (is_port b p && is_server_port p)
 
 abbrev pub is_fair_step : Group → ℕ → World → Basic → Bool
-is_fair_step m c w (Awaits x) = is_fair_wait m c x
+is_fair_step m c w (Awaits x) = is_fair_wait m c x && is_fair_offer x
 is_fair_step m c w (Enters x) = is_fair_message m c x && is_sent w.used_threads x
 is_fair_step m c w (Makes p) = is_created w.used_threads p && is_fair_port m c p
 is_fair_step m c w (AddsThread t) = not (has (is_used_thread t.number) w.used_threads) && (is_fair_thread t && is_fair_life m t)
@@ -153,17 +158,33 @@ is_fair_step m c w (Writes b place new) = true
 is_fair_step m c w (Maps pid v) = is_fair_view m c pid v
 is_fair_step m c w (Unmaps pid base) = true
 is_fair_step m c w (DropsViewsOf pid) = true
+is_fair_step m c w (DropsOwned b) = true
+is_fair_step m c w (Secures b s) = true
+is_fair_step m c w (Acts who own) = true
+is_fair_step m c w (AddsToken t) = true
+is_fair_step m c w (NamesToken n) = true
 
 -- what changes a row keeps it
-accepted-fair : (m : Group) (c : ℕ) (reply : List ℕ) (x : WaitRow) → is_fair_wait m c x ≡ true → is_fair_wait m c (accepted reply x) ≡ true
+accepted-fair : (m : Group) (c : ℕ) (reply : Acceptance) (x : WaitRow) → is_fair_wait m c x ≡ true → is_fair_wait m c (accepted reply x) ≡ true
 accepted-fair m c reply x is = at x.kind refl
   where
     at : (k : WaitKind) → x.kind ≡ k → is_fair_wait m c (record x { kind = accepted_as reply x.kind }) ≡ true
     at (Request a) k = rw k (rw k at is)
     at Receive k = rw k (rw k at is)
     at Listen k = rw k (rw k at is)
-    at (Connect a) k = rw k (rw k at is)
+    at (Connect a offer) k = rw k (rw k at is)
     at (Accepted a b) k = rw k (rw k at is)
+
+-- an accepted connect offers nothing any more
+pub accepted-offer : (a : Acceptance) (x : WaitRow) → offer_of (accepted a x) ≡ None
+accepted-offer a x = at x.kind refl
+  where
+    at : (k : WaitKind) → x.kind ≡ k → offer_of (record x { kind = accepted_as a x.kind }) ≡ None
+    at (Request b) k = rw k refl
+    at Receive k = rw k refl
+    at Listen k = rw k refl
+    at (Connect b offer) k = rw k refl
+    at (Accepted b d) k = rw k refl
 
 with-handle : (pid : ℕ) (h : HandleRow) → is_own pid h ≡ true → (t : HandleTable) → is_fair_table t ≡ true → is_table pid t ≡ true → is_fair_table (with_handle h t) ≡ true
 with-handle pid h own t is its =
@@ -268,18 +289,20 @@ registering-fair us who b t owned homed fair its =
 -- a step that is fair leaves a fair world
 pub keeps-fair : (m : Group) (c : ℕ) (w : World) (b : Basic) → is_fair_step m c w b ≡ true → Fair m c w → Fair m c (basic w b)
 keeps-fair m c w (Tells e) ok f = f
-keeps-fair m c w (Wakes who call status fields) ok f = record { tables = f.tables; ports = f.ports; messages = f.messages; waits = every-without (is_fair_wait m c) (waits_as who) w.waits f.waits; threads = f.threads; senders = f.senders; creators = f.creators; registrations = f.registrations; processes = f.processes; lives = f.lives; views = f.views }
-keeps-fair m c w (Awaits x) ok f = record { tables = f.tables; ports = f.ports; messages = f.messages; waits = every-push (is_fair_wait m c) w.waits x f.waits ok; threads = f.threads; senders = f.senders; creators = f.creators; registrations = f.registrations; processes = f.processes; lives = f.lives; views = f.views }
-keeps-fair m c w (Receives who q) ok f = record { tables = f.tables; ports = f.ports; messages = f.messages; waits = every-change (is_fair_wait m c) (waits_at who q) received (λ x is. is) w.waits f.waits; threads = f.threads; senders = f.senders; creators = f.creators; registrations = f.registrations; processes = f.processes; lives = f.lives; views = f.views }
-keeps-fair m c w (Accepts who reply) ok f = record { tables = f.tables; ports = f.ports; messages = f.messages; waits = every-change (is_fair_wait m c) (waits_as who) (accepted reply) (accepted-fair m c reply) w.waits f.waits; threads = f.threads; senders = f.senders; creators = f.creators; registrations = f.registrations; processes = f.processes; lives = f.lives; views = f.views }
-keeps-fair m c w (Enters x) ok f = record { tables = f.tables; ports = f.ports; messages = every-push (is_fair_message m c) w.messages x f.messages (first-true _ _ ok); waits = f.waits; threads = f.threads; senders = every-push (is_sent w.used_threads) w.messages x f.senders (second-true _ _ ok); creators = f.creators; registrations = f.registrations; processes = f.processes; lives = f.lives; views = f.views }
-keeps-fair m c w (Takes q) ok f = record { tables = f.tables; ports = f.ports; messages = every-without_first (is_fair_message m c) _ w.messages f.messages; waits = f.waits; threads = f.threads; senders = every-without_first (is_sent w.used_threads) _ w.messages f.senders; creators = f.creators; registrations = f.registrations; processes = f.processes; lives = f.lives; views = f.views }
-keeps-fair m c w (TakesConnect q) ok f = record { tables = f.tables; ports = f.ports; messages = every-without_first (is_fair_message m c) _ w.messages f.messages; waits = f.waits; threads = f.threads; senders = every-without_first (is_sent w.used_threads) _ w.messages f.senders; creators = f.creators; registrations = f.registrations; processes = f.processes; lives = f.lives; views = f.views }
-keeps-fair m c w (DrawsIdentifier who) ok f = record { tables = f.tables; ports = f.ports; messages = f.messages; waits = f.waits; threads = every-change (is_homed w.used_threads) (is_thread who) past_identifier (λ t is. is) w.threads f.threads; senders = f.senders; creators = f.creators; registrations = every-change is_fair_thread (is_thread who) past_identifier (λ t is. is) w.threads f.registrations; processes = f.processes; lives = every-change (is_fair_life m) (is_thread who) past_identifier (λ t is. is) w.threads f.lives; views = f.views }
-keeps-fair m c w (DrawsOrdinal who) ok f = record { tables = f.tables; ports = f.ports; messages = f.messages; waits = f.waits; threads = every-change (is_homed w.used_threads) (is_thread who) past_ordinal (λ t is. is) w.threads f.threads; senders = f.senders; creators = f.creators; registrations = every-change is_fair_thread (is_thread who) past_ordinal (λ t is. is) w.threads f.registrations; processes = f.processes; lives = every-change (is_fair_life m) (is_thread who) past_ordinal (λ t is. is) w.threads f.lives; views = f.views }
-keeps-fair m c w (Dies who status) ok f = record { tables = f.tables; ports = f.ports; messages = f.messages; waits = every-without (is_fair_wait m c) (waits_as who) w.waits f.waits; threads = every-change (is_homed w.used_threads) (is_thread who) ended (λ t is. is) w.threads f.threads; senders = f.senders; creators = f.creators; registrations = every-change is_fair_thread (is_thread who) ended (λ t is. is) w.threads f.registrations; processes = f.processes; lives = every-change (is_fair_life m) (is_thread who) ended (λ t is. is) w.threads f.lives; views = f.views }
+keeps-fair m c w (Wakes who call status fields) ok f = record { tables = f.tables; ports = f.ports; messages = f.messages; waits = every-without (is_fair_wait m c) (waits_as who) w.waits f.waits; threads = f.threads; senders = f.senders; creators = f.creators; registrations = f.registrations; processes = f.processes; lives = f.lives; views = f.views; offers = every-without is_fair_offer (waits_as who) w.waits f.offers }
+keeps-fair m c w (Awaits x) ok f = record { tables = f.tables; ports = f.ports; messages = f.messages; waits = every-push (is_fair_wait m c) w.waits x f.waits (first-true _ _ ok); threads = f.threads; senders = f.senders; creators = f.creators; registrations = f.registrations; processes = f.processes; lives = f.lives; views = f.views; offers = every-push is_fair_offer w.waits x f.offers (second-true _ _ ok) }
+keeps-fair m c w (Receives who q) ok f = record { tables = f.tables; ports = f.ports; messages = f.messages; waits = every-change (is_fair_wait m c) (waits_at who q) received (λ x is. is) w.waits f.waits; threads = f.threads; senders = f.senders; creators = f.creators; registrations = f.registrations; processes = f.processes; lives = f.lives; views = f.views; offers = every-change is_fair_offer (waits_at who q) received (λ x is. is) w.waits f.offers }
+keeps-fair m c w (Accepts who reply) ok f = record { tables = f.tables; ports = f.ports; messages = f.messages; waits = every-change (is_fair_wait m c) (waits_as who) (accepted reply) (accepted-fair m c reply) w.waits f.waits; threads = f.threads; senders = f.senders; creators = f.creators; registrations = f.registrations; processes = f.processes; lives = f.lives; views = f.views; offers = every-change is_fair_offer (waits_as who) (accepted reply) (λ x is. rw (accepted-offer reply x) refl) w.waits f.offers }
+keeps-fair m c w (Enters x) ok f = record { tables = f.tables; ports = f.ports; messages = every-push (is_fair_message m c) w.messages x f.messages (first-true _ _ ok); waits = f.waits; threads = f.threads; senders = every-push (is_sent w.used_threads) w.messages x f.senders (second-true _ _ ok); creators = f.creators; registrations = f.registrations; processes = f.processes; lives = f.lives; views = f.views; offers = f.offers }
+keeps-fair m c w (Takes q) ok f = record { tables = f.tables; ports = f.ports; messages = every-without_first (is_fair_message m c) _ w.messages f.messages; waits = f.waits; threads = f.threads; senders = every-without_first (is_sent w.used_threads) _ w.messages f.senders; creators = f.creators; registrations = f.registrations; processes = f.processes; lives = f.lives; views = f.views; offers = f.offers }
+keeps-fair m c w (TakesConnect q) ok f = record { tables = f.tables; ports = f.ports; messages = every-without_first (is_fair_message m c) _ w.messages f.messages; waits = f.waits; threads = f.threads; senders = every-without_first (is_sent w.used_threads) _ w.messages f.senders; creators = f.creators; registrations = f.registrations; processes = f.processes; lives = f.lives; views = f.views; offers = f.offers }
+keeps-fair m c w (DrawsIdentifier who) ok f = record { tables = f.tables; ports = f.ports; messages = f.messages; waits = f.waits; threads = every-change (is_homed w.used_threads) (is_thread who) past_identifier (λ t is. is) w.threads f.threads; senders = f.senders; creators = f.creators; registrations = every-change is_fair_thread (is_thread who) past_identifier (λ t is. is) w.threads f.registrations; processes = f.processes; lives = every-change (is_fair_life m) (is_thread who) past_identifier (λ t is. is) w.threads f.lives; views = f.views; offers = f.offers }
+keeps-fair m c w (DrawsOrdinal who) ok f = record { tables = f.tables; ports = f.ports; messages = f.messages; waits = f.waits; threads = every-change (is_homed w.used_threads) (is_thread who) past_ordinal (λ t is. is) w.threads f.threads; senders = f.senders; creators = f.creators; registrations = every-change is_fair_thread (is_thread who) past_ordinal (λ t is. is) w.threads f.registrations; processes = f.processes; lives = every-change (is_fair_life m) (is_thread who) past_ordinal (λ t is. is) w.threads f.lives; views = f.views; offers = f.offers }
+keeps-fair m c w (Acts who own) ok f = record { tables = f.tables; ports = f.ports; messages = f.messages; waits = f.waits; threads = every-change (is_homed w.used_threads) (is_thread who) (acting own) (λ t is. is) w.threads f.threads; senders = f.senders; creators = f.creators; registrations = every-change is_fair_thread (is_thread who) (acting own) (λ t is. is) w.threads f.registrations; processes = f.processes; lives = every-change (is_fair_life m) (is_thread who) (acting own) (λ t is. is) w.threads f.lives; views = f.views; offers = f.offers }
+keeps-fair m c w (Dies who status) ok f = record { tables = f.tables; ports = f.ports; messages = f.messages; waits = every-without (is_fair_wait m c) (waits_as who) w.waits f.waits; threads = every-change (is_homed w.used_threads) (is_thread who) ended (λ t is. is) w.threads f.threads; senders = f.senders; creators = f.creators; registrations = every-change is_fair_thread (is_thread who) ended (λ t is. is) w.threads f.registrations; processes = f.processes; lives = every-change (is_fair_life m) (is_thread who) ended (λ t is. is) w.threads f.lives; views = f.views; offers = every-without is_fair_offer (waits_as who) w.waits f.offers }
 keeps-fair m c w (Registers who b) ok f = record {
   views = f.views;
+  offers = f.offers;
   processes = f.processes;
   lives = every-change (is_fair_life m) (is_thread who) (registering b) (λ t is. is) w.threads f.lives;
   tables = f.tables;
@@ -292,10 +315,11 @@ keeps-fair m c w (Registers who b) ok f = record {
   registrations = every-change_to (λ t. is_homed w.used_threads t && is_fair_thread t) is_fair_thread (is_thread who) (registering b) (λ t is its. registering-fair w.used_threads who b t ok (first-true _ _ is) (second-true (is_homed w.used_threads t) _ is) its) (λ t is off. second-true (is_homed w.used_threads t) _ is) w.threads
       (every-both (is_homed w.used_threads) is_fair_thread _ (λ t one two. and_from _ _ one two) w.threads f.threads f.registrations);
 }
-keeps-fair m c w (Unregisters who b) ok f = record { tables = f.tables; ports = f.ports; messages = f.messages; waits = f.waits; threads = every-change (is_homed w.used_threads) (is_thread who) (unregistering b) (λ t is. is) w.threads f.threads; senders = f.senders; creators = f.creators; registrations = every-change is_fair_thread (is_thread who) (unregistering b) (λ t is. every-without (λ c. c.process == t.process) (same_birth b) t.registrations is) w.threads f.registrations; processes = f.processes; lives = every-change (is_fair_life m) (is_thread who) (unregistering b) (λ t is. is) w.threads f.lives; views = f.views }
-keeps-fair m c w (AddsProcess p) ok f = record { tables = every-push is_fair_table w.handles (no_handles p.number) f.tables refl; ports = f.ports; messages = f.messages; waits = f.waits; threads = f.threads; senders = f.senders; creators = f.creators; registrations = f.registrations; processes = every-push (is_fair_process m) w.processes p f.processes ok; lives = f.lives; views = every-push (is_fair_space m c) w.views (no_views p.number) f.views refl }
+keeps-fair m c w (Unregisters who b) ok f = record { tables = f.tables; ports = f.ports; messages = f.messages; waits = f.waits; threads = every-change (is_homed w.used_threads) (is_thread who) (unregistering b) (λ t is. is) w.threads f.threads; senders = f.senders; creators = f.creators; registrations = every-change is_fair_thread (is_thread who) (unregistering b) (λ t is. every-without (λ c. c.process == t.process) (same_birth b) t.registrations is) w.threads f.registrations; processes = f.processes; lives = every-change (is_fair_life m) (is_thread who) (unregistering b) (λ t is. is) w.threads f.lives; views = f.views; offers = f.offers }
+keeps-fair m c w (AddsProcess p) ok f = record { tables = every-push is_fair_table w.handles (no_handles p.number) f.tables refl; ports = f.ports; messages = f.messages; waits = f.waits; threads = f.threads; senders = f.senders; creators = f.creators; registrations = f.registrations; processes = every-push (is_fair_process m) w.processes p f.processes ok; lives = f.lives; views = every-push (is_fair_space m c) w.views (no_views p.number) f.views refl; offers = f.offers }
 keeps-fair m c w (AddsThread t) ok f = record {
   views = f.views;
+  offers = f.offers;
   processes = f.processes;
   lives = every-push (is_fair_life m) w.threads t f.lives (second-true (is_fair_thread t) _ (second-true (not (has (is_used_thread t.number) w.used_threads)) _ ok));
   tables = f.tables;
@@ -308,9 +332,10 @@ keeps-fair m c w (AddsThread t) ok f = record {
   threads = every-push (is_homed (w.used_threads ++ used t ∷ [])) w.threads t (every-more (is_homed w.used_threads) _ (added-home w.used_threads (used t)) w.threads f.threads)
       (rw (first-push (is_used_thread t.number) w.used_threads (used t) (grind arith) (same-number t.number)) (same-number t.process));
 }
-keeps-fair m c w (Makes p) ok f = record { tables = f.tables; ports = every-push (is_fair_port m c) w.ports p f.ports (second-true _ _ ok); messages = f.messages; waits = f.waits; threads = f.threads; senders = f.senders; creators = every-push (is_created w.used_threads) w.ports p f.creators (first-true _ _ ok); registrations = f.registrations; processes = f.processes; lives = f.lives; views = f.views }
+keeps-fair m c w (Makes p) ok f = record { tables = f.tables; ports = every-push (is_fair_port m c) w.ports p f.ports (second-true _ _ ok); messages = f.messages; waits = f.waits; threads = f.threads; senders = f.senders; creators = every-push (is_created w.used_threads) w.ports p f.creators (first-true _ _ ok); registrations = f.registrations; processes = f.processes; lives = f.lives; views = f.views; offers = f.offers }
 keeps-fair m c w (Joins client server context) ok f = record {
   views = f.views;
+  offers = f.offers;
   processes = f.processes;
   lives = f.lives;
   tables = f.tables;
@@ -324,20 +349,24 @@ keeps-fair m c w (Joins client server context) ok f = record {
       (every-both (λ p. is_no_server_at client p && is_server_at server p) (is_fair_port m c) _ (joined-fair m c client server context (grind arith) (grind arith)) w.ports
       (every-both (is_no_server_at client) (is_server_at server) _ (λ p a b. and_from _ _ a b) w.ports (grind arith) (grind arith)) f.ports);
 }
-keeps-fair m c w (Completes b) ok f = record { tables = f.tables; ports = every-change (is_fair_port m c) (is_port b) completed (λ p is. is) w.ports f.ports; messages = f.messages; waits = f.waits; threads = f.threads; senders = f.senders; creators = every-change (is_created w.used_threads) (is_port b) completed (λ p is. is) w.ports f.creators; registrations = f.registrations; processes = f.processes; lives = f.lives; views = f.views }
-keeps-fair m c w (Withdraws who) ok f = record { tables = f.tables; ports = f.ports; messages = every-without (is_fair_message m c) (is_own_of who) w.messages f.messages; waits = f.waits; threads = f.threads; senders = every-without (is_sent w.used_threads) (is_own_of who) w.messages f.senders; creators = f.creators; registrations = f.registrations; processes = f.processes; lives = f.lives; views = f.views }
+keeps-fair m c w (Completes b) ok f = record { tables = f.tables; ports = every-change (is_fair_port m c) (is_port b) completed (λ p is. is) w.ports f.ports; messages = f.messages; waits = f.waits; threads = f.threads; senders = f.senders; creators = every-change (is_created w.used_threads) (is_port b) completed (λ p is. is) w.ports f.creators; registrations = f.registrations; processes = f.processes; lives = f.lives; views = f.views; offers = f.offers }
+keeps-fair m c w (Secures b s) ok f = record { tables = f.tables; ports = every-change (is_fair_port m c) (is_port b) (secured s) (λ p is. is) w.ports f.ports; messages = f.messages; waits = f.waits; threads = f.threads; senders = f.senders; creators = every-change (is_created w.used_threads) (is_port b) (secured s) (λ p is. is) w.ports f.creators; registrations = f.registrations; processes = f.processes; lives = f.lives; views = f.views; offers = f.offers }
+keeps-fair m c w (Withdraws who) ok f = record { tables = f.tables; ports = f.ports; messages = every-without (is_fair_message m c) (is_own_of who) w.messages f.messages; waits = f.waits; threads = f.threads; senders = every-without (is_sent w.used_threads) (is_own_of who) w.messages f.senders; creators = f.creators; registrations = f.registrations; processes = f.processes; lives = f.lives; views = f.views; offers = f.offers }
 keeps-fair m c w (Frees o) ok f = absurd (cc)
-keeps-fair m c w (Binds path node) ok f = record { tables = f.tables; ports = f.ports; messages = f.messages; waits = f.waits; threads = f.threads; senders = f.senders; creators = f.creators; registrations = f.registrations; processes = f.processes; lives = f.lives; views = f.views }
-keeps-fair m c w (AddsHandle pid h) ok f = record { tables = every-change_to is_fair_table is_fair_table (is_table pid) (with_handle h) (λ t is its. with-handle pid h ok t is its) (λ t is off. is) w.handles f.tables; ports = f.ports; messages = f.messages; waits = f.waits; threads = f.threads; senders = f.senders; creators = f.creators; registrations = f.registrations; processes = f.processes; lives = f.lives; views = f.views }
-keeps-fair m c w (Empties q) ok f = record { tables = f.tables; ports = f.ports; messages = every-without (is_fair_message m c) (is_queued q) w.messages f.messages; waits = f.waits; threads = f.threads; senders = every-without (is_sent w.used_threads) (is_queued q) w.messages f.senders; creators = f.creators; registrations = f.registrations; processes = f.processes; lives = f.lives; views = f.views }
-keeps-fair m c w (Cuts b) ok f = record { tables = f.tables; ports = every-change (is_fair_port m c) (is_end_of b) cut (cut-fair m c) w.ports f.ports; messages = f.messages; waits = f.waits; threads = f.threads; senders = f.senders; creators = every-change (is_created w.used_threads) (is_end_of b) cut (λ p is. is) w.ports f.creators; registrations = f.registrations; processes = f.processes; lives = f.lives; views = f.views }
-keeps-fair m c w (Unbinds b) ok f = record { tables = f.tables; ports = f.ports; messages = f.messages; waits = f.waits; threads = f.threads; senders = f.senders; creators = f.creators; registrations = f.registrations; processes = f.processes; lives = f.lives; views = f.views }
-keeps-fair m c w (DropsHandle pid value) ok f = record { tables = every-change is_fair_table (is_table pid) (without_handle value) (λ t is. every-without_first (is_own t.process) (has_value value) t.rows is) w.handles f.tables; ports = f.ports; messages = f.messages; waits = f.waits; threads = f.threads; senders = f.senders; creators = f.creators; registrations = f.registrations; processes = f.processes; lives = f.lives; views = f.views }
-keeps-fair m c w (AddsSection s) ok f = record { tables = f.tables; ports = f.ports; messages = f.messages; waits = f.waits; threads = f.threads; senders = f.senders; creators = f.creators; registrations = f.registrations; processes = f.processes; lives = f.lives; views = f.views }
-keeps-fair m c w (Writes b place new) ok f = record { tables = f.tables; ports = f.ports; messages = f.messages; waits = f.waits; threads = f.threads; senders = f.senders; creators = f.creators; registrations = f.registrations; processes = f.processes; lives = f.lives; views = f.views }
-keeps-fair m c w (Maps pid v) ok f = record { tables = f.tables; ports = f.ports; messages = f.messages; waits = f.waits; threads = f.threads; senders = f.senders; creators = f.creators; registrations = f.registrations; processes = f.processes; lives = f.lives; views = every-change_to (is_fair_space m c) (is_fair_space m c) (is_space pid) (with_view v) (λ t is its. with-view m c pid v ok t is its) (λ t is off. is) w.views f.views }
-keeps-fair m c w (Unmaps pid base) ok f = record { tables = f.tables; ports = f.ports; messages = f.messages; waits = f.waits; threads = f.threads; senders = f.senders; creators = f.creators; registrations = f.registrations; processes = f.processes; lives = f.lives; views = every-change (is_fair_space m c) (is_space pid) (without_view base) (λ t is. every-without (is_fair_view m c t.process) (lies_at base) t.rows is) w.views f.views }
-keeps-fair m c w (DropsViewsOf pid) ok f = record { tables = f.tables; ports = f.ports; messages = f.messages; waits = f.waits; threads = f.threads; senders = f.senders; creators = f.creators; registrations = f.registrations; processes = f.processes; lives = f.lives; views = every-change (is_fair_space m c) (is_space pid) without_views (λ t is. refl) w.views f.views }
+keeps-fair m c w (Binds path node) ok f = record { tables = f.tables; ports = f.ports; messages = f.messages; waits = f.waits; threads = f.threads; senders = f.senders; creators = f.creators; registrations = f.registrations; processes = f.processes; lives = f.lives; views = f.views; offers = f.offers }
+keeps-fair m c w (AddsHandle pid h) ok f = record { tables = every-change_to is_fair_table is_fair_table (is_table pid) (with_handle h) (λ t is its. with-handle pid h ok t is its) (λ t is off. is) w.handles f.tables; ports = f.ports; messages = f.messages; waits = f.waits; threads = f.threads; senders = f.senders; creators = f.creators; registrations = f.registrations; processes = f.processes; lives = f.lives; views = f.views; offers = f.offers }
+keeps-fair m c w (Empties q) ok f = record { tables = f.tables; ports = f.ports; messages = every-without (is_fair_message m c) (is_queued q) w.messages f.messages; waits = f.waits; threads = f.threads; senders = every-without (is_sent w.used_threads) (is_queued q) w.messages f.senders; creators = f.creators; registrations = f.registrations; processes = f.processes; lives = f.lives; views = f.views; offers = f.offers }
+keeps-fair m c w (Cuts b) ok f = record { tables = f.tables; ports = every-change (is_fair_port m c) (is_end_of b) cut (cut-fair m c) w.ports f.ports; messages = f.messages; waits = f.waits; threads = f.threads; senders = f.senders; creators = every-change (is_created w.used_threads) (is_end_of b) cut (λ p is. is) w.ports f.creators; registrations = f.registrations; processes = f.processes; lives = f.lives; views = f.views; offers = f.offers }
+keeps-fair m c w (Unbinds b) ok f = record { tables = f.tables; ports = f.ports; messages = f.messages; waits = f.waits; threads = f.threads; senders = f.senders; creators = f.creators; registrations = f.registrations; processes = f.processes; lives = f.lives; views = f.views; offers = f.offers }
+keeps-fair m c w (DropsHandle pid value) ok f = record { tables = every-change is_fair_table (is_table pid) (without_handle value) (λ t is. every-without_first (is_own t.process) (has_value value) t.rows is) w.handles f.tables; ports = f.ports; messages = f.messages; waits = f.waits; threads = f.threads; senders = f.senders; creators = f.creators; registrations = f.registrations; processes = f.processes; lives = f.lives; views = f.views; offers = f.offers }
+keeps-fair m c w (AddsSection s) ok f = record { tables = f.tables; ports = f.ports; messages = f.messages; waits = f.waits; threads = f.threads; senders = f.senders; creators = f.creators; registrations = f.registrations; processes = f.processes; lives = f.lives; views = f.views; offers = f.offers }
+keeps-fair m c w (Writes b place new) ok f = record { tables = f.tables; ports = f.ports; messages = f.messages; waits = f.waits; threads = f.threads; senders = f.senders; creators = f.creators; registrations = f.registrations; processes = f.processes; lives = f.lives; views = f.views; offers = f.offers }
+keeps-fair m c w (NamesToken n) ok f = record { tables = f.tables; ports = f.ports; messages = f.messages; waits = f.waits; threads = f.threads; senders = f.senders; creators = f.creators; registrations = f.registrations; processes = f.processes; lives = f.lives; views = f.views; offers = f.offers }
+keeps-fair m c w (AddsToken t) ok f = record { tables = f.tables; ports = f.ports; messages = f.messages; waits = f.waits; threads = f.threads; senders = f.senders; creators = f.creators; registrations = f.registrations; processes = f.processes; lives = f.lives; views = f.views; offers = f.offers }
+keeps-fair m c w (Maps pid v) ok f = record { tables = f.tables; ports = f.ports; messages = f.messages; waits = f.waits; threads = f.threads; senders = f.senders; creators = f.creators; registrations = f.registrations; processes = f.processes; lives = f.lives; views = every-change_to (is_fair_space m c) (is_fair_space m c) (is_space pid) (with_view v) (λ t is its. with-view m c pid v ok t is its) (λ t is off. is) w.views f.views; offers = f.offers }
+keeps-fair m c w (Unmaps pid base) ok f = record { tables = f.tables; ports = f.ports; messages = f.messages; waits = f.waits; threads = f.threads; senders = f.senders; creators = f.creators; registrations = f.registrations; processes = f.processes; lives = f.lives; views = every-change (is_fair_space m c) (is_space pid) (without_view base) (λ t is. every-without (is_fair_view m c t.process) (lies_at base) t.rows is) w.views f.views; offers = f.offers }
+keeps-fair m c w (DropsViewsOf pid) ok f = record { tables = f.tables; ports = f.ports; messages = f.messages; waits = f.waits; threads = f.threads; senders = f.senders; creators = f.creators; registrations = f.registrations; processes = f.processes; lives = f.lives; views = every-change (is_fair_space m c) (is_space pid) without_views (λ t is. refl) w.views f.views; offers = f.offers }
+keeps-fair m c w (DropsOwned b) ok f = record { tables = f.tables; ports = f.ports; messages = f.messages; waits = f.waits; threads = f.threads; senders = f.senders; creators = f.creators; registrations = f.registrations; processes = f.processes; lives = f.lives; views = every-mapped (is_fair_space m c) (without_owned b) (λ t is. every-without (is_fair_view m c t.process) (is_owned_by b) t.rows is) w.views f.views; offers = f.offers }
 
 -- the views of one process
 pub views-fair : (m : Group) (c : ℕ) (w : World) (pid : ℕ) → Fair m c w → every (is_fair_view m c pid) (views_of w pid) ≡ true

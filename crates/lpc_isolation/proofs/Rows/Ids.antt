@@ -14,15 +14,16 @@ use Rattle.lpc_model.specs.declared.fault.LineFault.{LineFault}
 use Rattle.lpc_model.specs.declared.fault.LineFault.TheVariants as fault
 use Rattle.lpc_model.specs.declared.entry.Word.{Word}
 use Rattle.lpc_model.specs.declared.entry.Word.TheVariants.{Boot, Thread, Dir, Link}
+use Rattle.lpc_model.specs.declared.entry.Word.TheVariants as word
 use Rattle.std.specs.Option.{ok_or}
 use Rattle.lpc_model.specs.declared.message.Message.{Message}
 use Rattle.lpc_model.specs.Message.{bytes_of}
 use Rattle.lpc_model.specs.Then.{◌>>=◌}
 use Rattle.lpc_model.specs.World.{MessageRow, UsedThread, World}
 use Rattle.lpc_model.specs.Words.{begins, fault_if, id_word, info_word, is_id, message_word, number_word, words}
-use Rattle.lpc_model.specs.Grammar.{accept_word, access_word, call_line, call_named, call_words, four_words, handle_and_message, handle_and_reply, has_call_ids, one_handle, process_and_thread, qos_word, target_and_code, target_and_thread, target_word, view_word, directive_line, directive_named, directive_words, has_ids, one_word, is_printable, read_line, starts_call, thread_call, two_words, words_line, two_numbers, four_numbers, address_and_bytes, range_words, range_and_bytes}
+use Rattle.lpc_model.specs.Grammar.{accept_word, access_word, call_line, call_named, call_words, four_words, handle_and_message, handle_and_reply, has_call_ids, one_handle, process_and_thread, qos_word, target_and_code, target_and_thread, target_word, view_word, directive_line, directive_named, directive_words, has_ids, one_word, is_printable, read_line, starts_call, thread_call, two_words, words_line, two_numbers, four_numbers, address_and_bytes, range_words, range_and_bytes, fixed_word, given_dacl, no_words, one_or_two_words, process_and_token, token_words, given_token, two_or_three_words}
 use Rattle.lpc_model.specs.declared.entry.CallName.{CallName}
-use Rattle.lpc_model.specs.declared.entry.CallName.TheVariants.{NtAcceptConnectPort, NtClose, NtCompleteConnectPort, NtConnectPort, NtCreatePort, NtCreateProcess, NtCreateThread, NtDuplicateObject, NtListenPort, NtQueryObject, NtRegisterThreadTerminatePort, NtReplyPort, NtReplyWaitReceivePort, NtRequestPort, NtRequestWaitReplyPort, NtTerminateProcess, NtTerminateThread, NtCreateSection, NtMapViewOfSection, NtUnmapViewOfSection, NtReadVirtualMemory, NtWriteVirtualMemory, NtReadRequestData, NtWriteRequestData}
+use Rattle.lpc_model.specs.declared.entry.CallName.TheVariants.{NtAcceptConnectPort, NtClose, NtCompleteConnectPort, NtConnectPort, NtCreatePort, NtCreateProcess, NtCreateThread, NtDuplicateObject, NtListenPort, NtQueryObject, NtRegisterThreadTerminatePort, NtReplyPort, NtReplyWaitReceivePort, NtRequestPort, NtRequestWaitReplyPort, NtTerminateProcess, NtTerminateThread, NtCreateSection, NtMapViewOfSection, NtUnmapViewOfSection, NtReadVirtualMemory, NtWriteVirtualMemory, NtReadRequestData, NtWriteRequestData, NtImpersonateClientOfPort, NtSetInformationThread, NtOpenThreadToken, NtOpenProcessToken, NtQueryInformationToken}
 use Rattle.lpc_model.specs.declared.line.ProcArg.{ProcArg}
 use Rattle.lpc_model.specs.Lines.{ScriptCall, ScriptLine}
 use Rattle.lpc_model.specs.Run.{numbered_line, said_from, said_in, unless_faulty}
@@ -110,6 +111,12 @@ process-says others =
     then_gives (two_words others) _ P (λ two _. then_gives (id_word two.0) _ P (λ pid one. then_gives (id_word two.1) _ P (λ tid other.
     and_from _ _ (gives_ok IsId (id_word two.0) pid (id-says two.0) one) (gives_ok IsId (id_word two.1) tid (id-says two.1) other))))
 
+named-says : (others : List (List ℕ)) → Gives (λ (made : ℕ × ℕ × Option (List ℕ)). (is_id made.0 && is_id made.1) ≡ true) (process_and_token others)
+named-says others =
+    let P : ℕ × ℕ × Option (List ℕ) → Type 0 = λ made. (is_id made.0 && is_id made.1) ≡ true in
+    then_gives (two_or_three_words others) _ P (λ three _. then_gives (id_word three.0) _ P (λ pid one. then_gives (id_word three.1) _ P (λ tid other. then_gives (given_token three.2) _ P (λ name _.
+    and_from _ _ (gives_ok IsId (id_word three.0) pid (id-says three.0) one) (gives_ok IsId (id_word three.1) tid (id-says three.1) other)))))
+
 target-says : (others : List (List ℕ)) → Gives (λ (made : ProcArg × ℕ). is_id made.1 ≡ true) (target_and_thread others)
 target-says others =
     let P : ProcArg × ℕ → Type 0 = λ made. is_id made.1 ≡ true in
@@ -120,7 +127,7 @@ words-call : (name : CallName) (others : List (List ℕ)) → Gives HasCallIds (
 unfolding call_words
 words-call NtCreateProcess others = then_gives (process_and_thread others) _ HasCallIds (λ made is. gives_ok (λ (made : ℕ × ℕ). (is_id made.0 && is_id made.1) ≡ true) (process_and_thread others) made (process-says others) is)
 words-call NtCreateThread others = then_gives (target_and_thread others) _ HasCallIds (λ made is. gives_ok (λ (made : ProcArg × ℕ). is_id made.1 ≡ true) (target_and_thread others) made (target-says others) is)
-words-call NtCreatePort others = then_gives (one_word others) _ HasCallIds (λ _ _. refl)
+words-call NtCreatePort others = then_gives (one_or_two_words others) _ HasCallIds (λ two _. then_gives (given_dacl two.1) _ HasCallIds (λ _ _. refl))
 words-call NtConnectPort others = then_gives (four_words others) _ HasCallIds (λ four _. then_gives (qos_word four.1) _ HasCallIds (λ _ _. then_gives (view_word four.2) _ HasCallIds (λ _ _. then_gives (info_word four.3) _ HasCallIds (λ _ _. refl))))
 words-call NtListenPort others = then_gives (one_handle others) _ HasCallIds (λ _ _. refl)
 words-call NtAcceptConnectPort others = then_gives (four_words others) _ HasCallIds (λ four _. then_gives (number_word four.0) _ HasCallIds (λ _ _. then_gives (message_word four.1) _ HasCallIds (λ _ _. then_gives (accept_word four.2) _ HasCallIds (λ _ _. then_gives (view_word four.3) _ HasCallIds (λ _ _. refl)))))
@@ -140,6 +147,11 @@ words-call NtReadVirtualMemory others = then_gives (two_numbers others) _ HasCal
 words-call NtWriteVirtualMemory others = then_gives (address_and_bytes others) _ HasCallIds (λ two _. refl)
 words-call NtReadRequestData others = then_gives (range_words others) _ HasCallIds (λ range _. refl)
 words-call NtWriteRequestData others = then_gives (range_and_bytes others) _ HasCallIds (λ new _. refl)
+words-call NtImpersonateClientOfPort others = then_gives (handle_and_message others) _ HasCallIds (λ _ _. refl)
+words-call NtSetInformationThread others = then_gives (two_words others) _ HasCallIds (λ two _. then_gives (number_word two.0) _ HasCallIds (λ _ _. then_gives (fixed_word (codes "null") two.1) _ HasCallIds (λ _ _. refl)))
+words-call NtOpenThreadToken others = then_gives (no_words others) _ HasCallIds (λ _ _. refl)
+words-call NtOpenProcessToken others = then_gives (no_words others) _ HasCallIds (λ _ _. refl)
+words-call NtQueryInformationToken others = then_gives (two_numbers others) _ HasCallIds (λ _ _. refl)
 words-call NtTerminateThread others = then_gives (target_and_code others) _ HasCallIds (λ _ _. refl)
 words-call NtTerminateProcess others = then_gives (target_and_code others) _ HasCallIds (λ _ _. refl)
 
@@ -153,7 +165,8 @@ call-says front others = then_gives (id_word front) _ Ids (λ tid is. then_gives
 
 directive-says : (word : Word) (others : List (List ℕ)) → Gives Ids (directive_words word others)
 unfolding directive_words
-directive-says Boot others = then_gives (process_and_thread others) _ Ids (λ made is. gives_ok (λ (made : ℕ × ℕ). (is_id made.0 && is_id made.1) ≡ true) (process_and_thread others) made (process-says others) is)
+directive-says Boot others = then_gives (process_and_token others) _ Ids (λ made is. gives_ok (λ (made : ℕ × ℕ × Option (List ℕ)). (is_id made.0 && is_id made.1) ≡ true) (process_and_token others) made (named-says others) is)
+directive-says word.Token others = then_gives (token_words others) _ Ids (λ _ _. refl)
 directive-says Thread others = then_gives (two_words others) _ Ids (λ two _. then_gives (id_word two.0) _ Ids (λ tid one. then_gives (id_word two.1) _ Ids (λ pid other. and_from _ _ (gives_ok IsId (id_word two.0) tid (id-says two.0) one) (gives_ok IsId (id_word two.1) pid (id-says two.1) other))))
 directive-says Dir others = then_gives (one_word others) _ Ids (λ path _. refl)
 directive-says Link others = then_gives (two_words others) _ Ids (λ two _. refl)

@@ -14,7 +14,7 @@ use Rattle.lpc_model.proofs.Calls.Usable.{can-call}
 use Rattle.lpc_model.specs.Basics.{Awaits, Basic, Binds, Frees, Receives, Takes, TakesConnect, Unbinds, basic, world_after}
 use Rattle.lpc_model.specs.Circle.{Group}
 use Rattle.lpc_model.specs.Close.{close_handle}
-use Rattle.lpc_model.specs.Connect.{client_port, connect_start, connection_request}
+use Rattle.lpc_model.specs.Connect.{client_port, connection_request}
 use Rattle.lpc_model.specs.Death.{die}
 use Rattle.lpc_model.specs.Entering.{enter, received_steps, row_of}
 use Rattle.lpc_model.specs.Lines.{ScriptCall}
@@ -22,6 +22,7 @@ use Rattle.lpc_model.specs.Message.{asks}
 use Rattle.lpc_model.specs.World.{Birth, MessageRow, ThreadRow, World}
 use Rattle.std.proofs.Common.{Bool, List, [], false, refl, true, ℕ, ◌∷◌, ◌≡◌}
 use Rattle.std.proofs.lemmas.Bool.{and_from}
+use Rattle.lpc_model.proofs.Calls.Sharing.{connect_begun}
 
 abbrev KeepBound : World → List Basic → Type 0
 KeepBound w bs = OnceBound w.bindings → OnceBound (world_after w bs).bindings
@@ -58,19 +59,23 @@ bound-law by = record {
   asks = λ w x m off wait post. let v = basic w (Awaits x) in ended-bound v (enter m v) (ending-enter m v);
   creates = λ w is once. once;
   founds = λ w name path free is once. once-bound w.bindings path _ once (free-unbound w name path free);
-  connects = λ w connection bytes opens is. let v = world_after w (connect_start by connection (connection_request by bytes)) in let row = row_of connection (client_port by connection) (connection_request by bytes) in ended-bound v (enter row v) (ending-enter row v);
+  connects = λ w connection offer bytes opens offers is. let v = world_after w (connect_begun by connection offer (connection_request by offer bytes)) in let row = row_of connection (client_port by connection) (connection_request by offer bytes) in ended-bound v (enter row v) (ending-enter row v);
   gives = λ w pid o access is once. once;
-  accepts = λ w context m x at is once. once;
+  accepts = λ w context m x a at is once. once;
   completes = λ w c is once. once;
   registers = λ w b stands once. once;
-  spawns = λ w pid tid new unused s once. once;
+  spawns = λ w pid tid token new unused s once. once;
   starts = λ w tid pid live unused s once. once;
   closes = λ w pid r at s _. ended-bound w (close_handle pid r w) (handle-ending pid r w);
   dies = λ w code t is. ended-bound w (die code t w) (die-ending code t w);
   leaves = λ w n b once. once;
   vacates = λ w pid once. once;
+  disowns = λ w b once. once;
+  secures = λ w b s once. once;
+  acts = λ w own once. once;
+  holds_token = λ w content once. once;
   builds = λ w size prot asked once. once;
-  maps = λ w handle offset size prot s rounded base is once. once;
+  maps = λ w pid v is once. once;
   unmaps = λ w pid base once. once;
   writes = λ w b place new once. once;
 }

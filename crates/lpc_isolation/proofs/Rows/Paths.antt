@@ -8,9 +8,9 @@ use Rattle.lpc_base.proofs.RowMaps.{every-both, every-first}
 use Rattle.lpc_base.proofs.Bools.{first-true, or-last, second-true}
 use Rattle.lpc_base.proofs.Births.{birth-same}
 use Rattle.lpc_base.specs.declared.port_kind.PortKind.TheVariants.{Client, Connection, Server, Unnamed}
-use Rattle.lpc_model.specs.World.{Birth, PortKind, PortRow, Request, WaitKind, WaitRow, World}
+use Rattle.lpc_model.specs.World.{Birth, PortKind, PortRow, Request, WaitKind, WaitRow, World, Acceptance, Security}
 use Rattle.lpc_model.specs.Found.{is_cut, is_port, is_request, is_server_port, is_the, port_row, same_birth, waits_as, waits_at}
-use Rattle.lpc_model.specs.Basics.{Accepts, Awaits, Basic, Completes, Cuts, Frees, Joins, Makes, Receives, Wakes, accepted, basic, completed, cut, is_end_of, joined, received, world_after, Dies}
+use Rattle.lpc_model.specs.Basics.{Accepts, Awaits, Basic, Completes, Cuts, Frees, Joins, Makes, Receives, Wakes, accepted, basic, completed, cut, is_end_of, joined, received, world_after, Dies, Secures, secured}
 use Rattle.lpc_model.specs.Circle.{Group, is_fine_client, is_fine_port}
 use Rattle.lpc_model.proofs.Steps.Rows.{first-map}
 use Rattle.lpc_isolation.proofs.Views.Alone.{HasFineRows}
@@ -97,7 +97,7 @@ abbrev pub are_paths : World → List Basic → Bool
 are_paths w [] = true
 are_paths w (b ∷ bs) = keeps_paths w b && are_paths (basic w b) bs
 
-accepted-path : (w : World) (reply : List ℕ) (x : WaitRow) (sort : WaitKind) → x.kind ≡ sort → is_path w x ≡ true → is_path w (accepted reply x) ≡ true
+accepted-path : (w : World) (reply : Acceptance) (x : WaitRow) (sort : WaitKind) → x.kind ≡ sort → is_path w x ≡ true → is_path w (accepted reply x) ≡ true
 accepted-path w reply x (Request a) is path = rw is (rw is at path)
 accepted-path w reply x b is path = rw is refl
 
@@ -152,6 +152,23 @@ completed-lead b q p = at (is_port b p) refl
     at true is = rw is refl
     at false is = rw is refl
 
+abbrev securing : Security → Birth → PortRow → PortRow
+securing s b p = if is_port b p then secured s p else p
+
+secured-same : (s : Security) (b d : Birth) (p : PortRow) → is_port d (securing s b p) ≡ is_port d p
+secured-same s b d p = at (is_port b p) refl
+  where
+    at : (e : Bool) → is_port b p ≡ e → is_port d (securing s b p) ≡ is_port d p
+    at true is = rw is refl
+    at false is = rw is refl
+
+secured-lead : (s : Security) (b q : Birth) (p : PortRow) → leads q (securing s b p) ≡ leads q p
+secured-lead s b q p = at (is_port b p) refl
+  where
+    at : (e : Bool) → is_port b p ≡ e → leads q (securing s b p) ≡ leads q p
+    at true is = rw is refl
+    at false is = rw is refl
+
 abbrev cutting : Birth → PortRow → PortRow
 cutting b p = if is_end_of b p then cut p else p
 
@@ -190,6 +207,10 @@ completes-path : (w : World) (b : Birth) (x : WaitRow) → is_path w x ≡ true 
 completes-path w b x is = kept-path w (basic w (Completes b)) x (λ p row on.
     rw (first-map (is_port x.port) (completing b) (completed-same b x.port) w.ports p row) (completed-lead b x.queue p ∙ on)) is
 
+secures-path : (w : World) (b : Birth) (s : Security) (x : WaitRow) → is_path w x ≡ true → is_path (basic w (Secures b s)) x ≡ true
+secures-path w b s x is = kept-path w (basic w (Secures b s)) x (λ p row on.
+    rw (first-map (is_port x.port) (securing s b) (secured-same s b x.port) w.ports p row) (secured-lead s b x.queue p ∙ on)) is
+
 cuts-path : (w : World) (b : Birth) (x : WaitRow) → is_path w x ≡ true → is_path (basic w (Cuts b)) x ≡ true
 cuts-path w b x is = kept-path w (basic w (Cuts b)) x (λ p row on.
     rw (first-map (is_port x.port) (cutting b) (cut-same b x.port) w.ports p row) (cut-lead b x.queue p p.kind refl on)) is
@@ -205,6 +226,7 @@ basic-paths w (Accepts who reply) ok all = every-change (is_path w) (waits_as wh
 basic-paths w (Makes p) ok all = every-more (is_path w) (is_path (basic w (Makes p))) (makes-path w p) w.waits all
 basic-paths w (Joins client server context) ok all = every-both (is_path w) (is_off w client server) (is_path (basic w (Joins client server context))) (joins-path w client server context) w.waits all ok
 basic-paths w (Completes b) ok all = every-more (is_path w) (is_path (basic w (Completes b))) (completes-path w b) w.waits all
+basic-paths w (Secures b s) ok all = every-more (is_path w) (is_path (basic w (Secures b s))) (secures-path w b s) w.waits all
 basic-paths w (Frees o) ok all = absurd (cc)
 basic-paths w (Cuts b) ok all = every-more (is_path w) (is_path (basic w (Cuts b))) (cuts-path w b) w.waits all
 basic-paths w (Dies who status) ok all = every-without (is_path w) (waits_as who) w.waits all

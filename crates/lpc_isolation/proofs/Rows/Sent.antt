@@ -9,7 +9,7 @@ use Rattle.lpc_base.proofs.Bools.{first-true, second-true}
 use Rattle.lpc_isolation.proofs.Rows.Paths.{joined-same}
 use Rattle.lpc_model.specs.World.{Birth, MessageRow, PortRow, World}
 use Rattle.lpc_model.specs.Found.{is_client_port, is_own_of, is_port, is_queued, is_queued_connect, is_the, port_row}
-use Rattle.lpc_model.specs.Basics.{Basic, Completes, Cuts, Empties, Enters, Frees, Joins, Makes, Takes, TakesConnect, Withdraws, basic, completed, cut, is_end_of, joined, world_after}
+use Rattle.lpc_model.specs.Basics.{Basic, Completes, Cuts, Empties, Enters, Frees, Joins, Makes, Takes, TakesConnect, Withdraws, basic, completed, cut, is_end_of, joined, world_after, Secures, secured}
 use Rattle.lpc_model.proofs.Steps.Rows.{first-map}
 
 abbrev pub leads_home : Birth → PortRow → Bool
@@ -73,6 +73,7 @@ basic-sent w (Enters x) ok all = every-push (is_sent_home w) w.messages x all ok
 basic-sent w (Makes p) ok all = every-more (is_sent_home w) (is_sent_home (basic w (Makes p))) (made-home w p) w.messages all
 basic-sent w (Joins client server context) ok all = every-more (is_sent_home w) (is_sent_home (basic w (Joins client server context))) (mapped-home w (joined client server context) (joined-same client server context) (joined-home client server context)) w.messages all
 basic-sent w (Completes b) ok all = every-more (is_sent_home w) (is_sent_home (basic w (Completes b))) (mapped-home w (λ p. if is_port b p then completed p else p) (changed-port (is_port b) completed (λ d p. refl)) (changed-home (is_port b) completed (λ q p. refl))) w.messages all
+basic-sent w (Secures b s) ok all = every-more (is_sent_home w) (is_sent_home (basic w (Secures b s))) (mapped-home w (λ p. if is_port b p then (secured s) p else p) (changed-port (is_port b) (secured s) (λ d p. refl)) (changed-home (is_port b) (secured s) (λ q p. refl))) w.messages all
 basic-sent w (Cuts b) ok all = every-more (is_sent_home w) (is_sent_home (basic w (Cuts b))) (mapped-home w (λ p. if is_end_of b p then cut p else p) (changed-port (is_end_of b) cut (λ d p. refl)) (changed-home (is_end_of b) cut (λ q p. refl))) w.messages all
 basic-sent w (Takes q) ok all = every-without_first (is_sent_home w) (is_queued q) w.messages all
 basic-sent w (TakesConnect q) ok all = every-without_first (is_sent_home w) (is_queued_connect q) w.messages all

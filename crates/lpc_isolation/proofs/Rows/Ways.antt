@@ -56,8 +56,8 @@ given-still x z Receive true is asked = rw (is, asked) refl
 given-still x z Receive false is asked = rw (is, asked) refl
 given-still x z Listen true is asked = rw (is, asked) refl
 given-still x z Listen false is asked = rw (is, asked) refl
-given-still x z (Connect a) true is asked = rw (is, asked) refl
-given-still x z (Connect a) false is asked = rw (is, asked) refl
+given-still x z (Connect a offer) true is asked = rw (is, asked) refl
+given-still x z (Connect a offer) false is asked = rw (is, asked) refl
 given-still x z (Accepted a r) true is asked = rw (is, asked) refl
 given-still x z (Accepted a r) false is asked = rw (is, asked) refl
 

@@ -16,7 +16,7 @@ use Rattle.lpc_model.specs.declared.entry.Field.{Field}
 use Rattle.lpc_model.specs.Message.{asks}
 use Rattle.lpc_model.specs.World.{Accepted, Birth, Connect, Listen, MessageRow, Receive, Request, WaitKind, WaitRow, World}
 use Rattle.lpc_model.specs.Found.{same_birth, waits_as, waits_at}
-use Rattle.lpc_model.specs.Basics.{Accepts, AddsHandle, AddsProcess, AddsSection, AddsThread, Awaits, Basic, Binds, Completes, Cuts, DrawsIdentifier, DrawsOrdinal, DropsHandle, DropsViewsOf, Empties, Enters, Frees, Joins, Makes, Maps, Receives, Takes, TakesConnect, Tells, Unbinds, Unmaps, Wakes, Withdraws, Writes, basic, entries_of, received, told, world_after, Dies, Registers, Unregisters}
+use Rattle.lpc_model.specs.Basics.{Accepts, AddsHandle, AddsProcess, AddsSection, AddsThread, Awaits, Basic, Binds, Completes, Cuts, DrawsIdentifier, DrawsOrdinal, DropsHandle, DropsViewsOf, Empties, Enters, Frees, Joins, Makes, Maps, Receives, Takes, TakesConnect, Tells, Unbinds, Unmaps, Wakes, Withdraws, Writes, basic, entries_of, received, told, world_after, Dies, Registers, Unregisters, DropsOwned, Acts, AddsToken, NamesToken, Secures}
 use Rattle.lpc_model.specs.Entering.{enter, given_steps, shown, takes, woken}
 use Rattle.lpc_model.specs.Circle.{Everyone, Group, Nobody, Of, Whose, entry_whose, is_seen, owned, owner, thread_whose}
 use Rattle.lpc_isolation.proofs.Views.Alone.{alone}
@@ -85,6 +85,11 @@ is_apart m c u d w (Writes b place new) = not (sees m w (Writes b place new))
 is_apart m c u d w (Maps pid v) = not (sees m w (Maps pid v))
 is_apart m c u d w (Unmaps pid base) = not (sees m w (Unmaps pid base))
 is_apart m c u d w (DropsViewsOf pid) = not (sees m w (DropsViewsOf pid))
+is_apart m c u d w (DropsOwned b) = not (sees m w (DropsOwned b))
+is_apart m c u d w (Secures b s) = not (sees m w (Secures b s))
+is_apart m c u d w (Acts who own) = not (sees m w (Acts who own))
+is_apart m c u d w (AddsToken t) = not (sees m w (AddsToken t))
+is_apart m c u d w (NamesToken n) = not (sees m w (NamesToken n))
 
 wakes-apart : (m : Group) (u w : World) (who : ℕ) (call : CallName) (status : Status) (fields : List Field) (b : Bool) → is_seen m (thread_whose u who) ≡ b → (b || not (sees_wait m w who)) ≡ true
     → view m (basic w (Wakes who call status fields)) ≡ absorb_all (view m w) (cond b (entry.Wakes who call status fields ∷ []) [])
@@ -199,7 +204,7 @@ given-apart m c u d w x y Receive k out is patient unseen owned own other =
     rw (k, receive-first w x y is (rw k refl) patient, out) (taken-apart m c u d (basic (basic w (Enters x)) (Takes x.queue)) (asks x.message) x.message.header.client.thread x.queue y _ unseen owned own other)
 given-apart m c u d w x y Listen k out is patient unseen owned own other =
     rw (k, listen-first w x y is (rw k refl) (rw k refl) patient, out) (taken-apart m c u d (basic (basic w (Enters x)) (TakesConnect x.queue)) (asks x.message) x.message.header.client.thread x.queue y _ unseen owned own other)
-given-apart m c u d w x y (Connect a) k out is patient unseen owned own other = let off : (false && same_birth y.queue x.queue) ≡ true = rw k at is in absurd (cc)
+given-apart m c u d w x y (Connect a offer) k out is patient unseen owned own other = let off : (false && same_birth y.queue x.queue) ≡ true = rw k at is in absurd (cc)
 given-apart m c u d w x y (Accepted a b) k out is patient unseen owned own other = let off : (false && same_birth y.queue x.queue) ≡ true = rw k at is in absurd (cc)
 
 entered-apart : (m : Group) (c : ℕ) (u : World) (d : Whose) (w : World) (x : MessageRow) (o : Option WaitRow) → first (takes x) w.waits ≡ o → our_message m x ≡ false → (x.queue.process == c) ≡ false
@@ -224,8 +229,8 @@ given-entries x y Receive true b k asked = rw (k, asked) refl
 given-entries x y Receive false b k asked = rw (k, asked) refl
 given-entries x y Listen true b k asked = rw (k, asked) refl
 given-entries x y Listen false b k asked = rw (k, asked) refl
-given-entries x y (Connect a) true b k asked = rw (k, asked) refl
-given-entries x y (Connect a) false b k asked = rw (k, asked) refl
+given-entries x y (Connect a offer) true b k asked = rw (k, asked) refl
+given-entries x y (Connect a offer) false b k asked = rw (k, asked) refl
 given-entries x y (Accepted a r) true b k asked = rw (k, asked) refl
 given-entries x y (Accepted a r) false b k asked = rw (k, asked) refl
 

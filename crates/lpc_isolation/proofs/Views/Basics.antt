@@ -1,8 +1,8 @@
 -- What each basic step does to a view.
-use Rattle.std.proofs.Common.{◌≡◌, ℕ, List, [], ◌∷◌, ◌++◌, Bool, true, false, cond, not, map, Option, Some, None, refl, ap, ◌∙◌, arith}
+use Rattle.std.proofs.Common.{◌≡◌, ℕ, List, [], ◌∷◌, ◌++◌, Bool, true, false, cond, not, map, Option, Some, None, refl, ap, ◌∙◌, arith, sym}
 use Rattle.std.specs.Prelude.{◌&&◌, ◌||◌, is_none}
 use Rattle.std.proofs.lemmas.Bool.{and_from, eqb-true, or_parts}
-use Rattle.lpc_base.specs.Rows.{change, every, first, has, passes, which, without_first}
+use Rattle.lpc_base.specs.Rows.{change, every, first, has, passes, which, without_first, each}
 use Rattle.lpc_base.proofs.RowMaps.{push-map}
 use Rattle.lpc_base.proofs.RowWords.{change-none, every-true, which-without, without-none, without_first-none}
 use Rattle.lpc_base.proofs.Bools.{first-true, second-true}
@@ -10,11 +10,12 @@ use Rattle.lpc_names.specs.Binding.{is_name}
 use Rattle.lpc_names.specs.Walk.{LinkTo, Stands}
 use Rattle.lpc_names.specs.declared.names.Found.TheVariants.{Directory, Item}
 use Rattle.lpc_model.specs.World.{Birth, HandleTable, MessageRow, Node, Path, PortRow, ViewRow, ViewTable, World}
-use Rattle.lpc_model.specs.Found.{is_own_of, is_the, same_birth, is_port, is_queued, is_queued_connect, is_space, is_table, is_thread, lies_at, waits_as, waits_at}
-use Rattle.lpc_model.specs.Basics.{Accepts, AddsHandle, AddsProcess, AddsSection, AddsThread, Awaits, Basic, Binds, Completes, Cuts, DrawsIdentifier, DrawsOrdinal, DropsHandle, DropsViewsOf, Empties, Enters, Frees, Joins, Makes, Maps, Receives, Takes, TakesConnect, Tells, Unbinds, Unmaps, Wakes, Withdraws, Writes, accepted, basic, completed, cut, is_end_of, joined, no_handles, no_views, past_identifier, past_ordinal, received, used, with_handle, with_view, without_handle, without_view, without_views, world_after, Dies, Registers, Unregisters, ended, registering, unregistering}
+use Rattle.lpc_model.specs.Found.{is_own_of, is_the, same_birth, is_port, is_queued, is_queued_connect, is_space, is_table, is_thread, lies_at, waits_as, waits_at, all_views, is_owned_by}
+use Rattle.lpc_model.specs.Basics.{Accepts, AddsHandle, AddsProcess, AddsSection, AddsThread, Awaits, Basic, Binds, Completes, Cuts, DrawsIdentifier, DrawsOrdinal, DropsHandle, DropsViewsOf, Empties, Enters, Frees, Joins, Makes, Maps, Receives, Takes, TakesConnect, Tells, Unbinds, Unmaps, Wakes, Withdraws, Writes, accepted, basic, completed, cut, is_end_of, joined, no_handles, no_views, past_identifier, past_ordinal, received, used, with_handle, with_view, without_handle, without_view, without_views, world_after, Dies, Registers, Unregisters, ended, registering, unregistering, DropsOwned, without_owned, Acts, AddsToken, NamesToken, Secures, acting, secured}
 use Rattle.lpc_model.specs.Circle.{Group}
-use Rattle.lpc_isolation.proofs.Views.Filters.{kept-change, kept-push, kept-push_out, kept-without_out, kept-without_first, kept-without_first_out, shown, shown-change, shown-map, shown-push, shown-push_out, shown-change_out, shown-map_out, kept-change_out, mapped-without}
-use Rattle.lpc_isolation.proofs.Views.View.{of_birth, our_binding, our_message, our_node, our_port, our_process, our_section, our_space, our_table, our_thread, our_used, our_wait, hidden_section, seen_port, seen_space, seen_view, view}
+use Rattle.lpc_model.proofs.Steps.Rows.{has-append}
+use Rattle.lpc_isolation.proofs.Views.Filters.{kept-change, kept-push, kept-push_out, kept-without_out, kept-without_first, kept-without_first_out, shown, shown-change, shown-map, shown-push, shown-push_out, shown-change_out, shown-map_out, kept-change_out, mapped-without, shown-turn}
+use Rattle.lpc_isolation.proofs.Views.View.{of_birth, our_binding, our_message, our_node, our_port, our_process, our_section, our_space, our_table, our_thread, our_used, our_wait, hidden_section, seen_port, seen_space, seen_view, view, our_token}
 
 -- a thread's wait is in the view, and so is its row
 abbrev pub sees_wait : Group → World → ℕ → Bool
@@ -63,6 +64,11 @@ sees m w (Writes b place new) = false
 sees m w (Maps pid v) = m pid
 sees m w (Unmaps pid base) = m pid
 sees m w (DropsViewsOf pid) = m pid
+sees m w (DropsOwned b) = has (is_owned_by b) (all_views (view m w))
+sees m w (Secures b s) = m b.process
+sees m w (Acts who own) = sees_thread m w who
+sees m w (AddsToken t) = our_token m t
+sees m w (NamesToken n) = true
 
 -- what is asked of the steps of every line
 abbrev pub is_regular : Group → World → Basic → Bool
@@ -97,6 +103,11 @@ is_regular m w (Writes b place new) = true
 is_regular m w (Maps pid v) = not (m pid) || m v.section.process
 is_regular m w (Unmaps pid base) = true
 is_regular m w (DropsViewsOf pid) = true
+is_regular m w (DropsOwned b) = true
+is_regular m w (Secures b s) = true
+is_regular m w (Acts who own) = true
+is_regular m w (AddsToken t) = true
+is_regular m w (NamesToken n) = true
 
 -- Ports
 new-port : (m : Group) (p : PortRow) → is_none p.pair ≡ true → seen_port m p ≡ p
@@ -164,6 +175,11 @@ is_ours m w (Writes b place new) = true
 is_ours m w (Maps pid v) = m pid
 is_ours m w (Unmaps pid base) = true
 is_ours m w (DropsViewsOf pid) = true
+is_ours m w (DropsOwned b) = true
+is_ours m w (Secures b s) = true
+is_ours m w (Acts who own) = true
+is_ours m w (AddsToken t) = our_token m t
+is_ours m w (NamesToken n) = true
 
 -- a pair that is cut
 abbrev with_pair : Option Birth → PortRow → PortRow
@@ -215,8 +231,33 @@ base-same m base v = at (m v.section.process)
 more-seen : (m : Group) (v : ViewRow) → m v.section.process ≡ true → (t : ViewTable) → seen_space m (with_view v t) ≡ with_view v (seen_space m t)
 more-seen m v inside t = ap (λ rows. record t { rows = rows }) (push-map (seen_view m) t.rows v ∙ ap (λ x. map (seen_view m) t.rows ++ x ∷ []) (own-view m v inside))
 
+-- one more, as it is seen
+turned-seen : (m : Group) (v : ViewRow) (t : ViewTable) → seen_space m (with_view v t) ≡ with_view (seen_view m v) (seen_space m t)
+turned-seen m v t = ap (λ rows. record t { rows = rows }) (push-map (seen_view m) t.rows v)
+
+pub maps-seen : (m : Group) (w : World) (pid : ℕ) (v : ViewRow) → view m (basic w (Maps pid v)) ≡ basic (view m w) (Maps pid (seen_view m v))
+maps-seen m w pid v = rw (shown-turn (our_space m) (is_space pid) (seen_space m) (with_view v) (with_view (seen_view m v)) (λ t. refl) (λ t. refl) (turned-seen m v) w.views) refl
+
 less-seen : (m : Group) (base : ℕ) (t : ViewTable) → seen_space m (without_view base t) ≡ without_view base (seen_space m t)
 less-seen m base t = ap (λ rows. record t { rows = rows }) (mapped-without (lies_at base) (seen_view m) (base-same m base) t.rows)
+
+pub owner-same : (m : Group) (b : Birth) (v : ViewRow) → is_owned_by b (seen_view m v) ≡ is_owned_by b v
+owner-same m b v = at (m v.section.process)
+  where
+    at : (e : Bool) → is_owned_by b (cond e v (record v { section = hidden_section v.section; offset = 0 })) ≡ is_owned_by b v
+    at true = refl
+    at false = refl
+
+owned-seen : (m : Group) (b : Birth) (t : ViewTable) → seen_space m (without_owned b t) ≡ without_owned b (seen_space m t)
+owned-seen m b t = ap (λ rows. record t { rows = rows }) (mapped-without (is_owned_by b) (seen_view m) (owner-same m b) t.rows)
+
+-- no view is the port's
+pub none-owned : (b : Birth) (ts : List ViewTable) → has (is_owned_by b) (each (λ (t : ViewTable). t.rows) ts) ≡ false → map (without_owned b) ts ≡ ts
+none-owned b [] none = refl
+none-owned b (t ∷ ts) none =
+    let rest : List ViewRow = each (λ (t : ViewTable). t.rows) ts in
+    let parts = or_parts (has (is_owned_by b) t.rows) (has (is_owned_by b) rest) (sym (has-append (is_owned_by b) t.rows rest) ∙ none) in
+    ap (λ rows. record t { rows = rows } ∷ map (without_owned b) ts) (without-none (is_owned_by b) t.rows parts.0) ∙ ap (λ us. t ∷ us) (none-owned b ts parts.1)
 
 mapped-inside : (m : Group) (pid : ℕ) (v : ViewRow) → m pid ≡ true → (not (m pid) || m v.section.process) ≡ true → m v.section.process ≡ true
 mapped-inside m pid v is ok = grind arith
@@ -249,11 +290,16 @@ basic-ours m w (Empties q) is ok = rw (which-without (our_message m) (is_queued 
 basic-ours m w (Cuts b) is ok = rw (shown-cut m b is w.ports) refl
 basic-ours m w (Unbinds b) is ok = rw (which-without (our_binding m) (is_name same_birth b) w.bindings) refl
 basic-ours m w (DropsHandle pid value) is ok = rw (kept-change (our_table m) (is_table pid) (without_handle value) (λ t. refl) w.handles) refl
+basic-ours m w (Secures b s) is ok = rw (shown-change (our_port m) (is_port b) (seen_port m) (secured s) (λ p. refl) (λ p. refl) (λ p. refl) w.ports) refl
+basic-ours m w (Acts who own) is ok = rw (kept-change (our_thread m) (is_thread who) (acting own) (λ t. refl) w.threads) refl
+basic-ours m w (AddsToken t) is ok = rw (kept-push (our_token m) w.tokens t is) refl
+basic-ours m w (NamesToken n) is ok = refl
 basic-ours m w (AddsSection s) is ok = rw (kept-push (our_section m) w.sections s is) refl
 basic-ours m w (Writes b place new) is ok = refl
 basic-ours m w (Maps pid v) is ok = rw (shown-change (our_space m) (is_space pid) (seen_space m) (with_view v) (λ t. refl) (λ t. refl) (more-seen m v (mapped-inside m pid v is ok)) w.views) refl
 basic-ours m w (Unmaps pid base) is ok = rw (shown-change (our_space m) (is_space pid) (seen_space m) (without_view base) (λ t. refl) (λ t. refl) (less-seen m base) w.views) refl
 basic-ours m w (DropsViewsOf pid) is ok = rw (shown-change (our_space m) (is_space pid) (seen_space m) without_views (λ t. refl) (λ t. refl) (λ t. refl) w.views) refl
+basic-ours m w (DropsOwned b) is ok = rw (shown-map (our_space m) (seen_space m) (without_owned b) (without_owned b) (λ t. refl) (λ t kept. owned-seen m b t) w.views) refl
 
 -- Unseen steps
 joined-out : (m : Group) (client server : Birth) (context : ℕ) → m client.process ≡ false → m server.process ≡ false → (p : PortRow) → our_port m p ≡ true → seen_port m (joined client server context p) ≡ seen_port m p
@@ -360,11 +406,16 @@ basic-unseen m w (Empties q) out ok = rw (kept-without_out (our_message m) (is_q
 basic-unseen m w (Cuts b) out ok = rw (shown-cut_out m b out w.ports) refl
 basic-unseen m w (Unbinds b) out ok = rw (kept-without_out (our_binding m) (is_name same_birth b) (name-out m b out) w.bindings) refl
 basic-unseen m w (DropsHandle pid value) out ok = rw (kept-change_out (our_table m) (is_table pid) (without_handle value) (λ t. refl) (table-out m pid out) w.handles) refl
+basic-unseen m w (Secures b s) out ok = rw (shown-change_out (our_port m) (is_port b) (seen_port m) (secured s) (λ p. refl) (named-out m b out) w.ports) refl
+basic-unseen m w (Acts who own) out ok = rw (kept-change (our_thread m) (is_thread who) (acting own) (λ t. refl) w.threads, change-none (is_thread who) (acting own) (which (our_thread m) w.threads) out) refl
+basic-unseen m w (AddsToken t) out ok = rw (kept-push_out (our_token m) w.tokens t out) refl
+basic-unseen m w (NamesToken n) out ok = absurd (cc)
 basic-unseen m w (AddsSection s) out ok = rw (kept-push_out (our_section m) w.sections s out) refl
 basic-unseen m w (Writes b place new) out ok = refl
 basic-unseen m w (Maps pid v) out ok = rw (shown-change_out (our_space m) (is_space pid) (seen_space m) (with_view v) (λ t. refl) (space-out m pid out) w.views) refl
 basic-unseen m w (Unmaps pid base) out ok = rw (shown-change_out (our_space m) (is_space pid) (seen_space m) (without_view base) (λ t. refl) (space-out m pid out) w.views) refl
 basic-unseen m w (DropsViewsOf pid) out ok = rw (shown-change_out (our_space m) (is_space pid) (seen_space m) without_views (λ t. refl) (space-out m pid out) w.views) refl
+basic-unseen m w (DropsOwned b) out ok = rw (shown-map (our_space m) (seen_space m) (without_owned b) (without_owned b) (λ t. refl) (λ t kept. owned-seen m b t) w.views, none-owned b (shown (our_space m) (seen_space m) w.views) out) refl
 
 -- Lists of steps
 -- steps that are all members'

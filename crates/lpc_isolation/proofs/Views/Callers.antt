@@ -1,25 +1,26 @@
 -- What every call's proof needs of its caller.
-use Rattle.std.proofs.Common.{◌≡◌, ℕ, List, [], true, false, Some, refl, ap, sym, subst, ◌∙◌, arith}
-use Rattle.std.specs.Prelude.{◌==◌, Result, Ok, Err}
-use Rattle.std.proofs.lemmas.Bool.{eqb-true}
-use Rattle.lpc_base.specs.Rows.{which}
+use Rattle.std.proofs.Common.{◌≡◌, ℕ, List, [], true, false, Some, refl, ap, sym, subst, ◌∙◌, arith, Bool, cond, map, None, Option, ◌∷◌, not}
+use Rattle.std.specs.Prelude.{◌==◌, Result, Ok, Err, ◌||◌}
+use Rattle.std.proofs.lemmas.Bool.{eqb-true, false_from_ne_true}
+use Rattle.lpc_base.specs.Rows.{which, each, every, has}
 use Rattle.lpc_base.specs.declared.status.Status.{Status}
-use Rattle.lpc_base.proofs.Bools.{second-true}
+use Rattle.lpc_base.proofs.Bools.{second-true, first-true}
 use Rattle.lpc_model.specs.declared.entry.CallName.{CallName}
 use Rattle.lpc_model.specs.declared.entry.Entry.TheVariants as entry
 use Rattle.lpc_model.specs.declared.entry.Field.{Field}
-use Rattle.lpc_model.specs.World.{ThreadRow, WaitRow, World}
-use Rattle.lpc_model.specs.Found.{is_thread}
-use Rattle.lpc_model.specs.Basics.{Basic, entries_of, world_after}
+use Rattle.lpc_model.specs.World.{ThreadRow, WaitRow, World, Birth, ViewRow, ViewTable}
+use Rattle.lpc_model.specs.Found.{is_thread, is_owned_by, is_the, same_birth}
+use Rattle.lpc_model.specs.Basics.{Basic, entries_of, world_after, DropsOwned}
 use Rattle.lpc_model.specs.Tests.{handle_load, handles_test, is_connect_of}
 use Rattle.lpc_model.specs.Then.{◌>>=◌}
 use Rattle.lpc_model.proofs.Calls.Holding.{Holds}
+use Rattle.lpc_model.proofs.Steps.Rows.{has-append}
 use Rattle.lpc_model.specs.Circle.{Group, Whose, owner}
 use Rattle.lpc_isolation.proofs.Views.Alone.{alone}
-use Rattle.lpc_isolation.proofs.Views.Filters.{first-nowhere, which-where}
-use Rattle.lpc_isolation.proofs.Views.View.{our_thread, our_wait, view}
-use Rattle.lpc_isolation.proofs.Views.Basics.{are_ours, run-ours, sees_thread}
-use Rattle.lpc_isolation.proofs.Rows.Fair.{Fair, is_fair_wait, is_homed}
+use Rattle.lpc_isolation.proofs.Views.Filters.{first-nowhere, which-where, shown}
+use Rattle.lpc_isolation.proofs.Views.View.{our_thread, our_wait, view, of_birth, our_space, seen_space, seen_view}
+use Rattle.lpc_isolation.proofs.Views.Basics.{are_ours, run-ours, sees_thread, owner-same, sees}
+use Rattle.lpc_isolation.proofs.Rows.Fair.{Fair, is_fair_wait, is_homed, is_fair_space, is_fair_view}
 use Rattle.lpc_isolation.proofs.Views.Seen.{handles-view, homed-number}
 use Rattle.lpc_isolation.proofs.Views.Apart.{heard, is_heard}
 
@@ -35,6 +36,36 @@ homed-same w tid pid t own homed is =
 pub unseen-thread : (m : Group) (c : ℕ) (w : World) (tid pid : ℕ) → Fair m c w → owner w tid ≡ Some pid → m pid ≡ false → sees_thread m w tid ≡ false
 unseen-thread m c w tid pid f own out =
     rw (first-nowhere (is_homed w.used_threads) (our_thread m) (is_thread tid) (λ t homed is. ap m (homed-same w tid pid t own homed is) ∙ out) w.threads f.threads) refl
+
+-- an outsider's port owns no view that is seen
+out-owner : (m : Group) (c : ℕ) (b : Birth) (pid : ℕ) (v : ViewRow) → m b.process ≡ false → m pid ≡ true → is_fair_view m c pid v ≡ true → is_owned_by b v ≡ false
+out-owner m c b pid v out inside fair = at v.owner refl
+  where
+    at : (o : Option Birth) → v.owner ≡ o → is_the b o ≡ false
+    at None none = refl
+    at (Some d) some = false_from_ne_true (same_birth b d) (λ is.
+        let home : (d.process == pid) ≡ true = rw some at (second-true (not (v.section.process == c) || m pid) _ (second-true (not (pid == c) || m v.section.process) _ fair)) in
+        let same : m b.process ≡ m pid = of_birth m b d is ∙ ap m (eqb-true d.process pid home) in cc)
+
+out-rows : (m : Group) (c : ℕ) (b : Birth) (pid : ℕ) → m b.process ≡ false → m pid ≡ true → (vs : List ViewRow) → every (is_fair_view m c pid) vs ≡ true → has (is_owned_by b) (map (seen_view m) vs) ≡ false
+out-rows m c b pid out inside [] all = refl
+out-rows m c b pid out inside (v ∷ vs) all =
+    let off : is_owned_by b (seen_view m v) ≡ false = owner-same m b v ∙ out-owner m c b pid v out inside (first-true _ _ all) in
+    rw off (out-rows m c b pid out inside vs (second-true (is_fair_view m c pid v) _ all))
+
+out-tables : (m : Group) (c : ℕ) (b : Birth) → m b.process ≡ false → (ts : List ViewTable) → every (is_fair_space m c) ts ≡ true → has (is_owned_by b) (each (λ (t : ViewTable). t.rows) (shown (our_space m) (seen_space m) ts)) ≡ false
+out-tables m c b out [] all = refl
+out-tables m c b out (t ∷ ts) all = at (m t.process) refl (out-tables m c b out ts (second-true (is_fair_space m c t) _ all))
+  where
+    kept : List ViewRow
+    kept = each (λ (t : ViewTable). t.rows) (shown (our_space m) (seen_space m) ts)
+
+    at : (e : Bool) → m t.process ≡ e → has (is_owned_by b) kept ≡ false → has (is_owned_by b) (each (λ (t : ViewTable). t.rows) (map (seen_space m) (cond e (t ∷ which (our_space m) ts) (which (our_space m) ts)))) ≡ false
+    at true inside none = has-append (is_owned_by b) (map (seen_view m) t.rows) kept ∙ rw (out-rows m c b t.process out inside t.rows (first-true _ _ all), none) refl
+    at false off none = none
+
+pub unseen-owned : (m : Group) (c : ℕ) (w : World) (b : Birth) → Fair m c w → m b.process ≡ false → sees m w (DropsOwned b) ≡ false
+unseen-owned m c w b f out = out-tables m c b out w.views f.views
 
 -- c's waits are in the view
 pub c-wait : (m : Group) (c : ℕ) (x : WaitRow) → m c ≡ true → is_fair_wait m c x ≡ true → (x.process == c) ≡ true → our_wait m x ≡ true

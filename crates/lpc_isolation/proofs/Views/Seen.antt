@@ -1,7 +1,7 @@
 -- What the tests of calls find in a view.
 use Rattle.lpc_model.specs.Memory.{section_test}
 use Rattle.std.proofs.Common.{◌≡◌, ℕ, List, [], ◌∷◌, true, not, Option, Some, None, refl, ap, sym, subst, ◌∙◌, arith}
-use Rattle.std.specs.Prelude.{◌&&◌, ◌==◌, option_map, Result, Ok, Err}
+use Rattle.std.specs.Prelude.{◌&&◌, ◌==◌, option_map, Result, Ok, Err, option_and_then}
 use Rattle.std.proofs.lemmas.Bool.{eqb-true}
 use Rattle.lpc_base.specs.Rows.{every, first, has, passes}
 use Rattle.lpc_base.proofs.RowWords.{first-passes}
@@ -14,13 +14,13 @@ use Rattle.lpc_model.specs.declared.entry.ObjectKind.TheVariants as kind
 use Rattle.lpc_model.specs.Refusal.{found_or, refuse_if}
 use Rattle.lpc_model.specs.Then.{◌>>=◌}
 use Rattle.lpc_model.specs.World.{Birth, HandleRow, HandleTable, PortRow, ThreadRow, UsedThread, World, SectionRow, ViewRow}
-use Rattle.lpc_model.specs.Found.{free_handle, handle_at, handles_of, has_handle_to, has_value, is_live_thread, is_open, is_port, is_table, is_used_thread, live_thread, names_port, port_row, rows_in, same_kind, is_section, section_row}
+use Rattle.lpc_model.specs.Found.{free_handle, handle_at, handles_of, has_handle_to, has_value, is_live_thread, is_open, is_port, is_table, is_used_thread, live_thread, names_port, port_row, rows_in, same_kind, is_section, section_row, token_of, token_in, is_process, access_list, list_in}
 use Rattle.lpc_base.specs.declared.status.TheConstants.{ACCESS_DENIED, INVALID_HANDLE, OBJECT_TYPE_MISMATCH}
 use Rattle.lpc_model.specs.Tests.{PORT_RIGHT, includes, object_test, own_handle, port_test}
 use Rattle.lpc_model.proofs.Calls.Holding.{Holds, bind_holds, found_holds, found_ok, holds_ok}
 use Rattle.lpc_model.specs.Circle.{Group, owner}
 use Rattle.lpc_isolation.proofs.Views.Filters.{first-inside, first-shown, first-where, has-inside}
-use Rattle.lpc_isolation.proofs.Views.View.{of_birth, our_port, our_table, our_thread, seen_port, view}
+use Rattle.lpc_isolation.proofs.Views.View.{of_birth, our_port, our_table, our_thread, seen_port, view, our_process}
 use Rattle.lpc_isolation.proofs.Rows.Fair.{Fair, is_fair_pair, is_fair_port, is_fair_table, is_home, is_homed, is_own}
 
 -- Handles
@@ -160,3 +160,14 @@ live-view m c w tid pid f own is =
 pub live-owner : (m : Group) (c : ℕ) (w : World) (tid : ℕ) (t : ThreadRow) → Fair m c w → live_thread w tid ≡ Some t → owner w tid ≡ Some t.process
 live-owner m c w tid t f live =
     homed-owner m c w tid t (every-first (is_homed w.used_threads) (is_live_thread tid) w.threads t f.threads live) (first-passes (is_live_thread tid) w.threads t live)
+
+-- the token of a member's process, and whom a member's port may be opened by
+pub token-view : (m : Group) (w : World) (pid : ℕ) → m pid ≡ true → token_of (view m w) pid ≡ token_of w pid
+token-view m w pid inside = ap token_in (first-inside (our_process m) (is_process pid) (λ p is. ap m (eqb-true p.number pid is) ∙ inside) w.processes)
+
+pub access-view : (m : Group) (w : World) (b : Birth) → m b.process ≡ true → access_list (view m w) b ≡ access_list w b
+access-view m w b inside = ap (option_and_then (λ (p : PortRow). list_in p.security)) (port-view m w b inside) ∙ at (port_row w b)
+  where
+    at : (o : Option PortRow) → option_and_then (λ (p : PortRow). list_in p.security) (option_map (seen_port m) o) ≡ option_and_then (λ (p : PortRow). list_in p.security) o
+    at None = refl
+    at (Some p) = refl

@@ -5,7 +5,7 @@ use Rattle.std.proofs.lemmas.Bool.{eqb-true, false_from_ne_true}
 use Rattle.lpc_base.specs.Rows.{which}
 use Rattle.lpc_names.specs.Walk.{LinkTo, Stands}
 use Rattle.lpc_names.specs.declared.names.Found.TheVariants.{Directory, Item}
-use Rattle.lpc_model.specs.World.{Birth, HandleTable, MessageRow, Node, Path, PortRow, ProcessRow, SectionRow, ThreadRow, Unknown, UsedThread, ViewRow, ViewTable, WaitRow, World}
+use Rattle.lpc_model.specs.World.{Birth, HandleTable, MessageRow, Node, Path, PortRow, ProcessRow, SectionRow, ThreadRow, Unknown, UsedThread, ViewRow, ViewTable, WaitRow, World, TokenRow}
 use Rattle.lpc_model.specs.Found.{same_birth}
 use Rattle.lpc_model.specs.Circle.{Group}
 use Rattle.lpc_isolation.proofs.Views.Filters.{shown}
@@ -66,7 +66,10 @@ seen_view m v = cond (m v.section.process) v (record v { section = hidden_sectio
 abbrev pub seen_space : Group → ViewTable → ViewTable
 seen_space m t = record t { rows = map (seen_view m) t.rows }
 
--- no bytes are seen
+abbrev pub our_token : Group → TokenRow → Bool
+our_token m t = m t.birth.process
+
+-- no bytes are seen, and the names of all tokens
 abbrev pub view : Group → World → World
 view m w = record {
   processes = which (our_process m) w.processes;
@@ -81,6 +84,8 @@ view m w = record {
   sections = which (our_section m) w.sections;
   contents = Unknown;
   views = shown (our_space m) (seen_space m) w.views;
+  tokens = which (our_token m) w.tokens;
+  token_names = w.token_names;
 }
 
 -- small facts
