@@ -1,3 +1,4 @@
 pub mod Worked
 pub mod Front
 pub mod Feeding
+pub mod Entries

@@ -1,10 +1,12 @@
 //! What each line of a script says by the grammar.
 #![tactic(auto)]
 
+mod access;
 mod laws;
 mod line_buffer;
 mod read;
 mod scratch;
+mod tokens;
 
 pub use laws::law_worked_lines;
 pub use line_buffer::{Fed, LineBuffer};

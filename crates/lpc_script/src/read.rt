@@ -3,30 +3,65 @@ ghost use Rattle.std.specs.Prelude.{◌≡◌, ◌≤◌, ◌&&◌, codes, lengt
 ghost use Rattle.std.specs.List.{list_all};
 ghost use Rattle.std.specs.Option.{option_copied, option_map};
 ghost use Rattle.lpc_base.specs.declared.limits.TheConstants.{LINE_LIMIT};
-ghost use Rattle.lpc_model.specs.declared.entry.CallName.TheVariants.{NtAcceptConnectPort, NtConnectPort, NtCreatePort, NtCreateProcess, NtCreateSection, NtCreateThread, NtDuplicateObject, NtMapViewOfSection, NtReadRequestData, NtReadVirtualMemory, NtTerminateProcess, NtTerminateThread, NtUnmapViewOfSection, NtWriteRequestData, NtWriteVirtualMemory};
-ghost use Rattle.lpc_model.specs.declared.entry.Word.TheVariants.{Boot, Thread};
+ghost use Rattle.lpc_model.specs.declared.entry.CallName.TheVariants.{NtAcceptConnectPort, NtConnectPort, NtCreatePort, NtCreateProcess, NtCreateSection, NtCreateThread, NtDuplicateObject, NtImpersonateClientOfPort, NtMapViewOfSection, NtQueryInformationToken, NtReadRequestData, NtReadVirtualMemory, NtSetInformationThread, NtTerminateProcess, NtTerminateThread, NtUnmapViewOfSection, NtWriteRequestData, NtWriteVirtualMemory};
+ghost use Rattle.lpc_model.specs.declared.entry.Word.TheVariants.{Boot, Thread, Token};
 ghost use Rattle.lpc_model.specs.Lines.{call_of, line_of};
 ghost use Rattle.lpc_model.specs.Words.{is_id, words};
 ghost use Rattle.lpc_model.specs.Grammar.{call_words, directive_words, has_call_ids, has_ids};
 ghost use Rattle.lpc_model.specs.Grammar as grammar;
 ghost use Rattle.lpc_words.specs.Gives.{Gives};
 
+use crate::access::given_dacl;
 use crate::scratch::Scratch;
+use crate::tokens::{process_and_token, quality, token_words};
 use lpc_base::limits::LINE_LIMIT;
-use lpc_model::{Call, CallName, Line, LineFault, ProcArg, Word};
+use lpc_model::{Call, CallName, Line, LineFault, ProcArg, ViewWord, Word};
 use lpc_words::{
-    call_name, directive_name, four_words, id, next_word, number, one_or_two_words, one_word,
-    two_words,
+    call_name, directive_name, four_words, id, next_word, no_words, number, one_or_two_words,
+    one_word, three_parts, two_words,
 };
 
-/// The word `-`, the one that may stand for a quality of service or for a view so far; `Word` for any other.
-fn dash(word: &[u8]) -> Result<(), LineFault>
-    ensures { Gives (λ nothing. tt) result (grammar.fixed_word (codes "-") word.now) }
+/// The word `null`; `Word` for any other.
+fn null(word: &[u8]) -> Result<(), LineFault>
+    ensures { Gives (λ nothing. tt) result (grammar.fixed_word (codes "null") word.now) }
 {
-    if word != b"-".as_slice() {
+    if word != b"null".as_slice() {
         return Err(LineFault::Word);
     }
     Ok(())
+}
+
+/// The handle, offset and size of a view, parted by colons: `Word` where there are no three parts, then `Number` for the
+/// first that is no number.
+#[tactic(auto, unfolding(lpc_model::specs::Grammar::view_numbers))]
+fn view_numbers(text: &[u8]) -> Result<ViewWord, LineFault>
+    ensures { Gives (λ view. view) result (grammar.view_numbers text.now) }
+{
+    let (handle, offset, size) = three_parts(text, b':').ok_or(LineFault::Word)?;
+    let handle = number(handle)?;
+    let offset = number(offset)?;
+    let size = number(size)?;
+    Ok(ViewWord {
+        handle,
+        offset,
+        size,
+    })
+}
+
+/// What a connect or its answer offers to be seen: nothing for `-`, or `w:` and a view's numbers; `Word` for any other
+/// form.
+#[tactic(auto, unfolding(lpc_model::specs::Grammar::view_word))]
+fn view(word: &[u8]) -> Result<Option<ViewWord>, LineFault>
+    ensures { Gives (λ view. view) result (grammar.view_word word.now) }
+{
+    if word == b"-".as_slice() {
+        return Ok(None);
+    }
+    if word.starts_with(b"w:") {
+        let view = view_numbers(&word[2..])?;
+        return Ok(Some(view));
+    }
+    Err(LineFault::Word)
 }
 
 /// Whether a connect is accepted: `accept` or `refuse`; `Word` for any other word.
@@ -217,11 +252,15 @@ fn create_port(text: &[u8]) -> Result<Call<'_>, LineFault>
     ensures value { Gives call_of result (call_words NtCreatePort (words text.now)) }
     ensures ids { IfOk result (λ call. IsTrue (has_call_ids (call_of call))) }
 {
-    let word = one_word(text)?;
+    let (word, dacl) = one_or_two_words(text)?;
+    let dacl = given_dacl(dacl)?;
     if word == b"-".as_slice() {
-        return Ok(Call::CreatePort { name: None });
+        return Ok(Call::CreatePort { name: None, dacl });
     }
-    Ok(Call::CreatePort { name: Some(word) })
+    Ok(Call::CreatePort {
+        name: Some(word),
+        dacl,
+    })
 }
 
 #[tactic(auto, unfolding(lpc_model::specs::Grammar::call_words))]
@@ -230,11 +269,16 @@ fn connect_port<'a>(text: &'a [u8], scratch: &'a mut Scratch) -> Result<Call<'a>
     ensures value { Gives call_of result (call_words NtConnectPort (words text.now)) }
     ensures ids { IfOk result (λ call. IsTrue (has_call_ids (call_of call))) }
 {
-    let (name, qos, view, info) = four_words(text)?;
-    dash(qos)?;
-    dash(view)?;
+    let (name, qos, offered, info) = four_words(text)?;
+    let quality = quality(qos)?;
+    let view = view(offered)?;
     let info = scratch.info(info)?;
-    Ok(Call::ConnectPort { name, info })
+    Ok(Call::ConnectPort {
+        name,
+        quality,
+        view,
+        info,
+    })
 }
 
 #[tactic(auto, unfolding(lpc_model::specs::Grammar::call_words))]
@@ -254,15 +298,16 @@ fn accept_connect_port<'a>(text: &[u8], scratch: &'a mut Scratch) -> Result<Call
     ensures value { Gives call_of result (call_words NtAcceptConnectPort (words text.now)) }
     ensures ids { IfOk result (λ call. IsTrue (has_call_ids (call_of call))) }
 {
-    let (context, message, verdict, view) = four_words(text)?;
+    let (context, message, verdict, offered) = four_words(text)?;
     let context = number(context)?;
     let message = scratch.message(message)?;
     let accept = accept(verdict)?;
-    dash(view)?;
+    let view = view(offered)?;
     Ok(Call::AcceptConnectPort {
         context,
         message,
         accept,
+        view,
     })
 }
 
@@ -383,6 +428,39 @@ fn write_request_data<'a>(text: &[u8], scratch: &'a mut Scratch) -> Result<Call<
     })
 }
 
+#[tactic(auto, unfolding(lpc_model::specs::Grammar::call_words))]
+fn impersonate_client_of_port<'a>(
+    text: &[u8],
+    scratch: &'a mut Scratch,
+) -> Result<Call<'a>, LineFault>
+    requires { length text.now ≤ LINE_LIMIT }
+    ensures value { Gives call_of result (call_words NtImpersonateClientOfPort (words text.now)) }
+    ensures ids { IfOk result (λ call. IsTrue (has_call_ids (call_of call))) }
+{
+    let (handle, message) = handle_and_message(text, scratch)?;
+    Ok(Call::ImpersonateClientOfPort { handle, message })
+}
+
+#[tactic(auto, unfolding(lpc_model::specs::Grammar::call_words))]
+fn set_information_thread<'a>(text: &[u8]) -> Result<Call<'a>, LineFault>
+    ensures value { Gives call_of result (call_words NtSetInformationThread (words text.now)) }
+    ensures ids { IfOk result (λ call. IsTrue (has_call_ids (call_of call))) }
+{
+    let (class, fixed) = two_words(text)?;
+    let class = number(class)?;
+    null(fixed)?;
+    Ok(Call::SetInformationThread { class })
+}
+
+#[tactic(auto, unfolding(lpc_model::specs::Grammar::call_words))]
+fn query_information_token<'a>(text: &[u8]) -> Result<Call<'a>, LineFault>
+    ensures value { Gives call_of result (call_words NtQueryInformationToken (words text.now)) }
+    ensures ids { IfOk result (λ call. IsTrue (has_call_ids (call_of call))) }
+{
+    let (handle, class) = two_numbers(text)?;
+    Ok(Call::QueryInformationToken { handle, class })
+}
+
 /// A call by the words behind its name.
 #[tactic(auto, unfolding(lpc_model::specs::Grammar::call_words))]
 fn call<'a>(name: CallName, text: &'a [u8], scratch: &'a mut Scratch) -> Result<Call<'a>, LineFault>
@@ -442,17 +520,28 @@ fn call<'a>(name: CallName, text: &'a [u8], scratch: &'a mut Scratch) -> Result<
         CallName::NtWriteVirtualMemory => write_virtual_memory(text, scratch),
         CallName::NtReadRequestData => read_request_data(text, scratch),
         CallName::NtWriteRequestData => write_request_data(text, scratch),
+        CallName::NtImpersonateClientOfPort => impersonate_client_of_port(text, scratch),
+        CallName::NtSetInformationThread => set_information_thread(text),
+        CallName::NtOpenThreadToken => {
+            no_words(text)?;
+            Ok(Call::OpenThreadToken)
+        }
+        CallName::NtOpenProcessToken => {
+            no_words(text)?;
+            Ok(Call::OpenProcessToken)
+        }
+        CallName::NtQueryInformationToken => query_information_token(text),
     }
 }
 
-/// A process with its first thread.
+/// A process with its first thread, and perhaps the name of its token.
 #[tactic(auto, unfolding(lpc_model::specs::Grammar::directive_words))]
 fn boot(text: &[u8]) -> Result<Line<'_>, LineFault>
     ensures value { Gives line_of result (directive_words Boot (words text.now)) }
     ensures ids { IfOk result (λ line. IsTrue (has_ids (line_of line))) }
 {
-    let (pid, tid) = process_and_thread(text)?;
-    Ok(Line::Boot { pid, tid })
+    let (pid, tid, token) = process_and_token(text)?;
+    Ok(Line::Boot { pid, tid, token })
 }
 
 /// A thread of a process.
@@ -467,6 +556,16 @@ fn thread(text: &[u8]) -> Result<Line<'_>, LineFault>
     Ok(Line::Thread { tid, pid })
 }
 
+/// A token and its name.
+#[tactic(auto, unfolding(lpc_model::specs::Grammar::directive_words))]
+fn token(text: &[u8]) -> Result<Line<'_>, LineFault>
+    ensures value { Gives line_of result (directive_words Token (words text.now)) }
+    ensures ids { IfOk result (λ line. IsTrue (has_ids (line_of line))) }
+{
+    let (name, token) = token_words(text)?;
+    Ok(Line::Token { name, token })
+}
+
 /// A directive by the words behind it.
 #[tactic(auto, unfolding(lpc_model::specs::Grammar::directive_words))]
 fn directive(word: Word, text: &[u8]) -> Result<Line<'_>, LineFault>
@@ -476,6 +575,7 @@ fn directive(word: Word, text: &[u8]) -> Result<Line<'_>, LineFault>
     match word {
         Word::Boot => boot(text),
         Word::Thread => thread(text),
+        Word::Token => token(text),
         Word::Dir => {
             let path = one_word(text)?;
             Ok(Line::Dir(path))

@@ -145,7 +145,7 @@ fn fill_reply(room: &mut [u8], text: &[u8]) -> Result<usize, LineFault>
     ensures end { IfOk result (λ end. end ≤ HEADER_SIZE + length text.now / 2) }
 {
     let (numbers, digits) = split_once(text, b':').ok_or(LineFault::Message)?;
-    let (process, thread, message_id) = three_parts(numbers).ok_or(LineFault::Message)?;
+    let (process, thread, message_id) = three_parts(numbers, b'.').ok_or(LineFault::Message)?;
     let process = number(process)?;
     let thread = number(thread)?;
     let message_id = number(message_id)?;

@@ -6,21 +6,22 @@ use Rattle.std.proofs.lemmas.Fmt.{decimal_injective}
 use Rattle.hex.specs.Hex.{encode_lower}
 use Rattle.lpc_model.specs.Grammar.{call_named, directive_named}
 use Rattle.lpc_model.specs.Text.{eight_digits, call_text, word_text, name_text, kind_text, value_text, fields_text, by_text, rest_text}
-use Rattle.lpc_model.specs.TextLaws.{Sort, in_decimal, in_hexadecimal, as_kind, as_bytes, is_of_sort}
+use Rattle.lpc_model.specs.TextLaws.{Sort, in_decimal, in_hexadecimal, as_kind, as_bytes, as_sids, is_of_sort}
 use Rattle.lpc_model.specs.declared.entry.CallName.{CallName}
-use Rattle.lpc_model.specs.declared.entry.CallName.TheVariants.{NtCreatePort, NtConnectPort, NtListenPort, NtAcceptConnectPort, NtCompleteConnectPort, NtRequestPort, NtRequestWaitReplyPort, NtReplyPort, NtReplyWaitReceivePort, NtRegisterThreadTerminatePort, NtClose, NtDuplicateObject, NtQueryObject, NtCreateProcess, NtCreateThread, NtTerminateProcess, NtTerminateThread, NtCreateSection, NtMapViewOfSection, NtUnmapViewOfSection, NtReadVirtualMemory, NtWriteVirtualMemory, NtReadRequestData, NtWriteRequestData}
+use Rattle.lpc_model.specs.declared.entry.CallName.TheVariants.{NtCreatePort, NtConnectPort, NtListenPort, NtAcceptConnectPort, NtCompleteConnectPort, NtRequestPort, NtRequestWaitReplyPort, NtReplyPort, NtReplyWaitReceivePort, NtRegisterThreadTerminatePort, NtClose, NtDuplicateObject, NtQueryObject, NtCreateProcess, NtCreateThread, NtTerminateProcess, NtTerminateThread, NtCreateSection, NtMapViewOfSection, NtUnmapViewOfSection, NtReadVirtualMemory, NtWriteVirtualMemory, NtReadRequestData, NtWriteRequestData, NtImpersonateClientOfPort, NtSetInformationThread, NtOpenThreadToken, NtOpenProcessToken, NtQueryInformationToken}
 use Rattle.lpc_model.specs.declared.entry.Entry.{Entry}
 use Rattle.lpc_model.specs.declared.entry.Entry.TheVariants.{Answer, Waits, Wakes, Busy, NoThread, Died, Directive}
 use Rattle.lpc_model.specs.declared.entry.Field.{Field}
 use Rattle.lpc_model.specs.declared.entry.FieldName.{FieldName}
-use Rattle.lpc_model.specs.declared.entry.FieldName.TheVariants.{H, FirstThread, Id, Ctx, Msg, Data, Max, Info, ObjectType, Access, Handles, Pointers, Base, Size}
+use Rattle.lpc_model.specs.declared.entry.FieldName.TheVariants.{H, FirstThread, Id, Ctx, Msg, Data, Max, Info, ObjectType, Access, Handles, Pointers, Base, Size, Target, ViewBase, ViewSize, User, Groups, Level}
 use Rattle.lpc_model.specs.declared.entry.Value.{Value}
-use Rattle.lpc_model.specs.declared.entry.Value.TheVariants.{Number, Hex, Kind, Bytes}
+use Rattle.lpc_model.specs.declared.entry.Value.TheVariants.{Number, Hex, Kind, Bytes, Sids}
 use Rattle.lpc_model.specs.declared.entry.ObjectKind.{ObjectKind}
 use Rattle.lpc_model.specs.declared.entry.ObjectKind.TheVariants as kind
 use Rattle.lpc_model.specs.declared.entry.Word.{Word}
 use Rattle.lpc_model.specs.declared.entry.Word.TheVariants as word
 use Rattle.lpc_transcript.proofs.Parts.{is_plain, Part, joined}
+use Rattle.lpc_transcript.proofs.Listed.{sids_plain, sids_unique}
 use Rattle.lpc_transcript.proofs.Figures.{figures_plain, decimal_figures, encode_figures, encode_unique, bytes_from_every, word_figures, word_unique}
 use borrow.Author.Tests.{ltb-true}
 
@@ -102,6 +103,11 @@ call_named-text NtReadVirtualMemory = refl
 call_named-text NtWriteVirtualMemory = refl
 call_named-text NtReadRequestData = refl
 call_named-text NtWriteRequestData = refl
+call_named-text NtImpersonateClientOfPort = refl
+call_named-text NtSetInformationThread = refl
+call_named-text NtOpenThreadToken = refl
+call_named-text NtOpenProcessToken = refl
+call_named-text NtQueryInformationToken = refl
 
 pub call_unique : (a b : CallName) → call_text a ≡ call_text b → a ≡ b
 call_unique a b e =
@@ -133,12 +139,18 @@ call_plain NtReadVirtualMemory = refl
 call_plain NtWriteVirtualMemory = refl
 call_plain NtReadRequestData = refl
 call_plain NtWriteRequestData = refl
+call_plain NtImpersonateClientOfPort = refl
+call_plain NtSetInformationThread = refl
+call_plain NtOpenThreadToken = refl
+call_plain NtOpenProcessToken = refl
+call_plain NtQueryInformationToken = refl
 
 -- a directive is found by its name
 directive_named-text : (w : Word) → directive_named (word_text w) ≡ Some w
 unfolding directive_named
 directive_named-text word.Boot = refl
 directive_named-text word.Thread = refl
+directive_named-text word.Token = refl
 directive_named-text word.Dir = refl
 directive_named-text word.Link = refl
 
@@ -150,6 +162,7 @@ word_name_unique a b e =
 pub word_plain : (w : Word) → is_plain (word_text w) ≡ true
 word_plain word.Boot = refl
 word_plain word.Thread = refl
+word_plain word.Token = refl
 word_plain word.Dir = refl
 word_plain word.Link = refl
 
@@ -167,7 +180,13 @@ read_name text =
     else (if bytes_eq text (codes "pointers") then Pointers
     else (if bytes_eq text (codes "base") then Base
     else (if bytes_eq text (codes "size") then Size
-    else (if bytes_eq text (codes "thread") then FirstThread else Data))))))))))))
+    else (if bytes_eq text (codes "target") then Target
+    else (if bytes_eq text (codes "vbase") then ViewBase
+    else (if bytes_eq text (codes "vsize") then ViewSize
+    else (if bytes_eq text (codes "user") then User
+    else (if bytes_eq text (codes "groups") then Groups
+    else (if bytes_eq text (codes "level") then Level
+    else (if bytes_eq text (codes "thread") then FirstThread else Data))))))))))))))))))
 
 read_name-text : (name : FieldName) → read_name (name_text name) ≡ name
 unfolding read_name
@@ -185,6 +204,12 @@ read_name-text Handles = refl
 read_name-text Pointers = refl
 read_name-text Base = refl
 read_name-text Size = refl
+read_name-text Target = refl
+read_name-text ViewBase = refl
+read_name-text ViewSize = refl
+read_name-text User = refl
+read_name-text Groups = refl
+read_name-text Level = refl
 
 pub name_unique : (a b : FieldName) → name_text a ≡ name_text b → a ≡ b
 name_unique a b e = sym (read_name-text a) ∙ ap read_name e ∙ read_name-text b
@@ -204,6 +229,12 @@ name_plain Handles = refl
 name_plain Pointers = refl
 name_plain Base = refl
 name_plain Size = refl
+name_plain Target = refl
+name_plain ViewBase = refl
+name_plain ViewSize = refl
+name_plain User = refl
+name_plain Groups = refl
+name_plain Level = refl
 
 read_kind : List ℕ → ObjectKind
 read_kind text =
@@ -237,6 +268,7 @@ value_plain in_decimal (Number n) h = figures_plain (decimal n) (decimal_figures
 value_plain in_hexadecimal (Hex n) h = figures_plain (eight_digits n) (word_figures n)
 value_plain as_kind (Kind k) h = kind_plain k
 value_plain as_bytes (Bytes bytes) h = figures_plain (encode_lower bytes.items) (encode_figures bytes.items (bytes_from_every bytes.items h))
+value_plain as_sids (Sids sids) h = sids_plain sids.items h
 value_plain sort value h = absurd (cc)
 
 pub value_unique : (sort : Sort) (v w : Value) → is_of_sort sort v ≡ true → is_of_sort sort w ≡ true → value_text v ≡ value_text w → v ≡ w
@@ -246,4 +278,7 @@ value_unique as_kind (Kind a) (Kind b) p q e = ap Kind (kind_unique a b e)
 value_unique as_bytes (Bytes a) (Bytes b) p q e =
     let items = encode_unique a.items b.items (bytes_from_every a.items p) (bytes_from_every b.items q) e in
     λ i. Bytes (record { items = items i })
+value_unique as_sids (Sids a) (Sids b) p q e =
+    let items = sids_unique a.items b.items p q e in
+    λ i. Sids (record { items = items i })
 value_unique sort v w p q e = absurd (cc)

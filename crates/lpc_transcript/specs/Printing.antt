@@ -1,6 +1,8 @@
 -- What is printed, and what stands of a text while more of it is printed.
 use Rattle.std.specs.Prelude.{◌≡◌, ℕ, ◌+◌, ◌<◌, List, ◌++◌, codes, decimal, length, map, OnOk, Result, take, Vec, vec_capacity, vec_items}
 use Rattle.lpc_base.specs.declared.status.Status.{Status}
+use Rattle.lpc_sid.specs.Spelling.{spelling}
+use Rattle.lpc_sid.specs.declared.sid.Sid.{Sid}
 use Rattle.lpc_model.specs.Listed.{shown_entry, shown_field, shown_value}
 use Rattle.lpc_model.specs.Text.{by_text, entries_text, entry_text, field_text, fields_text, rest_text, status_text, value_text, word_text}
 use Rattle.lpc_model.specs.declared.entry.CallName.{CallName}
@@ -41,6 +43,10 @@ line_of line read entry = entry_text line (shown_entry read entry)
 
 abbrev pub lines_of : ℕ → List ℕ → List Entry → List ℕ
 lines_of line read entries = entries_text line (map (shown_entry read) entries)
+
+-- the text of a SID behind another: a comma comes first
+abbrev pub further_text : Sid → List ℕ
+further_text sid = codes "," ++ spelling sid
 
 -- a thread, its call and the status with which the call ended; a thread that died; a directive and its status
 abbrev pub ended_text : ℕ → CallName → Status → List ℕ

@@ -2,6 +2,7 @@
 ghost use Rattle.std.specs.Prelude.{◌≤◌, OnErr, vec_capacity};
 ghost use Rattle.lpc_transcript.specs.Printing.{BeginsWith, LacksRoom, Puts, field_of, fields_of, value_of};
 
+use crate::sids::put_sids;
 use crate::words::{field_name, kind_name, put, put_bytes, put_digits, put_number, put_read};
 use lpc_base::OutOfMemory;
 use lpc_model::{FieldName, Fields, Value};
@@ -18,6 +19,7 @@ fn put_value(into: &mut Vec<u8>, value: &Value, read: &[u8]) -> Result<(), OutOf
         Value::Kind(kind) => put(into, kind_name(*kind)),
         Value::Bytes(bytes) => put_bytes(into, bytes.as_slice()),
         Value::Read => put_read(into, read),
+        Value::Sids(sids) => put_sids(into, sids.as_slice()),
     }
 }
 

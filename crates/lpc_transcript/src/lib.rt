@@ -3,6 +3,7 @@
 
 mod fields;
 mod laws;
+mod sids;
 mod text;
 mod words;
 

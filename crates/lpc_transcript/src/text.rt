@@ -163,6 +163,7 @@ fn kind_of(fault: LineFault) -> u64
         LineFault::Number => 5,
         LineFault::Hex => 6,
         LineFault::Message => 7,
+        LineFault::Sid => 8,
         LineFault::Long => 9,
         LineFault::Lines => 10,
     }

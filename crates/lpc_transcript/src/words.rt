@@ -126,6 +126,12 @@ pub(crate) fn field_name(name: FieldName) -> &'static [u8]
         FieldName::Pointers => b"pointers",
         FieldName::Base => b"base",
         FieldName::Size => b"size",
+        FieldName::Target => b"target",
+        FieldName::ViewBase => b"vbase",
+        FieldName::ViewSize => b"vsize",
+        FieldName::User => b"user",
+        FieldName::Groups => b"groups",
+        FieldName::Level => b"level",
     }
 }
 

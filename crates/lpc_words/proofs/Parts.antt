@@ -7,6 +7,7 @@ use Rattle.std.proofs.lemmas.Bool.Decides.{nat_tests}
 use Rattle.std.proofs.lemmas.List.{take_all}
 use Rattle.std.proofs.lemmas.List.Sums.{position_or_len_is}
 use Rattle.lpc_model.specs.Script.{script_lines}
+use Rattle.lpc_model.specs.Grammar.{two_parts}
 use Rattle.lpc_model.specs.Words.{parts, words, is_empty, split_once, three_parts}
 
 lines_at : (bs : List ℕ) (i : ℕ) → i < length bs → get_or bs i 0 ≡ 10 → ((k : ℕ) → k < i → get_or bs k 0 ≡ 10 → ⊥) → script_lines bs ≡ take i bs ∷ script_lines (drop (suc i) bs)
@@ -112,9 +113,17 @@ first_part c (b ∷ bs) = first_cond (eqb b c) (parts c bs) b
     first_cond false ps b = first_onto ps b
 
 -- one part too many
-pub parts_many : (a b d rest : List ℕ) → three_parts (a ∷ b ∷ d ∷ parts 46 rest) ≡ None
+pub parts_many : (by : ℕ) (a b d rest : List ℕ) → three_parts (a ∷ b ∷ d ∷ parts by rest) ≡ None
 unfolding three_parts
-parts_many a b d rest = rw ((first_part 46 rest).is) refl
+parts_many by a b d rest = rw ((first_part by rest).is) refl
+
+pub parts_two_many : (by : ℕ) (a b rest : List ℕ) → two_parts (a ∷ b ∷ parts by rest) ≡ None
+unfolding two_parts
+parts_two_many by a b rest = rw ((first_part by rest).is) refl
+
+-- there is a part
+pub parts_some : (by : ℕ) (text : List ℕ) → 1 ≤ length (parts by text)
+parts_some by text = rw ((first_part by text).is) (omega arith)
 
 position_here : (c : ℕ) (bs : List ℕ) (i : ℕ) → i ≤ length bs → (i < length bs → get_or bs i 0 ≡ c) → ((k : ℕ) → k < i → get_or bs k 0 ≡ c → ⊥) → position_or_len (λ b. eqb b c) bs ≡ i
 position_here c bs i h at none = position_or_len_is (λ b. eqb b c) bs i 0 h (λ k lt. ne_eqb _ _ (none k lt)) (λ lt. eq-eqb _ _ (at lt))

@@ -2,6 +2,7 @@
 use Rattle.std.specs.Prelude.{◌≡◌, ℕ, List, Option, Result, Ok, Err}
 use Rattle.std.specs.Borrow.{Bor}
 use Rattle.std.specs.Option.{option_copied}
+use Rattle.lpc_model.specs.Words.{words}
 
 -- a result, seen by view, is what reading gives
 abbrev pub Gives : {X Y E : Type 0} → (X → Y) → Result X E → Result Y E → Type 0
@@ -24,3 +25,10 @@ seen_four four = (four.0.now, four.1.now, four.2.now, four.3.now)
 
 abbrev pub seen_one_or_two : Word × Option Word → List ℕ × Option (List ℕ)
 seen_one_or_two two = (two.0.now, option_copied two.1)
+
+-- two words with perhaps a third, and two with the words of what stands behind them
+abbrev pub seen_two_or_three : Word × Word × Option Word → List ℕ × List ℕ × Option (List ℕ)
+seen_two_or_three three = (three.0.now, three.1.now, option_copied three.2)
+
+abbrev pub seen_two_and_more : Word × Word × Word → List ℕ × List ℕ × List (List ℕ)
+seen_two_and_more three = (three.0.now, three.1.now, words three.2.now)

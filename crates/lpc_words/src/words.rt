@@ -1,12 +1,15 @@
 // The words of a line, one after the other, and the parts of a word.
-ghost use Rattle.std.specs.Prelude.{◌≡◌, ◌≢◌, ◌<◌, ◌≤◌, ◌+◌, [], ◌∷◌, length, slice_index, MatchOption, IfSome, IfOk};
+ghost use Rattle.std.specs.Prelude.{◌≡◌, ◌≢◌, ◌<◌, ◌≤◌, ◌+◌, [], ◌∷◌, length, nat_le, slice_index, MatchOption, IfSome, IfOk};
 ghost use Rattle.std.specs.Option.{option_map};
 ghost use Rattle.lpc_model.specs.Words.{parts, words};
 ghost use Rattle.lpc_model.specs.Words as spec;
 ghost use Rattle.lpc_model.specs.Grammar as grammar;
-ghost use Rattle.lpc_words.specs.Gives.{Gives, seen_four, seen_one_or_two, seen_three, seen_two};
+ghost use Rattle.lpc_words.specs.Gives.{Gives, seen_four, seen_one_or_two, seen_three, seen_two, seen_two_and_more, seen_two_or_three};
 
 use lpc_model::LineFault;
+
+/// How many words may follow the first two at most, where any number may.
+const MORE_WORDS: usize = 16;
 
 /// What stands before the first byte `by`, and what after it; none where it isn't there.
 pub fn split_once(text: &[u8], by: u8) -> Option<(&[u8], &[u8])>
@@ -56,6 +59,17 @@ pub fn next_word(text: &[u8]) -> Option<(&[u8], &[u8])>
         return Some((word, rest));
     }
     Some((text, &[]))
+}
+
+/// Nothing, of a text that has no word; `Count` where it has one.
+#[tactic(auto, unfolding(lpc_model::specs::Grammar::no_words))]
+pub fn no_words(text: &[u8]) -> Result<(), LineFault>
+    ensures { Gives (λ nothing. tt) result (grammar.no_words (words text.now)) }
+{
+    if let Some((_, _)) = next_word(text) {
+        return Err(LineFault::Count);
+    }
+    Ok(())
 }
 
 /// The word of a text that has exactly one; `Count` where it has none or more.
@@ -120,14 +134,86 @@ pub fn one_or_two_words(text: &[u8]) -> Result<(&[u8], Option<&[u8]>), LineFault
     Ok((first, Some(second)))
 }
 
-/// The three parts of a text that has exactly two dots, between these; none where it has fewer or more.
-#[tactic(auto, unfolding(lpc_model::specs::Words::three_parts))]
-pub fn three_parts(text: &[u8]) -> Option<(&[u8], &[u8], &[u8])>
-    ensures { option_map seen_three result ≡ spec.three_parts (parts 46 text.now) }
+/// The words of a text that has two or three; `Count` where it has fewer or more.
+#[tactic(auto, unfolding(lpc_model::specs::Grammar::two_or_three_words))]
+pub fn two_or_three_words(text: &[u8]) -> Result<(&[u8], &[u8], Option<&[u8]>), LineFault>
+    ensures { Gives seen_two_or_three result (grammar.two_or_three_words (words text.now)) }
 {
-    let (first, rest) = split_once(text, b'.')?;
-    let (second, third) = split_once(rest, b'.')?;
-    if let Some((_, _)) = split_once(third, b'.') {
+    let (first, rest) = next_word(text).ok_or(LineFault::Count)?;
+    let (second, rest) = next_word(rest).ok_or(LineFault::Count)?;
+    let Some((third, rest)) = next_word(rest) else {
+        return Ok((first, second, None));
+    };
+    if let Some((_, _)) = next_word(rest) {
+        return Err(LineFault::Count);
+    }
+    Ok((first, second, Some(third)))
+}
+
+/// A text has no more words than these.
+fn has_at_most(text: &[u8], most: usize) -> bool
+    ensures { result ≡ nat_le (length (words text.now)) most }
+{
+    let mut rest = text;
+    for _passed in 0..most {
+        let Some((_, behind)) = next_word(rest) else {
+            return true;
+        };
+        rest = behind;
+    }
+    next_word(rest).is_none()
+}
+
+/// The first two words of a text, and what stands behind them, which has 16 words at most; `Count` where the text has
+/// fewer than two words, or more than 18.
+#[tactic(auto, unfolding(lpc_model::specs::Grammar::two_and_more_words))]
+pub fn two_and_more_words(text: &[u8]) -> Result<(&[u8], &[u8], &[u8]), LineFault>
+    ensures value { Gives seen_two_and_more result (grammar.two_and_more_words (words text.now)) }
+    ensures few { IfOk result (λ three. length (words three.2.now) ≤ 16) }
+{
+    let (first, rest) = next_word(text).ok_or(LineFault::Count)?;
+    let (second, rest) = next_word(rest).ok_or(LineFault::Count)?;
+    if !has_at_most(rest, MORE_WORDS) {
+        return Err(LineFault::Count);
+    }
+    Ok((first, second, rest))
+}
+
+/// A byte parts a text into no more than so many parts.
+pub fn has_parts_at_most(text: &[u8], by: u8, most: usize) -> bool
+    ensures { result ≡ nat_le (length (parts by text.now)) most }
+{
+    let mut rest = text;
+    for _passed in 0..most {
+        let Some((_, behind)) = split_once(rest, by) else {
+            return true;
+        };
+        rest = behind;
+    }
+    false
+}
+
+/// The two parts of a text that has a byte exactly once, before and behind it; none where it has it not, or more than
+/// once.
+#[tactic(auto, unfolding(lpc_model::specs::Grammar::two_parts))]
+pub fn two_parts(text: &[u8], by: u8) -> Option<(&[u8], &[u8])>
+    ensures { option_map seen_two result ≡ grammar.two_parts (parts by text.now) }
+{
+    let (first, second) = split_once(text, by)?;
+    if let Some((_, _)) = split_once(second, by) {
+        return None;
+    }
+    Some((first, second))
+}
+
+/// The three parts of a text that has a byte exactly twice, between these; none where it has it fewer times or more.
+#[tactic(auto, unfolding(lpc_model::specs::Words::three_parts))]
+pub fn three_parts(text: &[u8], by: u8) -> Option<(&[u8], &[u8], &[u8])>
+    ensures { option_map seen_three result ≡ spec.three_parts (parts by text.now) }
+{
+    let (first, rest) = split_once(text, by)?;
+    let (second, third) = split_once(rest, by)?;
+    if let Some((_, _)) = split_once(third, by) {
         return None;
     }
     Some((first, second, third))

@@ -1,12 +1,14 @@
 use Rattle.std.proofs.Common.{refl, arith}
 use Rattle.std.proofs.lemmas.Bool.Decides.{nat_tests}
+use Rattle.std.specs.Fmt.{digits}
 use Rattle.lpc_model.specs.Words.{words, digits_word, decimal_word, hexadecimal_word, number_word, id_word, hex_word, split_once, three_parts, reply_message, message_word, info_word}
-use Rattle.lpc_model.specs.Grammar.{read_line, call_named, directive_named, call_words, directive_words, call_line, directive_line, accept_word, one_word, one_or_two_words, two_words, four_words}
+use Rattle.lpc_model.specs.Grammar.{two_parts, tracking_word, level_word, quality_parts, qos_word, sid_word, each_word, entry_kind, entry_form, entry_of, entries_word, dacl_word, token_word, no_words, two_or_three_words, two_and_more_words, read_line, call_named, directive_named, call_words, directive_words, call_line, directive_line, accept_word, one_word, one_or_two_words, two_words, four_words, view_numbers, view_word}
+use Rattle.lpc_sid.specs.Spelling.{sid_of, spelling}
 use Rattle.hex.specs.Hex.{decode_pairs}
 use Rattle.lpc_script.proofs.laws.law_worked_lines.Goals as goal
 
 pub returns : goal.returns
-unfolding words digits_word decimal_word hexadecimal_word number_word id_word hex_word split_once three_parts reply_message message_word info_word accept_word read_line call_named directive_named call_words directive_words call_line directive_line one_word one_or_two_words two_words four_words decode_pairs
+unfolding two_parts tracking_word level_word quality_parts qos_word sid_word each_word entry_kind entry_form entry_of entries_word dacl_word token_word no_words two_or_three_words two_and_more_words sid_of spelling digits words digits_word decimal_word hexadecimal_word number_word id_word hex_word split_once three_parts reply_message message_word info_word accept_word read_line call_named directive_named call_words directive_words call_line directive_line one_word one_or_two_words two_words four_words view_numbers view_word decode_pairs
 returns c = record {
   boot_of_a_process = refl;
   thread_in_hexadecimal = refl;
@@ -20,10 +22,12 @@ returns c = record {
   connect_to_a_directory = refl;
   connect_with_info = refl;
   connect_with_no_bytes = refl;
+  connect_with_a_view = refl;
   listen = refl;
   accept = refl;
   accept_of_another_client = refl;
   refusal = refl;
+  refusal_with_a_view = refl;
   complete = refl;
   complete_in_hexadecimal = refl;
   receive = refl;
@@ -39,6 +43,17 @@ returns c = record {
   bytes_to_write = refl;
   range_to_read = refl;
   range_to_write = refl;
+  boot_with_a_token = refl;
+  token_without_groups = refl;
+  token_with_groups = refl;
+  port_for_nobody = refl;
+  port_for_all_but_one = refl;
+  connect_with_a_quality = refl;
+  impersonation = refl;
+  end_of_an_impersonation = refl;
+  token_of_a_thread = refl;
+  token_of_a_process = refl;
+  class_of_a_token = refl;
   comment = refl;
   comment_with_a_bad_byte = refl;
   blank_line = refl;
@@ -49,7 +64,7 @@ returns c = record {
   directory_without_a_path = refl;
   directory_of_two_paths = refl;
   link_to_nothing = refl;
-  port_of_two_names = refl;
+  port_of_three_words = refl;
   too_few_words = refl;
   receive_of_no_handle = refl;
   receive_with_two_replies = refl;
@@ -64,13 +79,32 @@ returns c = record {
   read_without_a_length = refl;
   write_without_bytes = refl;
   range_without_a_length = refl;
-  quality_of_service = refl;
-  view_of_a_connect = refl;
+  quality_of_another_form = refl;
+  quality_of_one_part = refl;
+  quality_of_three_parts = refl;
+  tracking_before_the_level = refl;
+  list_of_another_form = refl;
+  entry_of_no_kind = refl;
+  entry_of_two_parts = refl;
+  entry_behind_the_last = refl;
+  form_of_an_entry_before_a_mask = refl;
+  dash_in_a_name = refl;
+  name_of_33_letters = refl;
+  no_null = refl;
+  view_before_the_info = refl;
   neither_accept_nor_refuse = refl;
-  view_of_a_refusal = refl;
+  view_of_four_numbers = refl;
+  view_of_another_form = refl;
   space_before_the_sign = refl;
   name_before_the_count = refl;
   count_before_the_words = refl;
+  boot_of_four_words = refl;
+  token_without_a_user = refl;
+  token_with_17_groups = refl;
+  opening_of_a_word = refl;
+  opening_of_self = refl;
+  impersonation_of_no_message = refl;
+  token_without_a_class = refl;
   thread_alone = refl;
   leading_zero_of_a_handle = refl;
   leading_zero_of_a_process = refl;
@@ -83,8 +117,14 @@ returns c = record {
   handle_of_a_complete = refl;
   protection_by_a_letter = refl;
   offset_of_a_view = refl;
+  view_without_numbers = refl;
   address_before_the_bytes = refl;
   range_before_the_bytes = refl;
+  level_of_4 = refl;
+  mask_by_a_letter = refl;
+  number_before_the_name = refl;
+  class_before_the_word = refl;
+  class_by_a_letter = refl;
   odd_number_of_digits = refl;
   second_colon_of_a_reply = refl;
   odd_number_of_digits_of_info = refl;
@@ -101,5 +141,8 @@ returns c = record {
   info_of_a_reply = refl;
   accept_of_no_message = refl;
   message_before_the_range = refl;
+  leading_zero_of_a_user = refl;
+  group_without_a_number = refl;
+  entry_before_the_next = refl;
   byte_past_the_limit = λ line h. grind (arith, nat_tests, h);
 }
