@@ -18,13 +18,15 @@ use Rattle.lpc_waits.specs.declared.WaitRow.{WaitRow}
 use Rattle.lpc_rows.specs.Kept.{Roomy, StaysReady, StaysUnqueued, is_pending, room_by, rows_by}
 use Rattle.lpc_rows.specs.Lawful.{AreLawful, IsLawful, are_single, is_quiet, IsPromised}
 use Rattle.lpc_rows.specs.Ready.{wait_in, waiter}
-use Rattle.lpc_rows.specs.Shown.{Tables, birth_of, births_of, shown_wait}
+use Rattle.lpc_rows.specs.Shown.{Tables, birth_of, births_of, object_stands, section_in, shown_acceptance, shown_wait, wait_refs}
 use Rattle.lpc_homes.specs.declared.object.Object.{Object}
+use Rattle.lpc_homes.specs.declared.object.Object.TheVariants as object
 use Rattle.lpc_rows.proofs.Changes as changes
 use Rattle.lpc_rows.proofs.Drawn as drawn
 use Rattle.lpc_rows.proofs.Finished.{found-waiter}
 use Rattle.lpc_rows.proofs.Lawful.{lawful-keep}
 use Rattle.lpc_rows.proofs.Promised as promised
+use Rattle.lpc_rows.proofs.Readings.{first_two}
 use Rattle.lpc_rows.proofs.Rooms as rooms
 
 -- shown rows of which some are changed
@@ -66,10 +68,10 @@ none_accepted who (x ∷ xs) one off =
 
 -- a row that is accepted, or isn't, as it is shown
 module _ (f : Object → Birth) where
-  accepts_row : (a : Accepted) (row : WaitRow) → is_accepted (shown_wait f row) ≡ false → shown_wait f (waits.with_accepted (Some a) row) ≡ basics.accepted a.reply.items (shown_wait f row)
+  accepts_row : (a : Accepted) (row : WaitRow) → is_accepted (shown_wait f row) ≡ false → shown_wait f (waits.with_accepted (Some a) row) ≡ basics.accepted (shown_acceptance a) (shown_wait f row)
   accepts_row a row off = by row.wait.kind row.accepted off
     where
-      by : (kind : WaitKind) (old : Option Accepted) → let before : WaitRow = record row { wait = record row.wait { kind = kind }; accepted = old } in is_accepted (shown_wait f before) ≡ false → shown_wait f (waits.with_accepted (Some a) before) ≡ basics.accepted a.reply.items (shown_wait f before)
+      by : (kind : WaitKind) (old : Option Accepted) → let before : WaitRow = record row { wait = record row.wait { kind = kind }; accepted = old } in is_accepted (shown_wait f before) ≡ false → shown_wait f (waits.with_accepted (Some a) before) ≡ basics.accepted (shown_acceptance a) (shown_wait f before)
       by wait.Request old off = refl
       by wait.Receive old off = refl
       by wait.Listen old off = refl
@@ -86,25 +88,37 @@ module _ (f : Object → Birth) where
       by wait.Connect None off = refl
       by wait.Connect (Some b) off = absurd (cc)
 
+  -- what it names stood
+  accepted_refs : (ok : Object → Bool) (new : Option Accepted) (row : WaitRow) → is_accepted (shown_wait f row) ≡ false → every ok (wait_refs row) ≡ true → every ok (wait_refs (waits.with_accepted new row)) ≡ true
+  accepted_refs ok new row off all = by row.wait.kind row.accepted new off all
+    where
+      by : (kind : WaitKind) (old now : Option Accepted) → let before : WaitRow = record row { wait = record row.wait { kind = kind }; accepted = old } in is_accepted (shown_wait f before) ≡ false → every ok (wait_refs before) ≡ true → every ok (wait_refs (waits.with_accepted now before)) ≡ true
+      by wait.Request old now off all = all
+      by wait.Receive old now off all = all
+      by wait.Listen old now off all = all
+      by wait.Connect None None off all = all
+      by wait.Connect None (Some a) off all = first_two ok (object.Port row.wait.port) (object.Port row.wait.queue) (section_in row.offer) all
+      by wait.Connect (Some b) now off all = absurd (cc)
+
 -- and as the definitions have it
-accepted_pends : (reply : List ℕ) (x : model.WaitRow) → is_pending (basics.accepted reply x) ≡ is_pending x
-accepted_pends reply x = by x.kind
+accepted_pends : (a : model.Acceptance) (x : model.WaitRow) → is_pending (basics.accepted a x) ≡ is_pending x
+accepted_pends a x = by x.kind
   where
-    by : (kind : model.WaitKind) → let old : model.WaitRow = record x { kind = kind } in is_pending (basics.accepted reply old) ≡ is_pending old
+    by : (kind : model.WaitKind) → let old : model.WaitRow = record x { kind = kind } in is_pending (basics.accepted a old) ≡ is_pending old
     by (model.Request m) = refl
     by model.Receive = refl
     by model.Listen = refl
-    by (model.Connect m) = refl
+    by (model.Connect m offer) = refl
     by (model.Accepted m other) = refl
 
-accepted_quiet : (reply : List ℕ) (ms : List MessageRow) (x : model.WaitRow) → is_quiet ms (basics.accepted reply x) ≡ is_quiet ms x
-accepted_quiet reply ms x = by x.kind
+accepted_quiet : (a : model.Acceptance) (ms : List MessageRow) (x : model.WaitRow) → is_quiet ms (basics.accepted a x) ≡ is_quiet ms x
+accepted_quiet a ms x = by x.kind
   where
-    by : (kind : model.WaitKind) → let old : model.WaitRow = record x { kind = kind } in is_quiet ms (basics.accepted reply old) ≡ is_quiet ms old
+    by : (kind : model.WaitKind) → let old : model.WaitRow = record x { kind = kind } in is_quiet ms (basics.accepted a old) ≡ is_quiet ms old
     by (model.Request m) = refl
     by model.Receive = refl
     by model.Listen = refl
-    by (model.Connect m) = refl
+    by (model.Connect m offer) = refl
     by (model.Accepted m other) = refl
 
 module _ (it : Tables) (calls made who : ℕ) (is : AreLawful it calls made) where
@@ -133,10 +147,10 @@ module _ (it : Tables) (calls made who : ℕ) (is : AreLawful it calls made) whe
     unfolding waiter
     none_yet = sym (every-map (isnt_accepted_for who) (shown_wait f) it.waits.rows) ∙ none_accepted who rows.waits is.lawful.single off
 
-    pub accepts : (a : Accepted) → rows_by (after (Some a)) ≡ basic rows (Accepts who a.reply.items)
+    pub accepts : (a : Accepted) → rows_by (after (Some a)) ≡ basic rows (Accepts who (shown_acceptance a))
     accepts a =
         ap (λ xs. record rows { waits = xs })
-        (changed-follows (shown_wait f) (waits.is_of who) (waits.with_accepted (Some a)) offers (waits_as who) (basics.accepted a.reply.items) (λ row. refl)
+        (changed-follows (shown_wait f) (waits.is_of who) (waits.with_accepted (Some a)) offers (waits_as who) (basics.accepted (shown_acceptance a)) (λ row. refl)
         (λ row one own. accepts_row f a row (offer_is row one own)) it.waits.rows none_yet)
 
     pub leaves : rows_by (after None) ≡ rows
@@ -144,7 +158,7 @@ module _ (it : Tables) (calls made who : ℕ) (is : AreLawful it calls made) whe
         ap (λ xs. record rows { waits = xs })
         (changed-unseen (shown_wait f) (waits.is_of who) (waits.with_accepted None) offers (λ row one own. leaves_row f row (offer_is row one own)) it.waits.rows none_yet)
 
-    pub accepts_if : (new : Option Accepted) → IfSome new (λ a. rows_by (after new) ≡ basic rows (Accepts who a.reply.items))
+    pub accepts_if : (new : Option Accepted) → IfSome new (λ a. rows_by (after new) ≡ basic rows (Accepts who (shown_acceptance a)))
     accepts_if None = tt
     accepts_if (Some a) = accepts a
 
@@ -154,31 +168,33 @@ module _ (it : Tables) (calls made who : ℕ) (is : AreLawful it calls made) whe
 
     rows_lawful : (new : Option Accepted) → IsLawful (rows_by (after new)) calls made it.waits.spare it.ports.message_room
     rows_lawful None = rw leaves is.lawful
-    rows_lawful (Some a) = rw (accepts a) (lawful-keep rows calls made it.waits.spare it.ports.message_room who (basics.accepted a.reply.items) (λ x. refl) (accepted_pends a.reply.items) (accepted_quiet a.reply.items rows.messages) is.lawful)
+    rows_lawful (Some a) = rw (accepts a) (lawful-keep rows calls made it.waits.spare it.ports.message_room who (basics.accepted (shown_acceptance a)) (λ x. refl) (accepted_pends (shown_acceptance a)) (accepted_quiet (shown_acceptance a) rows.messages) is.lawful)
 
-    accepted_connect : (reply : List ℕ) (x : model.WaitRow) → is_connect (basics.accepted reply x) ≡ is_connect x
-    accepted_connect reply x = by_kind x.kind
+    accepted_connect : (a : model.Acceptance) (x : model.WaitRow) → is_connect (basics.accepted a x) ≡ is_connect x
+    accepted_connect a x = by_kind x.kind
       where
-        by_kind : (kind : model.WaitKind) → let old : model.WaitRow = record x { kind = kind } in is_connect (basics.accepted reply old) ≡ is_connect old
+        by_kind : (kind : model.WaitKind) → let old : model.WaitRow = record x { kind = kind } in is_connect (basics.accepted a old) ≡ is_connect old
         by_kind (model.Request m) = refl
         by_kind model.Receive = refl
         by_kind model.Listen = refl
-        by_kind (model.Connect m) = refl
+        by_kind (model.Connect m offer) = refl
         by_kind (model.Accepted m other) = refl
 
     rows_promised : (new : Option Accepted) → (let x = waiter rows who in x.received ≡ true) → has (waits_as who) rows.waits ≡ true → IsPromised (rows_by (after new)).waits (rows_by (after new)).handles it.parts
     rows_promised None took there = subst (λ (v : World). IsPromised v.waits v.handles it.parts) (sym leaves) is.promised
-    rows_promised (Some a) took there = subst (λ (v : World). IsPromised v.waits v.handles it.parts) (sym (accepts a)) (promised.wait-stays rows.waits rows.handles it.parts is.promised (waits_as who) (basics.accepted a.reply.items) (accepted_connect a.reply.items) (λ x. refl) (promised.accepted-taken who (basics.accepted a.reply.items) (λ x. refl) rows.waits (waiter rows who) is.lawful.single (found-waiter rows who there) took is.promised.taken))
+    rows_promised (Some a) took there = subst (λ (v : World). IsPromised v.waits v.handles it.parts) (sym (accepts a)) (promised.wait-stays rows.waits rows.handles it.parts is.promised (waits_as who) (basics.accepted (shown_acceptance a)) (accepted_connect (shown_acceptance a)) (λ x. refl) (promised.accepted-taken who (basics.accepted (shown_acceptance a)) (λ x. refl) rows.waits (waiter rows who) is.lawful.single (found-waiter rows who there) took is.promised.taken))
 
     pub accepted_lawful : (new : Option Accepted) → (let x = waiter rows who in x.received ≡ true) → has (waits_as who) rows.waits ≡ true → AreLawful (after new) calls made
     accepted_lawful new took there = record {
-      named = changes.waiting it is.named who it.waits.spare it.waits.made (waits.with_accepted new) (λ row. refl);
+      named =
+          changes.waiting_if it is.named offers who it.waits.spare it.waits.made (waits.with_accepted new)
+          (λ row one all own. accepted_refs f (object_stands (births_of it)) new row (offer_is row one own) all) none_yet;
       lawful = rows_lawful new;
-      counted = record { ports_made = is.counted.ports_made; messages_made = is.counted.messages_made; waits_made = is.counted.waits_made };
+      counted = record { ports_made = is.counted.ports_made; messages_made = is.counted.messages_made; waits_made = is.counted.waits_made; tokens_made = is.counted.tokens_made };
       registered = is.registered;
       mapped = is.mapped;
       headed = is.headed;
-      drawn = drawn.same-drawn rows _ refl refl refl refl is.drawn;
+      drawn = drawn.same-drawn rows _ refl refl refl refl refl is.drawn;
       born = is.born;
       promised = rows_promised new took there;
     }
@@ -193,5 +209,5 @@ module _ (it : Tables) (calls made who : ℕ) (is : AreLawful it calls made) whe
   pub accepted_room : (new : Option Accepted) (places : ℕ) → Roomy (room_by rows it places) (room_by (rows_by (after new)) (after new) places)
   accepted_room new places =
       let waiting = rows_by (after new) in
-      rooms.room_keep _ _ _ _ _ _ _ _ rows _ waiting.waits
+      rooms.room_keep _ _ _ _ _ _ _ _ _ _ rows _ waiting.waits
       (length-changed (shown_wait f) (waits.is_of who) (waits.with_accepted new) it.waits.rows)

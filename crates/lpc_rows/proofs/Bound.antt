@@ -40,7 +40,7 @@ module _ (it : Tables) (is : AreNamed (births_of it) it) where
   spaced space all = record {
     ports_apart = is.ports_apart;
     sections_apart = is.sections_apart;
-    unowned = is.unowned;
+    tokens_apart = is.tokens_apart;
     refs = record { in_handles = is.refs.in_handles; in_ports = is.refs.in_ports; in_messages = is.refs.in_messages; in_waits = is.refs.in_waits; in_names = all; in_views = is.refs.in_views };
   }
 
@@ -125,7 +125,7 @@ spaced_lawful it calls made space is named = record {
   counted = is.counted;
   registered = is.registered;
   headed = is.headed;
-  drawn = drawn.same-drawn (rows_by it) _ refl refl refl refl is.drawn;
+  drawn = drawn.same-drawn (rows_by it) _ refl refl refl refl refl is.drawn;
   born = is.born;
   promised = is.promised;
   mapped = is.mapped;

@@ -3,7 +3,7 @@ use Rattle.std.proofs.Common.{◌≡◌, ℕ, List, map, true, Some, option_map,
 use Rattle.lpc_base.specs.Rows.{every, first, has}
 use Rattle.lpc_base.proofs.RowMaps.{mapped-twice}
 use Rattle.lpc_model.specs.World.{World}
-use Rattle.lpc_model.specs.Found.{is_live_thread, is_table, is_thread, live_thread}
+use Rattle.lpc_model.specs.Found.{is_live_thread, is_process, is_table, is_thread, live_thread}
 use Rattle.lpc_procs.specs.Callers.{caller_of}
 use Rattle.lpc_procs.specs.Procs as procs
 use Rattle.lpc_procs.specs.declared.rows.Caller.{Caller}
@@ -30,6 +30,7 @@ pub record IsCalled (w : World) (tid : ℕ) (c : Caller) : Type 0 where
   pub found : option_map as_caller (thread_row w c.number) ≡ Some c
   pub whole : thread_row w tid ≡ Some (caller w tid)
   pub there : has (is_thread tid) w.threads ≡ true
+  pub process : has (is_process c.process) w.processes ≡ true
   pub table : has (is_table c.process) w.handles ≡ true
 
 pub is_called : (w : World) (tid : ℕ) (c : Caller) → every (is_housed w) w.threads ≡ true → are_single_threads w.threads ≡ true → option_map as_caller (live_thread w tid) ≡ Some c → IsCalled w tid c
@@ -45,5 +46,6 @@ is_called w tid c housed single is = called (holds as_caller (live_thread w tid)
           found = ap (option_map as_caller) own;
           whole = subst (λ n. thread_row w n ≡ Some (caller w tid)) it.number (own ∙ ap Some it.caller_is);
           there = it.there;
+          process = it.process;
           table = it.table;
         })

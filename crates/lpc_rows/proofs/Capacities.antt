@@ -14,7 +14,7 @@ use Rattle.lpc_handles.specs.Handles as handles
 use Rattle.lpc_handles.specs.Handles.{values}
 use Rattle.lpc_handles.specs.declared.table.Row.{Row}
 use Rattle.lpc_handles.specs.declared.table.TableFault.{TableFault}
-use Rattle.lpc_homes.specs.Parts.{are_single_parts, closed, closing, emptied, emptying, handed, is_part, roomed, rows_at, rows_in, spare_at, spare_in}
+use Rattle.lpc_homes.specs.Parts.{are_single_parts, closed, closing, dropped, emptied, emptying, goes_with, handed, is_part, roomed, rows_at, rows_in, spare_at, spare_in}
 use Rattle.lpc_homes.specs.declared.object.Object.{Object}
 use Rattle.lpc_homes.specs.declared.parts.Part.{Part}
 use Rattle.lpc_model.specs.Found.{handles_of, waits_as}
@@ -28,6 +28,8 @@ use Rattle.lpc_rows.specs.Lawful.{AreLawful}
 use Rattle.lpc_rows.specs.Shown.{Tables, birth_of, births_of, shown_wait}
 use Rattle.lpc_sections.specs.Sections.{SectionRow}
 use Rattle.lpc_slots.specs.Table.{Table, listed}
+use Rattle.lpc_tokens.specs.declared.token_row.TokenRow.{TokenRow}
+use Rattle.lpc_slots.specs.declared.Key.{Key}
 use Rattle.lpc_rows.proofs.Changes as changes
 use Rattle.lpc_rows.proofs.Steps as steps
 use Rattle.lpc_rows.proofs.Tables as tables
@@ -129,6 +131,18 @@ emptied_handles pid parts = unseen-change places_of_part (is_part pid) emptied (
 pub emptied_views : (pid : ℕ) (parts : List Part) → map view_places_of (emptying pid parts) ≡ map view_places_of parts
 emptied_views pid parts = unseen-change view_places_of (is_part pid) emptied (λ part. ap (λ n. record { process = part.process; places = n }) (omega arith)) parts
 
+gone-and-left : {X : Type 0} (test : X → Bool) (xs : List X) → count test xs + length (without test xs) ≡ length xs
+gone-and-left test [] = refl
+gone-and-left test (x ∷ xs) = grind (arith, gone-and-left test xs)
+
+pub dropped_handles : (port : Key) (parts : List Part) → map places_of_part (map (dropped port) parts) ≡ map places_of_part parts
+dropped_handles port parts = unseen-change places_of_part (λ _. true) (dropped port) (λ part. refl) parts
+
+pub dropped_views : (port : Key) (parts : List Part) → map view_places_of (map (dropped port) parts) ≡ map view_places_of parts
+dropped_views port parts =
+    unseen-change view_places_of (λ _. true) (dropped port)
+    (λ part. let all = gone-and-left (goes_with port) part.views.views in ap (λ n. record { process = part.process; places = n }) (omega (arith, all))) parts
+
 -- The memory of the tables, where one of them changed
 module _ (it : Tables) (places : ℕ) where
   pub of_ports : (new : PortTable) → new.port_room + length new.ports ≡ it.ports.port_room + length it.ports.ports → new.message_room + length new.messages ≡ it.ports.message_room + length it.ports.messages → capacity_by (record it { ports = new }) places ≡ capacity_by it places
@@ -136,6 +150,9 @@ module _ (it : Tables) (places : ℕ) where
 
   pub of_sections : (new : Table SectionRow) → new.spare + length (listed new) ≡ it.sections.spare + length (listed it.sections) → capacity_by (record it { sections = new }) places ≡ capacity_by it places
   of_sections new sections = rw sections refl
+
+  pub of_tokens : (new : Table TokenRow) → new.spare + length (listed new) ≡ it.tokens.spare + length (listed it.tokens) → capacity_by (record it { tokens = new }) places ≡ capacity_by it places
+  of_tokens new tokens = rw tokens refl
 
   pub of_waits : (new : WaitTable) → new.spare + length new.rows ≡ it.waits.spare + length it.waits.rows → capacity_by (record it { waits = new }) places ≡ capacity_by it places
   of_waits new waits = rw waits refl

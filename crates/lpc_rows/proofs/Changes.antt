@@ -1,9 +1,10 @@
 -- For each change that gives no object a key: the tables' new rows are the step of the rows that they stood for, and
 -- name what stands.
-use Rattle.std.proofs.Common.{◌≡◌, ℕ, List, [], ◌∷◌, ◌++◌, Bool, true, length, map, refl, ap, sym, ◌∙◌, arith, Option, Some, None}
+use Rattle.std.proofs.Common.{◌≡◌, ◌&&◌, ℕ, List, [], ◌∷◌, ◌++◌, Bool, true, false, cond, length, map, refl, ap, sym, ◌∙◌, arith, Option, Some, None}
 use Rattle.std.specs.Prelude.{nat_lt}
 use Rattle.lpc_base.specs.declared.birth.Birth.{Birth}
 use Rattle.lpc_base.specs.Rows.{change, every, which, without, without_first}
+use Rattle.lpc_base.proofs.Bools.{first-true, second-true}
 use Rattle.lpc_base.proofs.RowWords.{every-append, every-change, every-push, every-which, every-without, length-change}
 use Rattle.lpc_base.proofs.RowMaps.{change-map, every-map, every-without_first, push-map, unseen-change, which-map, without-map, without_first-map}
 use Rattle.lpc_handles.specs.Handles as handles
@@ -31,7 +32,7 @@ use Rattle.lpc_rows.specs.Kept.{is_pending}
 use Rattle.lpc_rows.specs.Lawful.{IsLawful, is_quiet}
 use Rattle.lpc_rows.proofs.Lawful.{lawful-keep}
 use Rattle.lpc_rows.specs.Names.{name_of, stands}
-use Rattle.lpc_rows.specs.Shown.{Tables, AreNamed, Births, all_pass, birth_of, births_of, message_refs, has_free_views, object_stands, part_refs, shown_by, shown_handle, shown_message, shown_part, shown_space, space_refs, shown_process, shown_thread, shown_used, shown_wait, wait_refs, with_message}
+use Rattle.lpc_rows.specs.Shown.{Tables, AreNamed, Births, all_pass, birth_of, births_of, message_refs, object_stands, part_refs, shown_by, shown_handle, shown_message, shown_part, shown_space, space_refs, shown_process, shown_thread, shown_used, shown_wait, wait_refs, with_message}
 use Rattle.lpc_homes.specs.Parts.{handed, is_part, roomed}
 use Rattle.lpc_homes.specs.declared.object.Object.{Object}
 use Rattle.lpc_homes.specs.declared.parts.Part.{Part}
@@ -56,7 +57,7 @@ module _ (it : Tables) (is : AreNamed (births_of it) it) where
   entered row room made there = record {
     ports_apart = is.ports_apart;
     sections_apart = is.sections_apart;
-    unowned = is.unowned;
+    tokens_apart = is.tokens_apart;
     refs = record { in_handles = is.refs.in_handles; in_ports = is.refs.in_ports; in_messages = every-push (all_pass message_refs ok) it.ports.messages row is.refs.in_messages there; in_waits = is.refs.in_waits; in_names = is.refs.in_names; in_views = is.refs.in_views };
   }
 
@@ -68,7 +69,7 @@ module _ (it : Tables) (is : AreNamed (births_of it) it) where
   taken key room = record {
     ports_apart = is.ports_apart;
     sections_apart = is.sections_apart;
-    unowned = is.unowned;
+    tokens_apart = is.tokens_apart;
     refs = record { in_handles = is.refs.in_handles; in_ports = is.refs.in_ports; in_messages = every-without_first (all_pass message_refs ok) (ports.is_in key) it.ports.messages is.refs.in_messages; in_waits = is.refs.in_waits; in_names = is.refs.in_names; in_views = is.refs.in_views };
   }
 
@@ -80,7 +81,7 @@ module _ (it : Tables) (is : AreNamed (births_of it) it) where
   awaited row spare made there = record {
     ports_apart = is.ports_apart;
     sections_apart = is.sections_apart;
-    unowned = is.unowned;
+    tokens_apart = is.tokens_apart;
     refs = record { in_handles = is.refs.in_handles; in_ports = is.refs.in_ports; in_messages = is.refs.in_messages; in_waits = every-push (all_pass wait_refs ok) it.waits.rows row is.refs.in_waits there; in_names = is.refs.in_names; in_views = is.refs.in_views };
   }
 
@@ -91,21 +92,39 @@ module _ (it : Tables) (is : AreNamed (births_of it) it) where
   ended who spare made = record {
     ports_apart = is.ports_apart;
     sections_apart = is.sections_apart;
-    unowned = is.unowned;
+    tokens_apart = is.tokens_apart;
     refs = record { in_handles = is.refs.in_handles; in_ports = is.refs.in_ports; in_messages = is.refs.in_messages; in_waits = every-without (all_pass wait_refs ok) (waits.is_of who) it.waits.rows is.refs.in_waits; in_names = is.refs.in_names; in_views = is.refs.in_views };
   }
 
   pub ends : (who spare made : ℕ) → shown_by n (record it { waits = record { rows = without (waits.is_of who) it.waits.rows; spare = spare; made = made } }) ≡ record rows { waits = without (waits_as who) rows.waits }
   ends who spare made = rw (without-map (shown_wait f) (all_pass wait_refs ok) (waits.is_of who) (waits_as who) (λ row there. refl) it.waits.rows is.refs.in_waits) refl
 
-  -- a wait is changed, and names what it named
-  pub waiting : (who spare made : ℕ) (g : WaitRow → WaitRow) → ((row : WaitRow) → wait_refs (g row) ≡ wait_refs row) → AreNamed n (record it { waits = record { rows = change (waits.is_of who) g it.waits.rows; spare = spare; made = made } })
+  -- a wait is changed, and what it names stands still
+  pub waiting : (who spare made : ℕ) (g : WaitRow → WaitRow) → ((row : WaitRow) → all_pass wait_refs ok row ≡ true → all_pass wait_refs ok (g row) ≡ true) → AreNamed n (record it { waits = record { rows = change (waits.is_of who) g it.waits.rows; spare = spare; made = made } })
   waiting who spare made g same = record {
     ports_apart = is.ports_apart;
     sections_apart = is.sections_apart;
-    unowned = is.unowned;
-    refs = record { in_handles = is.refs.in_handles; in_ports = is.refs.in_ports; in_messages = is.refs.in_messages; in_waits = every-change (all_pass wait_refs ok) (waits.is_of who) g (λ row there. ap (every ok) (same row) ∙ there) it.waits.rows is.refs.in_waits; in_names = is.refs.in_names; in_views = is.refs.in_views };
+    tokens_apart = is.tokens_apart;
+    refs = record { in_handles = is.refs.in_handles; in_ports = is.refs.in_ports; in_messages = is.refs.in_messages; in_waits = every-change (all_pass wait_refs ok) (waits.is_of who) g same it.waits.rows is.refs.in_waits; in_names = is.refs.in_names; in_views = is.refs.in_views };
   }
+
+  -- or only some do, of rows that pass a test
+  pub waiting_if : (q : WaitRow → Bool) (who spare made : ℕ) (g : WaitRow → WaitRow) → ((row : WaitRow) → q row ≡ true → all_pass wait_refs ok row ≡ true → waits.is_of who row ≡ true → all_pass wait_refs ok (g row) ≡ true) → every q it.waits.rows ≡ true
+      → AreNamed n (record it { waits = record { rows = change (waits.is_of who) g it.waits.rows; spare = spare; made = made } })
+  waiting_if q who spare made g same all = record {
+    ports_apart = is.ports_apart;
+    sections_apart = is.sections_apart;
+    tokens_apart = is.tokens_apart;
+    refs = record { in_handles = is.refs.in_handles; in_ports = is.refs.in_ports; in_messages = is.refs.in_messages; in_waits = changed it.waits.rows all is.refs.in_waits; in_names = is.refs.in_names; in_views = is.refs.in_views };
+  }
+    where
+      changed : (rs : List WaitRow) → every q rs ≡ true → every (all_pass wait_refs ok) rs ≡ true → every (all_pass wait_refs ok) (change (waits.is_of who) g rs) ≡ true
+      changed [] one two = refl
+      changed (r ∷ rs) one two = at (waits.is_of who r) refl (changed rs (second-true (q r) _ one) (second-true (all_pass wait_refs ok r) _ two))
+        where
+          at : (c : Bool) → waits.is_of who r ≡ c → every (all_pass wait_refs ok) (change (waits.is_of who) g rs) ≡ true → (all_pass wait_refs ok (cond (waits.is_of who r) (g r) r) && every (all_pass wait_refs ok) (change (waits.is_of who) g rs)) ≡ true
+          at true own rest = rw (own, same r (first-true (q r) _ one) (first-true (all_pass wait_refs ok r) _ two) own, rest) refl
+          at false off rest = rw (off, first-true (all_pass wait_refs ok r) _ two, rest) refl
 
   pub waits_change : (who spare made : ℕ) (g : WaitRow → WaitRow) (k : model.WaitRow → model.WaitRow) → ((row : WaitRow) → shown_wait f (g row) ≡ k (shown_wait f row)) → shown_by n (record it { waits = record { rows = change (waits.is_of who) g it.waits.rows; spare = spare; made = made } }) ≡ record rows { waits = change (waits_as who) k rows.waits }
   waits_change who spare made g k same = rw (change-map (shown_wait f) (all_pass wait_refs ok) (waits.is_of who) (waits_as who) (λ row there. refl) g k (λ row there. same row) it.waits.rows is.refs.in_waits) refl
@@ -134,7 +153,7 @@ module _ (it : Tables) (is : AreNamed (births_of it) it) where
   handed_named pid value row there = record {
     ports_apart = is.ports_apart;
     sections_apart = is.sections_apart;
-    unowned = every-change has_free_views (is_part pid) (handed value row) (λ part all. all) it.parts is.unowned;
+    tokens_apart = is.tokens_apart;
     refs = record {
       in_handles = every-change (all_pass part_refs ok) (is_part pid) (handed value row) (λ part all. objects_put value row part.handles.rows there all) it.parts is.refs.in_handles;
       in_ports = is.refs.in_ports;
@@ -158,7 +177,7 @@ module _ (it : Tables) (is : AreNamed (births_of it) it) where
   roomed_named pid spare = record {
     ports_apart = is.ports_apart;
     sections_apart = is.sections_apart;
-    unowned = every-change has_free_views (is_part pid) (roomed spare) (λ part all. all) it.parts is.unowned;
+    tokens_apart = is.tokens_apart;
     refs = record {
       in_handles = every-change (all_pass part_refs ok) (is_part pid) (roomed spare) (λ part all. all) it.parts is.refs.in_handles;
       in_ports = is.refs.in_ports;
@@ -181,7 +200,7 @@ module _ (it : Tables) (is : AreNamed (births_of it) it) where
   threaded t = record {
     ports_apart = is.ports_apart;
     sections_apart = is.sections_apart;
-    unowned = is.unowned;
+    tokens_apart = is.tokens_apart;
     refs = record { in_handles = is.refs.in_handles; in_ports = is.refs.in_ports; in_messages = is.refs.in_messages; in_waits = is.refs.in_waits; in_names = is.refs.in_names; in_views = is.refs.in_views };
   }
 
@@ -189,7 +208,7 @@ module _ (it : Tables) (is : AreNamed (births_of it) it) where
   processed t part none no_views = record {
     ports_apart = is.ports_apart;
     sections_apart = is.sections_apart;
-    unowned = every-push has_free_views it.parts part is.unowned (rw no_views refl);
+    tokens_apart = is.tokens_apart;
     refs = record { in_handles = every-push (all_pass part_refs ok) it.parts part is.refs.in_handles (rw none refl); in_ports = is.refs.in_ports; in_messages = is.refs.in_messages; in_waits = is.refs.in_waits; in_names = is.refs.in_names; in_views = every-push (all_pass space_refs ok) it.parts part is.refs.in_views (rw no_views refl) };
   }
 
@@ -237,7 +256,7 @@ connect_kept m x = by_kind x.kind
     by_kind (model.Request other) = refl
     by_kind model.Receive = refl
     by_kind model.Listen = refl
-    by_kind (model.Connect other) = refl
+    by_kind (model.Connect other offer) = refl
     by_kind (model.Accepted other reply) = refl
 
 -- a wait that keeps its message is accepted where it was
@@ -248,7 +267,7 @@ accepted_kept m x = by_kind x.kind
     by_kind (model.Request other) = refl
     by_kind model.Receive = refl
     by_kind model.Listen = refl
-    by_kind (model.Connect other) = refl
+    by_kind (model.Connect other offer) = refl
     by_kind (model.Accepted other reply) = refl
 
 -- a wait that keeps its message is pending where it was
@@ -259,7 +278,7 @@ pending_kept m x = by_kind x.kind
     by_kind (model.Request other) = refl
     by_kind model.Receive = refl
     by_kind model.Listen = refl
-    by_kind (model.Connect other) = refl
+    by_kind (model.Connect other offer) = refl
     by_kind (model.Accepted other reply) = refl
 
 quiet_kept : (m : Message) (ms : List model.MessageRow) (x : model.WaitRow) → is_quiet ms (with_message m x) ≡ is_quiet ms x
@@ -269,7 +288,7 @@ quiet_kept m ms x = by_kind x.kind
     by_kind (model.Request other) = refl
     by_kind model.Receive = refl
     by_kind model.Listen = refl
-    by_kind (model.Connect other) = refl
+    by_kind (model.Connect other offer) = refl
     by_kind (model.Accepted other reply) = refl
 
 pub lawful-message : (v : World) (calls made a b who : ℕ) (bytes : List ℕ) → IsLawful v calls made a b → IsLawful (record v { waits = change (waits_as who) (with_message (message_of bytes)) v.waits }) calls made a b

@@ -1,17 +1,17 @@
 -- What the services of connections look up is what is found in the rows.
-use Rattle.std.proofs.Common.{◌≡◌, ℕ, List, [], Bool, true, false, not, ◌&&◌, ◌||◌, map, Option, Some, None, MatchOption, IfSome, option_map, Result, Ok, refl, ap, sym, subst, ◌∙◌, arith}
+use Rattle.std.proofs.Common.{◌≡◌, ℕ, List, ◌∷◌, Bool, true, false, not, ◌&&◌, ◌||◌, map, Option, Some, None, MatchOption, IfSome, option_map, Result, Ok, refl, ap, sym, subst, ◌∙◌, arith}
 use Rattle.std.proofs.lemmas.Bool.{and_left}
 use Rattle.std.specs.Prelude.{is_none, is_some}
 use Rattle.lpc_base.specs.declared.birth.Birth.{Birth}
 use Rattle.lpc_base.specs.Rows.{every, first, has}
-use Rattle.lpc_base.proofs.RowMaps.{first-map, has-map, mapped-twice, same-map}
+use Rattle.lpc_base.proofs.RowMaps.{every-first, first-map, has-map, mapped-twice, same-map}
 use Rattle.lpc_base.proofs.RowWords.{first-passes}
 use Rattle.lpc_base.proofs.Bools.{first-true}
 use Rattle.lpc_handles.specs.declared.table.Row.{Row}
 use Rattle.lpc_model.specs.declared.entry.CallName.{CallName}
 use Rattle.lpc_model.specs.declared.entry.CallName.TheVariants.{NtConnectPort}
-use Rattle.lpc_model.specs.Connect.{answer_of, is_accepted_on, reaches}
-use Rattle.lpc_model.specs.Found.{is_accepted, is_connect, is_offered, is_request, names_port, waits_as}
+use Rattle.lpc_model.specs.Connect.{acceptance_of, is_accepted_on, no_acceptance, reaches}
+use Rattle.lpc_model.specs.Found.{is_accepted, is_connect, is_offered, offer_of, is_request, names_port, waits_as}
 use Rattle.lpc_model.specs.Named.{as_status, named_port, port_found}
 use Rattle.lpc_model.specs.Then.{◌>>=◌}
 use Rattle.lpc_model.specs.World as model
@@ -28,15 +28,16 @@ use Rattle.lpc_slots.specs.declared.Key.{Key}
 use Rattle.lpc_waits.specs.Table as waits
 use Rattle.lpc_waits.specs.Table.{row_of}
 use Rattle.lpc_waits.specs.declared.Accepted.{Accepted}
+use Rattle.lpc_waits.specs.declared.Offer.{Offer}
 use Rattle.lpc_waits.specs.declared.WaitKind.{WaitKind}
 use Rattle.lpc_waits.specs.declared.WaitKind.TheVariants as wait
 use Rattle.lpc_waits.specs.declared.WaitRow as table
 use Rattle.lpc_rows.specs.Kept.{is_pending, is_pending_in, rows_by}
 use Rattle.lpc_rows.specs.Lawful.{are_single}
-use Rattle.lpc_rows.specs.Names.{name_of, stands}
+use Rattle.lpc_rows.specs.Names.{name_of, some_stands, stands}
 use Rattle.lpc_homes.specs.Parts.{is_part, names_it, rows_at}
 use Rattle.lpc_rows.specs.Ready.{wait_in, waiter}
-use Rattle.lpc_rows.specs.Shown.{AreNamed, Births, Tables, all_pass, binding_refs, birth_of, births_of, call_of_wait, name_by, node_refs, object_stands, port_birth, shown_handle, shown_kind, shown_wait, wait_refs}
+use Rattle.lpc_rows.specs.Shown.{AreNamed, Births, Tables, all_pass, binding_refs, birth_of, births_of, call_of_wait, name_by, node_refs, object_stands, port_birth, section_in, shown_acceptance, shown_handle, shown_kind, shown_offer, shown_wait, wait_refs}
 use Rattle.lpc_homes.specs.declared.object.Object.{Object}
 use Rattle.lpc_homes.specs.declared.object.Object.TheVariants as object
 use Rattle.lpc_rows.proofs.Finds as finds
@@ -118,10 +119,10 @@ met_accepted w client None is = tt
 met_accepted w client (Some tid) is = first-true (is_accepted (waiter w tid)) _ is.passes
 
 -- Kinds of waits
-pub accepted_kind : (kind : WaitKind) (bytes : List ℕ) (accepted : Option Accepted) → (elim (shown_kind kind bytes accepted) [ model.Accepted m reply ↦ true | _ ↦ false ]) ≡ waits.is_connect kind && is_some accepted
-accepted_kind wait.Connect bytes None = refl
-accepted_kind wait.Connect bytes (Some accepted) = refl
-accepted_kind b bytes accepted = refl
+pub accepted_kind : (kind : WaitKind) (bytes : List ℕ) (offer : Option model.Offer) (accepted : Option Accepted) → (elim (shown_kind kind bytes offer accepted) [ model.Accepted m reply ↦ true | _ ↦ false ]) ≡ waits.is_connect kind && is_some accepted
+accepted_kind wait.Connect bytes offer None = refl
+accepted_kind wait.Connect bytes offer (Some accepted) = refl
+accepted_kind b bytes offer accepted = refl
 
 -- a connect's call
 abbrev is_connect_call : CallName → Bool
@@ -134,15 +135,15 @@ not_connect : (kind : WaitKind) → (kind ≡ wait.Connect → ⊥) → is_conne
 not_connect wait.Connect off = absurd (off refl)
 not_connect b off = refl
 
-offered_kind : (kind : WaitKind) (bytes : List ℕ) (accepted : Option Accepted) → (elim (shown_kind kind bytes accepted) [ model.Connect m ↦ true | _ ↦ false ]) ≡ is_connect_call (call_of_wait kind) && is_none accepted
-offered_kind wait.Connect bytes None = refl
-offered_kind wait.Connect bytes (Some accepted) = refl
-offered_kind b bytes accepted = refl
+offered_kind : (kind : WaitKind) (bytes : List ℕ) (offer : Option model.Offer) (accepted : Option Accepted) → (elim (shown_kind kind bytes offer accepted) [ model.Connect m o ↦ true | _ ↦ false ]) ≡ is_connect_call (call_of_wait kind) && is_none accepted
+offered_kind wait.Connect bytes offer None = refl
+offered_kind wait.Connect bytes offer (Some accepted) = refl
+offered_kind b bytes offer accepted = refl
 
-reply_of : (kind : WaitKind) (bytes : List ℕ) (a : Accepted) → (elim (shown_kind kind bytes (Some a)) [ model.Accepted m reply ↦ true | _ ↦ false ]) ≡ true
-    → a.reply.items ≡ (elim (shown_kind kind bytes (Some a)) [ model.Accepted m reply ↦ reply | _ ↦ [] ])
-reply_of wait.Connect bytes a h = refl
-reply_of b bytes a h = absurd (cc)
+acceptance_shown : (kind : WaitKind) (bytes : List ℕ) (offer : Option model.Offer) (a : Accepted) → (elim (shown_kind kind bytes offer (Some a)) [ model.Accepted m b ↦ true | _ ↦ false ]) ≡ true
+    → shown_acceptance a ≡ (elim (shown_kind kind bytes offer (Some a)) [ model.Accepted m b ↦ b | _ ↦ no_acceptance ])
+acceptance_shown wait.Connect bytes offer a h = refl
+acceptance_shown b bytes offer a h = absurd (cc)
 
 -- two tests of which one holds where the other doesn't
 pub turned : (a b : Bool) → a ≡ not b → b ≡ not a
@@ -169,7 +170,7 @@ module _ (it : Tables) (is : AreNamed (births_of it) it) where
   accepted_same : (key : Key) → stands m.ports key ≡ true → (row : table.WaitRow) → all_pass wait_refs (object_stands m) row ≡ true → is_accepted_on (name_of m.ports key) (shown_wait g row) ≡ waits.is_accepted_on key row
   accepted_same key there row ok =
       let same = follows.agree it is row.wait.port key (grind arith) there in
-      rw (same) (ap (λ b. b && is_key row.wait.port key) (accepted_kind row.wait.kind row.message.items row.accepted))
+      rw (same) (ap (λ b. b && is_key row.wait.port key) (accepted_kind row.wait.kind row.message.items (option_map (shown_offer g) row.offer) row.accepted))
 
   first_accepted : (key : Key) → stands m.ports key ≡ true → first (is_accepted_on (name_of m.ports key)) (map (shown_wait g) it.waits.rows) ≡ option_map (shown_wait g) (first (waits.is_accepted_on key) it.waits.rows)
   first_accepted key there = first-map (shown_wait g) (all_pass wait_refs (object_stands m)) (waits.is_accepted_on key) (is_accepted_on (name_of m.ports key)) (accepted_same key there) it.waits.rows is.refs.in_waits
@@ -187,7 +188,7 @@ module _ (it : Tables) (is : AreNamed (births_of it) it) where
   offered_row tid accepted at =
       let held = readings.holds (λ (r : table.WaitRow). r.accepted) (row_of it.waits tid) accepted at in
       let shown = readings.wait_is it is tid held.row held.found in
-      ap is_offered shown ∙ offered_kind held.row.wait.kind held.row.message.items held.row.accepted
+      ap is_offered shown ∙ offered_kind held.row.wait.kind held.row.message.items (option_map (shown_offer g) held.row.offer) held.row.accepted
       ∙ ap (λ o. is_connect_call (call_of_wait held.row.wait.kind) && is_none o) held.is
       ∙ ap (λ (x : WaitRow). is_connect_call x.call && is_none accepted) (sym shown)
 
@@ -203,24 +204,66 @@ module _ (it : Tables) (is : AreNamed (births_of it) it) where
       by None at some = absurd (cc)
       by (Some row) at some = sym (offered_row tid row.accepted (ap (option_map (λ (r : table.WaitRow). r.accepted)) at) ∙ and_left _ _ (ap is_connect_call call ∙ not_connect kind off))
 
-  -- the data of the answer that accepted a connect
-  pub reply_is : (tid : ℕ) (a : Accepted) → option_map (λ (r : table.WaitRow). r.accepted) (row_of it.waits tid) ≡ Some (Some a) → is_accepted (waiter rows tid) ≡ true → a.reply.items ≡ answer_of (waiter rows tid)
-  reply_is tid a at ok =
+  -- what a connect was accepted with
+  pub acceptance_is : (tid : ℕ) (a : Accepted) → option_map (λ (r : table.WaitRow). r.accepted) (row_of it.waits tid) ≡ Some (Some a) → is_accepted (waiter rows tid) ≡ true → shown_acceptance a ≡ acceptance_of (waiter rows tid)
+  acceptance_is tid a at ok =
       let held = readings.holds (λ (r : table.WaitRow). r.accepted) (row_of it.waits tid) (Some a) at in
       let shown : waiter rows tid ≡ shown_wait g (record held.row { accepted = Some a }) =
       readings.wait_is it is tid held.row held.found ∙ ap (λ o. shown_wait g (record held.row { accepted = o })) held.is in
-      reply_of held.row.wait.kind held.row.message.items a (sym (ap is_accepted shown) ∙ ok) ∙ sym (ap answer_of shown)
+      acceptance_shown held.row.wait.kind held.row.message.items (option_map (shown_offer g) held.row.offer) a (sym (ap is_accepted shown) ∙ ok) ∙ sym (ap acceptance_of shown)
 
-  pub no_reply : (tid : ℕ) → option_map (λ (r : table.WaitRow). r.accepted) (row_of it.waits tid) ≡ Some None → is_accepted (waiter rows tid) ≡ true → ⊥
-  no_reply tid at ok =
+  pub no_acceptance_there : (tid : ℕ) → option_map (λ (r : table.WaitRow). r.accepted) (row_of it.waits tid) ≡ Some None → is_accepted (waiter rows tid) ≡ true → ⊥
+  no_acceptance_there tid at ok =
       let held = readings.holds (λ (r : table.WaitRow). r.accepted) (row_of it.waits tid) None at in
       let off : is_accepted (waiter rows tid) ≡ false =
-      ap is_accepted (readings.wait_is it is tid held.row held.found) ∙ accepted_kind held.row.wait.kind held.row.message.items held.row.accepted ∙ ap (λ o. waits.is_connect held.row.wait.kind && is_some o) held.is ∙ no (waits.is_connect held.row.wait.kind) in
+      ap is_accepted (readings.wait_is it is tid held.row held.found) ∙ accepted_kind held.row.wait.kind held.row.message.items (option_map (shown_offer g) held.row.offer) held.row.accepted ∙ ap (λ o. waits.is_connect held.row.wait.kind && is_some o) held.is ∙ no (waits.is_connect held.row.wait.kind) in
       absurd (cc)
     where
       no : (a : Bool) → a && false ≡ false
       no true = refl
       no false = refl
+
+  -- what a connect offers that isn't accepted, of a section that stands
+  pub record IsOffer (tid : ℕ) (o : Option Offer) : Type 0 where
+    pub offer : option_map (shown_offer g) o ≡ offer_of (waiter rows tid)
+    pub there : some_stands m.sections (option_map (λ (x : Offer). x.section) o) ≡ true
+
+  offered_here : (row : table.WaitRow) → is_offered (shown_wait g row) ≡ true → every (object_stands m) (wait_refs row) ≡ true → (option_map (shown_offer g) row.offer ≡ offer_of (shown_wait g row)) × (some_stands m.sections (option_map (λ (x : Offer). x.section) row.offer) ≡ true)
+  offered_here row on all = by row.wait.kind row.offer row.accepted on all
+    where
+      section_there : (o : Option Offer) (a b : Object) → every (object_stands m) (a ∷ b ∷ section_in o) ≡ true → some_stands m.sections (option_map (λ (x : Offer). x.section) o) ≡ true
+      section_there None a b all = refl
+      section_there (Some o) a b all = grind arith
+
+      by : (kind : WaitKind) (o : Option Offer) (a : Option Accepted) → let x : table.WaitRow = record row { wait = record row.wait { kind = kind }; offer = o; accepted = a } in is_offered (shown_wait g x) ≡ true → every (object_stands m) (wait_refs x) ≡ true
+          → (option_map (shown_offer g) o ≡ offer_of (shown_wait g x)) × (some_stands m.sections (option_map (λ (y : Offer). y.section) o) ≡ true)
+      by wait.Connect o None on all = (refl, section_there o (object.Port row.wait.port) (object.Port row.wait.queue) all)
+      by wait.Connect o (Some a) on all = absurd (cc)
+      by wait.Request o a on all = absurd (cc)
+      by wait.Receive o a on all = absurd (cc)
+      by wait.Listen o a on all = absurd (cc)
+
+  pub offer_is : (tid : ℕ) (o : Option Offer) → option_map (λ (r : table.WaitRow). r.offer) (row_of it.waits tid) ≡ Some o → is_offered (waiter rows tid) ≡ true → IsOffer tid o
+  offer_is tid o at on =
+      let held = readings.holds (λ (r : table.WaitRow). r.offer) (row_of it.waits tid) o at in
+      let shown = readings.wait_is it is tid held.row held.found in
+      let all = every-first (all_pass wait_refs (object_stands m)) (waits.is_of tid) it.waits.rows held.row is.refs.in_waits held.found in
+      let here = offered_here held.row (sym (ap is_offered shown) ∙ on) all in
+      record {
+        offer = ap (option_map (shown_offer g)) (sym held.is) ∙ here.0 ∙ sym (ap offer_of shown);
+        there = ap (λ (x : Option Offer). some_stands m.sections (option_map (λ (y : Offer). y.section) x)) (sym held.is) ∙ here.1;
+      }
+
+  -- another wait offers nothing
+  pub no_offer : (tid : ℕ) → is_offered (waiter rows tid) ≡ false → IsOffer tid None
+  no_offer tid off = record { offer = sym (by (waiter rows tid).kind off); there = refl }
+    where
+      by : (kind : model.WaitKind) → let x : WaitRow = record (waiter rows tid) { kind = kind } in is_offered x ≡ false → offer_of x ≡ None
+      by (model.Connect a o) off = absurd (cc)
+      by (model.Request a) off = refl
+      by model.Receive off = refl
+      by model.Listen off = refl
+      by (model.Accepted a b) off = refl
 
   -- a handle of the process names the port
   reached_same : (key : Key) → stands m.ports key ≡ true → (row : ℕ × Row Object) → object_stands m row.1.object ≡ true → names_port (name_of m.ports key) (name_by g row.1.object) ≡ names_it (object.Port key) row

@@ -1,5 +1,5 @@
 -- How many rows count for an object: the tables count what the definitions count.
-use Rattle.std.proofs.Common.{◌≡◌, ◌≤◌, ℕ, List, [], ◌∷◌, ◌++◌, Bool, true, false, length, map, not, refl, ap, sym, subst, ◌∙◌, arith}
+use Rattle.std.proofs.Common.{◌≡◌, ◌+◌, ◌≤◌, ◌||◌, ℕ, zero, suc, Option, Some, None, List, [], ◌∷◌, ◌++◌, Bool, true, false, length, map, not, refl, ap, sym, subst, ◌∙◌, arith}
 use Rattle.std.specs.Prelude.{◌&&◌, ◌==◌}
 use Rattle.std.proofs.lemmas.List.{length-map, map-append}
 use Rattle.lpc_base.specs.declared.birth.Birth.{Birth}
@@ -17,7 +17,12 @@ use Rattle.lpc_slots.specs.declared.Key.{Key}
 use Rattle.lpc_views.specs.Views.{shows}
 use Rattle.lpc_views.specs.declared.view.View.{View}
 use Rattle.lpc_waits.specs.Table as waits
+use Rattle.lpc_waits.specs.declared.Accepted.{Accepted}
+use Rattle.lpc_waits.specs.declared.Offer.{Offer}
+use Rattle.lpc_waits.specs.declared.WaitKind.{WaitKind}
+use Rattle.lpc_waits.specs.declared.WaitKind.TheVariants as wait
 use Rattle.lpc_waits.specs.declared.WaitRow.{WaitRow}
+use Rattle.lpc_model.specs.declared.entry.ObjectKind.TheVariants as kind
 use Rattle.lpc_rows.specs.Kept.{is_alive, rows_by}
 use Rattle.lpc_model.specs.Found.{all_handles, handle_count, is_born_process, same_object, section_name}
 use Rattle.lpc_model.proofs.Steps.Handles.{has-each}
@@ -25,13 +30,14 @@ use Rattle.lpc_rows.specs.Held.{has_handles, has_holders}
 use Rattle.lpc_rows.specs.Lawful.{AreLawful}
 use Rattle.lpc_rows.specs.Names.{name_of, stands}
 use Rattle.lpc_homes.specs.Parts.{all_rows, all_views, has_name_of, has_view_of, names_it}
-use Rattle.lpc_rows.specs.Shown.{Tables, AreNamed, Births, all_pass, birth_of, births_of, message_refs, name_by, object_stands, part_refs, port_refs, ports_in, shown_handle, shown_message, shown_part, shown_port, shown_process, shown_space, shown_thread, shown_view, shown_wait, space_refs, view_refs, wait_refs}
+use Rattle.lpc_rows.specs.Shown.{Tables, AreNamed, Births, all_pass, birth_of, births_of, message_refs, name_by, object_stands, part_refs, port_refs, ports_in, offer_refs, shown_handle, shown_message, shown_part, shown_port, shown_process, shown_thread, shown_view, shown_wait, view_refs, wait_refs}
 use Rattle.lpc_homes.specs.declared.object.Object.{Object}
 use Rattle.lpc_homes.specs.declared.parts.Part.{Part}
 use Rattle.lpc_rows.proofs.Follows as follows
 use Rattle.lpc_rows.proofs.Lawful.{waits-fit}
 use Rattle.lpc_rows.proofs.Readings as readings
 use Rattle.lpc_rows.proofs.Readings.{count-shown, has-shown}
+use Rattle.lpc_rows.proofs.ShownViews.{views_shown, views_stand}
 use Rattle.lpc_rows.proofs.Unheld.{the_same}
 
 -- Some rows count where one passes
@@ -74,7 +80,7 @@ module _ (it : Tables) (is : AreNamed (births_of it) it) (o : Object) (there : o
   pub handles_named : has_handles (rows_by it) (name_by g o) ≡ has (has_name_of o) it.parts
   handles_named = named-counted (rows_by it) (name_by g o) ∙ readings.named_is it is o there
 
--- Rows that count for a port
+-- Rows that count for a port, but the views that it owns
 module _ (it : Tables) (is : AreNamed (births_of it) it) (key : Key) (there : stands (births_of it).ports key ≡ true) where
   abbrev n : Births
   n = births_of it
@@ -146,7 +152,7 @@ module _ (it : Tables) (calls made : ℕ) (is : AreLawful it calls made) (key : 
   pub parts_few : length it.parts ≤ made
   parts_few = omega (arith, is.lawful.tables_few, length-map it.parts (shown_part (birth_of (births_of it))))
 
--- Views that show a section
+-- Views that show a section, and connects that offer it
 module _ (it : Tables) (is : AreNamed (births_of it) it) (key : Key) (there : stands (births_of it).sections key ≡ true) where
   abbrev k : Births
   k = births_of it
@@ -166,31 +172,44 @@ module _ (it : Tables) (is : AreNamed (births_of it) it) (key : Key) (there : st
   view_same : (v : View Key) → all_pass view_refs standing v ≡ true → found.shows_section c (shown_view h v) ≡ shows key v
   view_same v all = follows.agree_section it is v.section key (first-one v all) there
 
-  views_shown : (parts : List Part) → each (λ t. t.rows) (map (shown_space h) parts) ≡ map (shown_view h) (all_views parts)
-  views_shown [] = refl
-  views_shown (part ∷ parts) =
-      ap (λ vs. map (shown_view h) part.views.views ++ vs) (views_shown parts) ∙ sym (map-append (shown_view h) part.views.views (all_views parts))
-
-  each_stands : (vs : List (View Key)) → every standing (each view_refs vs) ≡ true → every (all_pass view_refs standing) vs ≡ true
-  each_stands [] all = refl
-  each_stands (v ∷ vs) all = rw (every-front standing (view_refs v) (each view_refs vs) all, each_stands vs (every-back standing (view_refs v) (each view_refs vs) all)) refl
-
-  views_stand : (parts : List Part) → every (all_pass space_refs standing) parts ≡ true → every (all_pass view_refs standing) (all_views parts) ≡ true
-  views_stand [] all = refl
-  views_stand (part ∷ parts) all =
-      every-append (all_pass view_refs standing) part.views.views (all_views parts) (each_stands part.views.views (grind arith)) (views_stand parts (grind arith))
-
   pub views_counted : count (found.shows_section c) (found.all_views (rows_by it)) ≡ count (shows key) (all_views it.parts)
   views_counted =
-      ap (count (found.shows_section c)) (views_shown it.parts)
-      ∙ count-map (shown_view h) (all_pass view_refs standing) (shows key) (found.shows_section c) view_same (all_views it.parts) (views_stand it.parts is.refs.in_views)
+      ap (count (found.shows_section c)) (views_shown h it.parts)
+      ∙ count-map (shown_view h) (all_pass view_refs standing) (shows key) (found.shows_section c) view_same (all_views it.parts) (views_stand standing it.parts is.refs.in_views)
 
-  pub views_held : has_holders (rows_by it) (section_name c) ≡ has (has_view_of key) it.parts
-  views_held =
-      ap (λ n. not (n == 0)) views_counted
-      ∙ zero_has (shows key) (all_views it.parts)
-      ∙ has-each (shows key) (λ part. part.views.views) it.parts
+  offer_same : (row : WaitRow) → all_pass wait_refs standing row ≡ true → found.offers_section c (shown_wait h row) ≡ waits.is_offering key row
+  offer_same row all = by row.wait.kind row.offer row.accepted (grind arith)
+    where
+      by : (kind : WaitKind) (o : Option Offer) (a : Option Accepted) → every standing (offer_refs kind o a) ≡ true → let x : WaitRow = record row { wait = record row.wait { kind = kind }; offer = o; accepted = a } in found.offers_section c (shown_wait h x) ≡ waits.is_offering key x
+      by wait.Request o a all = refl
+      by wait.Receive o a all = refl
+      by wait.Listen o a all = refl
+      by wait.Connect None None all = refl
+      by wait.Connect (Some o) None all = follows.agree_section it is o.section key (grind arith) there
+      by wait.Connect o (Some a) all = refl
+
+  pub offers_counted : count (found.offers_section c) (rows_by it).waits ≡ count (waits.is_offering key) it.waits.rows
+  offers_counted = count-map (shown_wait h) (all_pass wait_refs standing) (waits.is_offering key) (found.offers_section c) offer_same it.waits.rows is.refs.in_waits
+
+  pub section_counted : found.holders (rows_by it) kind.Section c ≡ count (shows key) (all_views it.parts) + count (waits.is_offering key) it.waits.rows
+  section_counted = ap (λ n. n + count (found.offers_section c) (rows_by it).waits) views_counted ∙ ap (λ n. count (shows key) (all_views it.parts) + n) offers_counted
+
+  some_of : (a b : ℕ) → not (a + b == 0) ≡ not (a == 0) || not (b == 0)
+  some_of zero zero = refl
+  some_of zero (suc b) = grind arith
+  some_of (suc a) b = grind arith
+
+  pub section_held : has_holders (rows_by it) (section_name c) ≡ has (has_view_of key) it.parts || has (waits.is_offering key) it.waits.rows
+  section_held =
+      ap (λ n. not (n == 0)) section_counted
+      ∙ some_of (count (shows key) (all_views it.parts)) (count (waits.is_offering key) it.waits.rows)
+      ∙ rw (zero_has (shows key) (all_views it.parts), zero_has (waits.is_offering key) it.waits.rows, has-each (shows key) (λ (part : Part). part.views.views) it.parts) refl
 
 -- no more processes have a home than were made
 pub homes-few : (it : Tables) (calls made : ℕ) → AreLawful it calls made → length it.parts ≤ made
 homes-few it calls made is = omega (arith, is.lawful.tables_few, length-map it.parts (shown_part (birth_of (births_of it))))
+
+-- and no more waits than were made, whatever they offer
+pub offering-few : (it : Tables) (calls made : ℕ) → AreLawful it calls made → (section : Key) → count (waits.is_offering section) it.waits.rows ≤ made
+offering-few it calls made is section =
+    omega (arith, count-bound (waits.is_offering section) it.waits.rows, length-map it.waits.rows (shown_wait (birth_of (births_of it))), waits-fit (rows_by it).threads (rows_by it).waits is.lawful.single is.lawful.threads, count-bound is_alive (rows_by it).threads, is.lawful.rows)

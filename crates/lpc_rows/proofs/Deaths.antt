@@ -24,7 +24,7 @@ use Rattle.lpc_rows.specs.Lawful.{AreLawful, are_single_threads, has_named_ports
 use Rattle.lpc_rows.specs.Names.{name_of, stands}
 use Rattle.lpc_rows.specs.Registered as registered
 use Rattle.lpc_rows.specs.Registered.{Death, accepted_port_in, death_by, deaths_of, has_ended_in, untold_of}
-use Rattle.lpc_rows.specs.Shown.{Births, Tables, all_pass, birth_of, births_of, object_stands, shown_thread, shown_wait, wait_refs}
+use Rattle.lpc_rows.specs.Shown.{Births, Tables, all_pass, birth_of, births_of, object_stands, shown_offer, shown_thread, shown_wait, wait_refs}
 use Rattle.lpc_rows.proofs.Connecting.{accepted_kind}
 use Rattle.lpc_rows.proofs.Readings as readings
 
@@ -156,10 +156,10 @@ module _ (it : Tables) (calls made : ℕ) (is : AreLawful it calls made) where
 
       of_row : (row : WaitRow) → every (object_stands n) (wait_refs row) ≡ true → registered.accepted_port rows tid ≡ accepted_port_in (shown_wait (birth_of n) row) → (c : Bool) → waits.is_accepted row ≡ c → IsPort tid (waits.accepted_port_in row)
       of_row row all shows true is_one =
-          let same : found.is_accepted (shown_wait (birth_of n) row) ≡ true = accepted_kind row.wait.kind row.message.items row.accepted ∙ is_one in
+          let same : found.is_accepted (shown_wait (birth_of n) row) ≡ true = accepted_kind row.wait.kind row.message.items (option_map (shown_offer (birth_of n)) row.offer) row.accepted ∙ is_one in
           rw is_one (record { found = rw same at shows; there = grind arith })
       of_row row all shows false off =
-          let same : found.is_accepted (shown_wait (birth_of n) row) ≡ false = accepted_kind row.wait.kind row.message.items row.accepted ∙ off in
+          let same : found.is_accepted (shown_wait (birth_of n) row) ≡ false = accepted_kind row.wait.kind row.message.items (option_map (shown_offer (birth_of n)) row.offer) row.accepted ∙ off in
           rw off (record { found = rw same at shows; there = tt })
 
       by_row : (o : Option WaitRow) → first (waits.is_of tid) it.waits.rows ≡ o → IsPort tid (option_and_then waits.accepted_port_in o)

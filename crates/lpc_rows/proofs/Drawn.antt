@@ -10,13 +10,13 @@ use Rattle.lpc_base.proofs.RowMaps.{every-first}
 use Rattle.lpc_base.proofs.RowWords.{every-change, every-more, every-push, every-unless, every-without, first-passes, has-kept, has-push, has_none-more}
 use Rattle.lpc_base.proofs.Births.{birth-same}
 use Rattle.lpc_model.specs.Basics.{past_identifier, past_ordinal}
-use Rattle.lpc_model.specs.Found.{is_live_thread, is_port, is_section, is_thread}
+use Rattle.lpc_model.specs.Found.{is_live_thread, is_port, is_section, is_thread, is_token}
 use Rattle.lpc_model.specs.Tests.{next_birth}
-use Rattle.lpc_model.specs.World.{Contents, World, PortRow, SectionRow, ThreadRow, UsedThread}
+use Rattle.lpc_model.specs.World.{Contents, World, PortRow, SectionRow, ThreadRow, TokenRow, UsedThread}
 use Rattle.lpc_rows.specs.Lawful.{AreDrawn, are_single_threads, drew, drew_own, is_noted, was_drawn}
 
-pub same-drawn : (w v : World) → v.threads ≡ w.threads → v.used_threads ≡ w.used_threads → v.ports ≡ w.ports → v.sections ≡ w.sections → AreDrawn w → AreDrawn v
-same-drawn w v ts us ps ss h = record { threads_single = rw ts h.threads_single; threads_noted = rw (ts, us) h.threads_noted; ports_drawn = rw (ts, us, ps) h.ports_drawn; sections_drawn = rw (ts, us, ss) h.sections_drawn }
+pub same-drawn : (w v : World) → v.threads ≡ w.threads → v.used_threads ≡ w.used_threads → v.ports ≡ w.ports → v.sections ≡ w.sections → v.tokens ≡ w.tokens → AreDrawn w → AreDrawn v
+same-drawn w v ts us ps ss ks h = record { threads_single = rw ts h.threads_single; threads_noted = rw (ts, us) h.threads_noted; ports_drawn = rw (ts, us, ps) h.ports_drawn; sections_drawn = rw (ts, us, ss) h.sections_drawn; tokens_drawn = rw (ts, us, ks) h.tokens_drawn }
 
 abbrev number : ThreadRow → ℕ
 number t = t.number
@@ -39,6 +39,10 @@ ports-drawn used vused ts vs ps more all = every-more (λ p. was_drawn used ts p
 sections-drawn : (used vused : List UsedThread) (ts vs : List ThreadRow) (ss : List SectionRow) → ((b : Birth) → was_drawn used ts b ≡ true → was_drawn vused vs b ≡ true) → every (λ s. was_drawn used ts s.birth) ss ≡ true → every (λ s. was_drawn vused vs s.birth) ss ≡ true
 sections-drawn used vused ts vs ss more all = every-more (λ s. was_drawn used ts s.birth) (λ s. was_drawn vused vs s.birth) (λ s was. more s.birth was) ss all
 
+-- and the tokens'
+tokens-drawn : (used vused : List UsedThread) (ts vs : List ThreadRow) (ss : List TokenRow) → ((b : Birth) → was_drawn used ts b ≡ true → was_drawn vused vs b ≡ true) → every (λ s. was_drawn used ts s.birth) ss ≡ true → every (λ s. was_drawn vused vs s.birth) ss ≡ true
+tokens-drawn used vused ts vs ss more all = every-more (λ s. was_drawn used ts s.birth) (λ s. was_drawn vused vs s.birth) (λ s was. more s.birth was) ss all
+
 -- a thread that draws keeps its number, and what it has drawn
 module _ (f : ThreadRow → ThreadRow) (same : (t : ThreadRow) → (f t).number ≡ t.number) (more : (b : Birth) (t : ThreadRow) → drew_own b t ≡ true → drew_own b (f t) ≡ true) where
   pub was-drawn-by : (used : List UsedThread) (who : ℕ) (ts : List ThreadRow) (b : Birth) → was_drawn used ts b ≡ true → was_drawn used (change (is_thread who) f ts) b ≡ true
@@ -50,6 +54,7 @@ module _ (f : ThreadRow → ThreadRow) (same : (t : ThreadRow) → (f t).number 
     threads_noted = every-change (is_noted w.used_threads) (is_thread who) f (λ t there. rw (same t) there) w.threads h.threads_noted;
     ports_drawn = ports-drawn w.used_threads w.used_threads w.threads (change (is_thread who) f w.threads) w.ports (was-drawn-by w.used_threads who w.threads) h.ports_drawn;
     sections_drawn = sections-drawn w.used_threads w.used_threads w.threads (change (is_thread who) f w.threads) w.sections (was-drawn-by w.used_threads who w.threads) h.sections_drawn;
+    tokens_drawn = tokens-drawn w.used_threads w.used_threads w.threads (change (is_thread who) f w.threads) w.tokens (was-drawn-by w.used_threads who w.threads) h.tokens_drawn;
   }
 
 pub more-identifier : (b : Birth) (t : ThreadRow) → drew_own b t ≡ true → drew_own b (past_identifier t) ≡ true
@@ -99,6 +104,7 @@ drawn-thread w t u same new h = record {
       (has-push (λ y. y.number == t.number) w.used_threads u (rw same (grind (arith, nat_tests))));
   ports_drawn = ports-drawn w.used_threads (w.used_threads ++ u ∷ []) w.threads (w.threads ++ t ∷ []) w.ports (was-drawn-push w.used_threads w.threads t u new) h.ports_drawn;
   sections_drawn = sections-drawn w.used_threads (w.used_threads ++ u ∷ []) w.threads (w.threads ++ t ∷ []) w.sections (was-drawn-push w.used_threads w.threads t u new) h.sections_drawn;
+  tokens_drawn = tokens-drawn w.used_threads (w.used_threads ++ u ∷ []) w.threads (w.threads ++ t ∷ []) w.tokens (was-drawn-push w.used_threads w.threads t u new) h.tokens_drawn;
 }
 
 -- threads less
@@ -111,6 +117,7 @@ drawn-less w goes h = record {
   threads_noted = every-without (is_noted w.used_threads) goes w.threads h.threads_noted;
   ports_drawn = ports-drawn w.used_threads w.used_threads w.threads (without goes w.threads) w.ports (was-drawn-less w.used_threads goes w.threads) h.ports_drawn;
   sections_drawn = sections-drawn w.used_threads w.used_threads w.threads (without goes w.threads) w.sections (was-drawn-less w.used_threads goes w.threads) h.sections_drawn;
+  tokens_drawn = tokens-drawn w.used_threads w.used_threads w.threads (without goes w.threads) w.tokens (was-drawn-less w.used_threads goes w.threads) h.tokens_drawn;
 }
 
 -- what a thread of the table drew was drawn
@@ -152,6 +159,7 @@ drawn-port w p there h = record {
   threads_noted = h.threads_noted;
   ports_drawn = every-push (λ q. was_drawn w.used_threads w.threads q.birth) w.ports p h.ports_drawn (drew-drawn w p.birth there h);
   sections_drawn = h.sections_drawn;
+  tokens_drawn = h.tokens_drawn;
 }
 
 -- a section more, whose birth was drawn; or one less
@@ -161,6 +169,7 @@ drawn-section w s contents there h = record {
   threads_noted = h.threads_noted;
   ports_drawn = h.ports_drawn;
   sections_drawn = every-push (λ q. was_drawn w.used_threads w.threads q.birth) w.sections s h.sections_drawn (drew-drawn w s.birth there h);
+  tokens_drawn = h.tokens_drawn;
 }
 
 pub drawn-freed : (w : World) (p : SectionRow → Bool) (contents : Contents) → AreDrawn w → AreDrawn (record w { sections = without p w.sections; contents = contents })
@@ -169,6 +178,26 @@ drawn-freed w p contents h = record {
   threads_noted = h.threads_noted;
   ports_drawn = h.ports_drawn;
   sections_drawn = every-without (λ q. was_drawn w.used_threads w.threads q.birth) p w.sections h.sections_drawn;
+  tokens_drawn = h.tokens_drawn;
+}
+
+-- a token more, whose birth was drawn; or one less
+pub drawn-token : (w : World) (k : TokenRow) → has (drew k.birth) w.threads ≡ true → AreDrawn w → AreDrawn (record w { tokens = w.tokens ++ k ∷ [] })
+drawn-token w k there h = record {
+  threads_single = h.threads_single;
+  threads_noted = h.threads_noted;
+  ports_drawn = h.ports_drawn;
+  sections_drawn = h.sections_drawn;
+  tokens_drawn = every-push (λ q. was_drawn w.used_threads w.threads q.birth) w.tokens k h.tokens_drawn (drew-drawn w k.birth there h);
+}
+
+pub drawn-token_freed : (w : World) (p : TokenRow → Bool) → AreDrawn w → AreDrawn (record w { tokens = without p w.tokens })
+drawn-token_freed w p h = record {
+  threads_single = h.threads_single;
+  threads_noted = h.threads_noted;
+  ports_drawn = h.ports_drawn;
+  sections_drawn = h.sections_drawn;
+  tokens_drawn = every-without (λ q. was_drawn w.used_threads w.threads q.birth) p w.tokens h.tokens_drawn;
 }
 
 -- what a thread draws next it has not drawn, and so no port has it
@@ -197,6 +226,19 @@ fresh-section w tid t h is own = by_section (first (is_section (next_birth t)) w
         let same : s.birth ≡ next_birth t = birth-same s.birth (next_birth t) (first-passes (is_section (next_birth t)) w.sections s at) in
         let was : was_drawn w.used_threads w.threads s.birth ≡ true = every-first (λ q. was_drawn w.used_threads w.threads q.birth) (is_section (next_birth t)) w.sections s h.sections_drawn at in
         let all : every (drew_own (next_birth t)) w.threads ≡ true = subst (λ b. every (drew_own b) w.threads ≡ true) same (drawn-all w.used_threads w.threads s.birth was) in
+        let yes : drew_own (next_birth t) t ≡ true = every-first (drew_own (next_birth t)) (is_thread tid) w.threads t all is in
+        let no = not-drawn t in
+        absurd (cc)
+
+pub fresh-token : (w : World) (tid : ℕ) (t : ThreadRow) → AreDrawn w → first (is_thread tid) w.threads ≡ Some t → t.number ≡ tid → first (is_token (next_birth t)) w.tokens ≡ None
+fresh-token w tid t h is own = by_token (first (is_token (next_birth t)) w.tokens) refl
+  where
+    by_token : (o : Option TokenRow) → first (is_token (next_birth t)) w.tokens ≡ o → o ≡ None
+    by_token None at = refl
+    by_token (Some k) at =
+        let same : k.birth ≡ next_birth t = birth-same k.birth (next_birth t) (first-passes (is_token (next_birth t)) w.tokens k at) in
+        let was : was_drawn w.used_threads w.threads k.birth ≡ true = every-first (λ q. was_drawn w.used_threads w.threads q.birth) (is_token (next_birth t)) w.tokens k h.tokens_drawn at in
+        let all : every (drew_own (next_birth t)) w.threads ≡ true = subst (λ b. every (drew_own b) w.threads ≡ true) same (drawn-all w.used_threads w.threads k.birth was) in
         let yes : drew_own (next_birth t) t ≡ true = every-first (drew_own (next_birth t)) (is_thread tid) w.threads t all is in
         let no = not-drawn t in
         absurd (cc)

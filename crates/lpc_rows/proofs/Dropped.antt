@@ -15,7 +15,7 @@ use Rattle.lpc_model.specs.World.{HandleRow, HandleTable, WaitRow, World}
 use Rattle.lpc_rows.specs.Kept.{rows_by, view_room_of}
 use Rattle.lpc_rows.specs.Lawful.{AreLawful, IsPromised, has_places, is_at_home, is_within}
 use Rattle.lpc_homes.specs.Parts.{closed, closing, is_part, spare_at}
-use Rattle.lpc_rows.specs.Shown.{Births, Tables, all_pass, birth_of, births_of, has_free_views, object_stands, part_refs, shown_handle, shown_part, shown_space, space_refs}
+use Rattle.lpc_rows.specs.Shown.{Births, Tables, all_pass, birth_of, births_of, object_stands, part_refs, shown_handle, shown_part, shown_space, space_refs}
 use Rattle.lpc_homes.specs.declared.object.Object.{Object}
 use Rattle.lpc_homes.specs.declared.parts.Part.{Part}
 use Rattle.lpc_rows.proofs.Changes as changes
@@ -96,7 +96,7 @@ module _ (it : Tables) (calls made : ℕ) (is : AreLawful it calls made) (pid va
     named = record {
       ports_apart = is.named.ports_apart;
       sections_apart = is.named.sections_apart;
-      unowned = every-change has_free_views (is_part pid) (closed value) (λ part all. all) it.parts is.named.unowned;
+      tokens_apart = is.named.tokens_apart;
       refs = record {
         in_handles = every-change (all_pass part_refs (object_stands n)) (is_part pid) (closed value) (λ part all. objects_less part.handles.rows all) it.parts is.named.refs.in_handles;
         in_ports = is.named.refs.in_ports;
@@ -111,7 +111,7 @@ module _ (it : Tables) (calls made : ℕ) (is : AreLawful it calls made) (pid va
     registered = is.registered;
     mapped = steps.change_mapped it.sections it.parts made pid (closed value) (λ part. refl) is.mapped;
     headed = is.headed;
-    drawn = drawn.same-drawn rows _ refl refl refl refl is.drawn;
+    drawn = drawn.same-drawn rows _ refl refl refl refl refl is.drawn;
     born = is.born;
     promised = subst (λ (v : World). IsPromised v.waits v.handles (closing pid value it.parts)) (sym drops) (handle-goes rows.waits rows.handles it.parts pid value is.promised);
   }

@@ -46,7 +46,7 @@ module _ (it : Tables) (calls made : ℕ) (is : AreLawful it calls made) (queue 
     named = record {
       ports_apart = is.named.ports_apart;
       sections_apart = is.named.sections_apart;
-      unowned = is.named.unowned;
+      tokens_apart = is.named.tokens_apart;
       refs = record {
         in_handles = is.named.refs.in_handles;
         in_ports = is.named.refs.in_ports;
@@ -57,14 +57,14 @@ module _ (it : Tables) (calls made : ℕ) (is : AreLawful it calls made) (queue 
       };
     };
     lawful = rw (empties, ← same_count) (lawful.lawful-withdraw rows calls made it.waits.spare it.ports.message_room (is_queued b) is.lawful);
-    counted = record { ports_made = is.counted.ports_made; messages_made = is.counted.messages_made; waits_made = is.counted.waits_made };
+    counted = record { ports_made = is.counted.ports_made; messages_made = is.counted.messages_made; waits_made = is.counted.waits_made; tokens_made = is.counted.tokens_made };
     registered = is.registered;
     mapped = is.mapped;
     headed = every-without has_header (ports.is_in queue) it.ports.messages is.headed;
-    drawn = drawn.same-drawn rows _ refl refl refl refl is.drawn;
+    drawn = drawn.same-drawn rows _ refl refl refl refl refl is.drawn;
     born = is.born;
     promised = is.promised;
   }
 
   pub emptied_room : (places : ℕ) → Roomy (room_by rows it places) (room_by (rows_by after) after places)
-  emptied_room places = rw (ap (λ (v : World). v.messages) empties, ← same_count) (rooms.room_withdraw _ _ _ _ _ _ _ _ rows _ (is_queued b))
+  emptied_room places = rw (ap (λ (v : World). v.messages) empties, ← same_count) (rooms.room_withdraw _ _ _ _ _ _ _ _ _ _ rows _ (is_queued b))

@@ -132,8 +132,8 @@ module _ (it : Tables) (calls made : ℕ) (is : AreLawful it calls made) where
       has-weaker (t ∷ ts) there = grind (arith, has-weaker ts)
 
 -- The room
-module _ (s : ℕ) (vs : List HandleRoom) (a b c d e g : ℕ) (w : World) (hs : List HandleRoom) where
-  pub room_ended : (who : ℕ) → Roomy (room s vs a b c d e g w hs) (room s vs a b c d e g (record w { threads = change (is_thread who) basics.ended w.threads }) hs)
+module _ (y z s : ℕ) (vs : List HandleRoom) (a b c d e g : ℕ) (w : World) (hs : List HandleRoom) where
+  pub room_ended : (who : ℕ) → Roomy (room y z s vs a b c d e g w hs) (room y z s vs a b c d e g (record w { threads = change (is_thread who) basics.ended w.threads }) hs)
   room_ended who =
       let alive = dying.fewer-alive who w.threads in
       let owed = ap length (registered-change basics.ended (λ t. refl) who w.threads) in
@@ -145,12 +145,14 @@ module _ (s : ℕ) (vs : List HandleRoom) (a b c d e g : ℕ) (w : World) (hs : 
         for_ports = omega arith;
         for_names = omega arith;
         for_sections = omega arith;
+        for_tokens = omega arith;
+        for_token_names = omega arith;
         for_handles = λ pid. omega arith;
         for_views = λ pid. omega arith;
       }
 
   pub room_registered : (who : ℕ) (birth : Birth) → are_single_threads w.threads ≡ true → has (is_thread who) w.threads ≡ true
-      → let after = room s vs a b c d e g (record w { threads = change (is_thread who) (basics.registering birth) w.threads }) hs in Roomy (room s vs a b c d e g w hs) (record after { messages = after.messages + 1 })
+      → let after = room y z s vs a b c d e g (record w { threads = change (is_thread who) (basics.registering birth) w.threads }) hs in Roomy (room y z s vs a b c d e g w hs) (record after { messages = after.messages + 1 })
   room_registered who birth one there =
       let more = dying.longer-registered who birth w.threads one there in
       let alive = alive-change (basics.registering birth) (λ t. refl) who w.threads in
@@ -162,11 +164,13 @@ module _ (s : ℕ) (vs : List HandleRoom) (a b c d e g : ℕ) (w : World) (hs : 
         for_ports = omega arith;
         for_names = omega arith;
         for_sections = omega arith;
+        for_tokens = omega arith;
+        for_token_names = omega arith;
         for_handles = λ pid. omega arith;
         for_views = λ pid. omega arith;
       }
 
-  pub room_unregistered : (who : ℕ) (birth : Birth) → Roomy (room s vs a b c d e g w hs) (room s vs a b c d e g (record w { threads = change (is_thread who) (basics.unregistering birth) w.threads }) hs)
+  pub room_unregistered : (who : ℕ) (birth : Birth) → Roomy (room y z s vs a b c d e g w hs) (room y z s vs a b c d e g (record w { threads = change (is_thread who) (basics.unregistering birth) w.threads }) hs)
   room_unregistered who birth =
       let less = dying.shorter-registered who birth w.threads in
       let alive = alive-change (basics.unregistering birth) (λ t. refl) who w.threads in
@@ -178,6 +182,8 @@ module _ (s : ℕ) (vs : List HandleRoom) (a b c d e g : ℕ) (w : World) (hs : 
         for_ports = omega arith;
         for_names = omega arith;
         for_sections = omega arith;
+        for_tokens = omega arith;
+        for_token_names = omega arith;
         for_handles = λ pid. omega arith;
         for_views = λ pid. omega arith;
       }

@@ -33,6 +33,7 @@ pub record IsCaller (w : World) (tid : ℕ) (t : ThreadRow) : Type 0 where
   pub caller_is : t ≡ caller w tid
   pub number : t.number ≡ tid
   pub there : has (is_thread tid) w.threads ≡ true
+  pub process : has (is_process t.process) w.processes ≡ true
   pub table : has (is_table t.process) w.handles ≡ true
 
 pub is_caller : (w : World) (tid : ℕ) (t : ThreadRow) → every (is_housed w) w.threads ≡ true → live_thread w tid ≡ Some t → IsCaller w tid t
@@ -41,6 +42,7 @@ is_caller w tid t all found = record {
   caller_is = sym (ap thread_in found);
   number = eqb-true t.number tid (and_parts (t.number == tid) t.live (first-passes (is_live_thread tid) w.threads t found)).0;
   there = has-first (is_live_thread tid) (is_thread tid) (λ x h. (and_parts (x.number == tid) x.live h).0) w.threads t found;
+  process = (housed_first w (is_live_thread tid) t (and_parts (t.number == tid) t.live (first-passes (is_live_thread tid) w.threads t found)).1 all found).0;
   table = (housed_first w (is_live_thread tid) t (and_parts (t.number == tid) t.live (first-passes (is_live_thread tid) w.threads t found)).1 all found).1;
 }
 
@@ -132,7 +134,7 @@ still_found w p r one quiet is = subst (λ (o : Option ℕ). IfSome o (λ tid. i
 
 -- a receive or listen isn't pending
 taker_idle : (k : WaitKind) (b c d : Bool) → ((elim k [ Receive ↦ true | _ ↦ false ]) || ((elim k [ Listen ↦ true | _ ↦ false ]) && c)) && d ≡ true
-    → ((elim k [ Request m ↦ true | _ ↦ false ]) || ((elim k [ Connect m ↦ true | _ ↦ false ]) || (elim k [ Accepted m reply ↦ true | _ ↦ false ]))) && not b ≡ false
+    → ((elim k [ Request m ↦ true | _ ↦ false ]) || ((elim k [ Connect m offer ↦ true | _ ↦ false ]) || (elim k [ Accepted m reply ↦ true | _ ↦ false ]))) && not b ≡ false
 taker_idle Receive b c d h = refl
 taker_idle Listen b c d h = refl
 taker_idle e b c d h = absurd (cc)

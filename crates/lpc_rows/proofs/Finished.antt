@@ -99,11 +99,11 @@ module _ (it : Tables) (calls made : ℕ) (is : AreLawful it calls made) (tid pi
     finished none lt = record {
       named = changes.ended given named_given tid less.spare less.made;
       lawful = rw (rows_after, ← steps.has_wait it calls made is tid) (lawful.lawful-end (record rows { handles = change (is_table pid) _ rows.handles }) calls made it.waits.spare it.ports.message_room tid (lawful.lawful-handle rows calls made it.waits.spare it.ports.message_room pid (shown_handle (birth_of n) (value, row)) is.lawful lt (steps.single_object it calls made is row.object)) none);
-      counted = record { ports_made = is.counted.ports_made; messages_made = is.counted.messages_made; waits_made = is.counted.waits_made };
+      counted = record { ports_made = is.counted.ports_made; messages_made = is.counted.messages_made; waits_made = is.counted.waits_made; tokens_made = is.counted.tokens_made };
       registered = is.registered;
       mapped = steps.change_mapped it.sections it.parts made pid (handed value row) (λ part. refl) is.mapped;
       headed = is.headed;
-      drawn = drawn.same-drawn rows _ refl refl refl refl is.drawn;
+      drawn = drawn.same-drawn rows _ refl refl refl refl refl is.drawn;
       born = is.born;
       promised = subst (λ (v : World). IsPromised v.waits v.handles more) (sym rows_after) (promised.connect-finishes rows.waits rows.handles it.parts tid pid value (shown_handle (birth_of n) (value, row)) row (waiter rows tid) is.promised is.lawful.single found mine);
     }

@@ -5,7 +5,7 @@ use Rattle.lpc_base.specs.Rows.{every, first}
 use Rattle.lpc_base.proofs.RowMaps.{every-both, every-map, first-map}
 use Rattle.lpc_base.proofs.Births.{birth-same}
 use Rattle.lpc_model.specs.World as model
-use Rattle.lpc_model.specs.Found.{is_content, is_port, is_queued, is_section, same_birth}
+use Rattle.lpc_model.specs.Found.{is_content, is_port, is_queued, is_section, is_token, same_birth}
 use Rattle.lpc_model.specs.Entering.{takes_from}
 use Rattle.lpc_waits.specs.declared.Accepted.{Accepted}
 use Rattle.lpc_ports.specs.Table as ports
@@ -14,12 +14,13 @@ use Rattle.lpc_ports.specs.Table.{QueuedMessage}
 use Rattle.lpc_sections.specs.Sections.{SectionRow}
 use Rattle.lpc_slots.specs.Table.{at_key, is_key, listed}
 use Rattle.lpc_slots.specs.declared.Key.{Key}
+use Rattle.lpc_tokens.specs.declared.token_row.TokenRow.{TokenRow}
 use Rattle.lpc_waits.specs.Table as waits
 use Rattle.lpc_waits.specs.declared.WaitKind.{WaitKind}
 use Rattle.lpc_waits.specs.declared.WaitKind.TheVariants as wait
 use Rattle.lpc_waits.specs.declared.WaitRow.{WaitRow}
 use Rattle.lpc_rows.specs.Names.{Names, are_apart, name_of, names_of, stands}
-use Rattle.lpc_rows.specs.Shown.{Tables, AreNamed, Births, all_pass, birth_of, births_of, message_refs, object_stands, shown_content, shown_kind, shown_message, shown_port, shown_section, shown_wait, wait_refs}
+use Rattle.lpc_rows.specs.Shown.{Tables, AreNamed, Births, all_pass, birth_of, births_of, message_refs, object_stands, shown_content, shown_kind, shown_message, shown_offer, shown_port, shown_section, shown_token, shown_wait, wait_refs}
 use Rattle.lpc_homes.specs.declared.object.Object.{Object}
 use Rattle.lpc_rows.proofs.Naming.{agrees, key_itself, own}
 
@@ -84,6 +85,23 @@ module _ (it : Tables) (is : AreNamed (births_of it) it) where
   pub first_content : (key : Key) → stands n.sections key ≡ true → first (is_content (name_of n.sections key)) (map shown_content (listed it.sections)) ≡ option_map shown_content (first (at_key key) (listed it.sections))
   first_content key there = first-map shown_content own_section (at_key key) (is_content (name_of n.sections key)) (content_same key there) (listed it.sections) own_sections
 
+  -- and of tokens
+  pub agree_token : (a b : Key) → stands n.tokens a ≡ true → stands n.tokens b ≡ true → same_birth (name_of n.tokens a) (name_of n.tokens b) ≡ is_key a b
+  agree_token a b one two = agrees n.tokens a b is.tokens_apart one two
+
+  abbrev pub own_token : Key × TokenRow → Bool
+  own_token = is_own (λ (t : TokenRow). t.birth) (listed it.tokens)
+
+  pub own_tokens : every own_token (listed it.tokens) ≡ true
+  own_tokens = rows_own (λ (t : TokenRow). t.birth) (listed it.tokens) is.tokens_apart
+
+  pub token_same : (key : Key) → stands n.tokens key ≡ true → (row : Key × TokenRow) → own_token row ≡ true → is_token (name_of n.tokens key) (shown_token row) ≡ at_key key row
+  token_same key there row ok =
+      ap (λ b. same_birth b (name_of n.tokens key)) (sym (own_birth (λ (t : TokenRow). t.birth) (listed it.tokens) row ok)) ∙ agree_token row.0 key (grind arith) there
+
+  pub first_token : (key : Key) → stands n.tokens key ≡ true → first (is_token (name_of n.tokens key)) (map shown_token (listed it.tokens)) ≡ option_map shown_token (first (at_key key) (listed it.tokens))
+  first_token key there = first-map shown_token own_token (at_key key) (is_token (name_of n.tokens key)) (token_same key there) (listed it.tokens) own_tokens
+
   abbrev own_port : Key × Port → Bool
   own_port = is_own (λ (r : Port). r.birth) it.ports.ports
 
@@ -98,20 +116,20 @@ module _ (it : Tables) (is : AreNamed (births_of it) it) where
   pub queue_same : (key : Key) → stands n.ports key ≡ true → (row : Key × QueuedMessage) → all_pass message_refs (object_stands n) row ≡ true → is_queued (name_of n.ports key) (shown_message f row) ≡ ports.is_in key row
   queue_same key there row ok = agree row.1.queue key (grind arith) there
 
-  kind_same : (kind : WaitKind) (bytes : List ℕ) (accepted : Option Accepted) (connects b : Bool)
-      → ((elim (shown_kind kind bytes accepted) [ model.Receive ↦ true | _ ↦ false ]) || ((elim (shown_kind kind bytes accepted) [ model.Listen ↦ true | _ ↦ false ]) && connects)) && b ≡ waits.takes connects kind && b
-  kind_same wait.Request bytes accepted true b = refl
-  kind_same wait.Request bytes accepted false b = refl
-  kind_same wait.Receive bytes accepted connects b = refl
-  kind_same wait.Listen bytes accepted true b = refl
-  kind_same wait.Listen bytes accepted false b = refl
-  kind_same wait.Connect bytes None true b = refl
-  kind_same wait.Connect bytes None false b = refl
-  kind_same wait.Connect bytes (Some accepted) true b = refl
-  kind_same wait.Connect bytes (Some accepted) false b = refl
+  kind_same : (kind : WaitKind) (bytes : List ℕ) (offer : Option model.Offer) (accepted : Option Accepted) (connects b : Bool)
+      → ((elim (shown_kind kind bytes offer accepted) [ model.Receive ↦ true | _ ↦ false ]) || ((elim (shown_kind kind bytes offer accepted) [ model.Listen ↦ true | _ ↦ false ]) && connects)) && b ≡ waits.takes connects kind && b
+  kind_same wait.Request bytes offer accepted true b = refl
+  kind_same wait.Request bytes offer accepted false b = refl
+  kind_same wait.Receive bytes offer accepted connects b = refl
+  kind_same wait.Listen bytes offer accepted true b = refl
+  kind_same wait.Listen bytes offer accepted false b = refl
+  kind_same wait.Connect bytes offer None true b = refl
+  kind_same wait.Connect bytes offer None false b = refl
+  kind_same wait.Connect bytes offer (Some accepted) true b = refl
+  kind_same wait.Connect bytes offer (Some accepted) false b = refl
 
   pub taker_same : (key : Key) (connects : Bool) → stands n.ports key ≡ true → (row : WaitRow) → all_pass wait_refs (object_stands n) row ≡ true → takes_from (name_of n.ports key) connects (shown_wait f row) ≡ waits.is_taker_on key connects row
-  taker_same key connects there row ok = rw (agree row.wait.queue key (grind arith) there) (kind_same row.wait.kind row.message.items row.accepted connects (is_key row.wait.queue key))
+  taker_same key connects there row ok = rw (agree row.wait.queue key (grind arith) there) (kind_same row.wait.kind row.message.items (option_map (shown_offer f) row.offer) row.accepted connects (is_key row.wait.queue key))
 
   -- what is found
   pub first_port : (key : Key) → stands n.ports key ≡ true → first (is_port (name_of n.ports key)) (map (shown_port f) it.ports.ports) ≡ option_map (shown_port f) (first (at_key key) it.ports.ports)

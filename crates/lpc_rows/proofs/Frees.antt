@@ -19,6 +19,7 @@ use Rattle.lpc_rows.specs.Kept.{HandleRoom, Roomy, owed_rows, rows_by}
 use Rattle.lpc_rows.specs.Lawful.{AreDrawn, AreLawful, IsLawful, was_drawn, IsPromised}
 use Rattle.lpc_rows.specs.Names.{KeepsOthers, name_of, stands}
 use Rattle.lpc_rows.specs.Shown.{AllPass, AreNamed, Births, Tables, all_pass, binding_refs, birth_of, births_of, message_refs, object_stands, part_refs, port_refs, shown_binding, shown_by, shown_message, shown_part, shown_port, shown_space, shown_wait, space_refs, wait_refs}
+use Rattle.lpc_homes.specs.Parts.{has_view_with}
 use Rattle.lpc_homes.specs.declared.object.Object.{Object}
 use Rattle.lpc_homes.specs.declared.object.Object.TheVariants as object
 use Rattle.lpc_rows.proofs.Changes as changes
@@ -69,12 +70,14 @@ module _ (it : Tables) (is : AreNamed (births_of it) it) (key : Key) (room : ℕ
   stands_less (object.Process birth) there = refl
   stands_less (object.Thread birth) there = refl
   stands_less (object.Section k) there = grind arith
+  stands_less (object.Token k) there = grind arith
 
   name_less : (o : Object) → ok o ≡ true → birth_of m o ≡ birth_of n o
   name_less (object.Port k) there = rw names_less (name-without n.ports key k (grind arith))
   name_less (object.Process birth) there = refl
   name_less (object.Thread birth) there = refl
   name_less (object.Section k) there = refl
+  name_less (object.Token k) there = refl
 
   pub keeps : KeepsOthers key n.ports m.ports
   keeps = record {
@@ -82,15 +85,15 @@ module _ (it : Tables) (is : AreNamed (births_of it) it) (key : Key) (room : ℕ
     there = λ k other there. stands_less (object.Port k) (rw (there, other) refl);
   }
 
-  module _ (none : is_named_in it key ≡ false) where
+  module _ (none : is_named_in it key ≡ false) (owned : has (has_view_with key) it.parts ≡ false) where
     pass : AllPass ok it
-    pass = both_pass it (object_stands n) (is_other key) is.refs (others_pass key it none is.unowned)
+    pass = both_pass it (object_stands n) (is_other key) is.refs (others_pass key it none owned)
 
     pub freed_named : AreNamed m (record it { ports = after })
     freed_named = record {
       ports_apart = rw names_less (apart-without n.ports key is.ports_apart);
       sections_apart = is.sections_apart;
-      unowned = is.unowned;
+      tokens_apart = is.tokens_apart;
       refs = record {
         in_handles = rows_more part_refs ok (object_stands m) stands_less it.parts pass.in_handles;
         in_ports = every-without (all_pass port_refs (object_stands m)) (at_key key) it.ports.ports (rows_more port_refs ok (object_stands m) stands_less it.ports.ports pass.in_ports);
@@ -145,25 +148,25 @@ lawful-free w calls made a b c none h = record {
 }
 
 drawn-free : (w : World) (p : model.PortRow → Bool) → AreDrawn w → AreDrawn (record w { ports = without p w.ports })
-drawn-free w p h = record { threads_single = h.threads_single; threads_noted = h.threads_noted; ports_drawn = every-without (λ q. was_drawn w.used_threads w.threads q.birth) p w.ports h.ports_drawn; sections_drawn = h.sections_drawn }
+drawn-free w p h = record { threads_single = h.threads_single; threads_noted = h.threads_noted; ports_drawn = every-without (λ q. was_drawn w.used_threads w.threads q.birth) p w.ports h.ports_drawn; sections_drawn = h.sections_drawn; tokens_drawn = h.tokens_drawn }
 
-pub freed_lawful : (it : Tables) (calls made : ℕ) (key : Key) (room : ℕ) → AreLawful it calls made → stands (births_of it).ports key ≡ true → is_named_in it key ≡ false
+pub freed_lawful : (it : Tables) (calls made : ℕ) (key : Key) (room : ℕ) → AreLawful it calls made → stands (births_of it).ports key ≡ true → is_named_in it key ≡ false → has (has_view_with key) it.parts ≡ false
     → has (is_sent_on (name_of (births_of it).ports key)) (rows_by it).messages ≡ false → is_registered_port (rows_by it) (name_of (births_of it).ports key) ≡ false → AreLawful (record it { ports = record it.ports { ports = without (at_key key) it.ports.ports; port_room = room } }) calls made
-freed_lawful it calls made key room is there none unsent unregistered = record {
-  named = freed_named it is.named key room none;
-  lawful = rw (frees it is.named key room none there) (lawful-free (rows_by it) calls made it.waits.spare it.ports.message_room (name_of (births_of it).ports key) unsent is.lawful);
-  counted = record { ports_made = is.counted.ports_made; messages_made = is.counted.messages_made; waits_made = is.counted.waits_made };
+freed_lawful it calls made key room is there none owned unsent unregistered = record {
+  named = freed_named it is.named key room none owned;
+  lawful = rw (frees it is.named key room none owned there) (lawful-free (rows_by it) calls made it.waits.spare it.ports.message_room (name_of (births_of it).ports key) unsent is.lawful);
+  counted = record { ports_made = is.counted.ports_made; messages_made = is.counted.messages_made; waits_made = is.counted.waits_made; tokens_made = is.counted.tokens_made };
   registered = registered-less (births_of it) (births_of (record it { ports = record it.ports { ports = without (at_key key) it.ports.ports; port_room = room } })) key (keeps it is.named key room) it.procs.threads is.registered unregistered;
   headed = is.headed;
-  drawn = rw (frees it is.named key room none there) (drawn-free (rows_by it) (is_port (name_of (births_of it).ports key)) is.drawn);
+  drawn = rw (frees it is.named key room none owned there) (drawn-free (rows_by it) (is_port (name_of (births_of it).ports key)) is.drawn);
   born = is.born;
-  promised = subst (λ (v : World). IsPromised v.waits v.handles it.parts) (sym (frees it is.named key room none there)) is.promised;
+  promised = subst (λ (v : World). IsPromised v.waits v.handles it.parts) (sym (frees it is.named key room none owned there)) is.promised;
   mapped = is.mapped;
 }
 
 -- The room
-pub room_freed : (s : ℕ) (vs : List HandleRoom) (a b c d e g : ℕ) (w : World) (hs : List HandleRoom) (p : model.PortRow → Bool) → Roomy (room s vs a b c d e g w hs) (room s vs a b c d (e + 1) g (record w { ports = without p w.ports }) hs)
-room_freed s vs a b c d e g w hs p = let clients = count-left is_client_port p w.ports in record {
+pub room_freed : (y z s : ℕ) (vs : List HandleRoom) (a b c d e g : ℕ) (w : World) (hs : List HandleRoom) (p : model.PortRow → Bool) → Roomy (room y z s vs a b c d e g w hs) (room y z s vs a b c d (e + 1) g (record w { ports = without p w.ports }) hs)
+room_freed y z s vs a b c d e g w hs p = let clients = count-left is_client_port p w.ports in record {
   for_processes = omega arith;
   for_threads = omega arith;
   for_waits = omega arith;
@@ -171,6 +174,8 @@ room_freed s vs a b c d e g w hs p = let clients = count-left is_client_port p w
   for_ports = omega arith;
   for_names = omega arith;
   for_sections = omega arith;
+  for_tokens = omega arith;
+  for_token_names = omega arith;
   for_handles = λ pid. omega arith;
   for_views = λ pid. omega arith;
 }

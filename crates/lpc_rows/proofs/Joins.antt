@@ -39,9 +39,9 @@ clients_same k kinds (p ∷ ps) =
     let one : is_client_port (k p) ≡ is_client_port p = rw (kinds p) refl in
     grind (arith, one, clients_same k kinds ps)
 
-pub room_ports : (s : ℕ) (vs : List HandleRoom) (a b c d e g : ℕ) (w : World) (hs : List HandleRoom) (k : model.PortRow → model.PortRow) → ((p : model.PortRow) → (k p).kind ≡ p.kind)
-    → (v : World) → v.threads ≡ w.threads → v.messages ≡ w.messages → v.waits ≡ w.waits → v.ports ≡ map k w.ports → Roomy (room s vs a b c d e g w hs) (room s vs a b c d e g v hs)
-room_ports s vs a b c d e g w hs k kinds v ts ms xs ps = let clients = clients_same k kinds w.ports in rw (ts, ms, xs, ps) (record {
+pub room_ports : (y z s : ℕ) (vs : List HandleRoom) (a b c d e g : ℕ) (w : World) (hs : List HandleRoom) (k : model.PortRow → model.PortRow) → ((p : model.PortRow) → (k p).kind ≡ p.kind)
+    → (v : World) → v.threads ≡ w.threads → v.messages ≡ w.messages → v.waits ≡ w.waits → v.ports ≡ map k w.ports → Roomy (room y z s vs a b c d e g w hs) (room y z s vs a b c d e g v hs)
+room_ports y z s vs a b c d e g w hs k kinds v ts ms xs ps = let clients = clients_same k kinds w.ports in rw (ts, ms, xs, ps) (record {
   for_processes = omega arith;
   for_threads = omega arith;
   for_waits = omega arith;
@@ -49,6 +49,8 @@ room_ports s vs a b c d e g w hs k kinds v ts ms xs ps = let clients = clients_s
   for_ports = omega arith;
   for_names = omega arith;
   for_sections = omega arith;
+  for_tokens = omega arith;
+  for_token_names = omega arith;
   for_handles = λ pid. omega arith;
   for_views = λ pid. omega arith;
 })
@@ -79,6 +81,7 @@ drawn-ports w k same h = record {
   threads_noted = h.threads_noted;
   ports_drawn = every-mapped (λ p. was_drawn w.used_threads w.threads p.birth) k (λ p there. rw (same p) there) w.ports h.ports_drawn;
   sections_drawn = h.sections_drawn;
+  tokens_drawn = h.tokens_drawn;
 }
 
 -- a change of the ports' rows
@@ -95,7 +98,7 @@ module _ (change_row : Key × Port → Key × Port) (same_key : (row : Key × Po
     after = record it.ports { ports = map change_row it.ports.ports }
 
     pub births_same : births_of (record it { ports = after }) ≡ n
-    births_same = ap (λ names. record { ports = names; sections = n.sections }) (names_same it.ports.ports)
+    births_same = ap (λ names. record { ports = names; sections = n.sections; tokens = n.tokens }) (names_same it.ports.ports)
 
     module _ (k : model.PortRow → model.PortRow) (kept : (row : Key × Port) → all_pass port_refs (object_stands n) row ≡ true → all_pass port_refs (object_stands n) (change_row row) ≡ true)
         (ok : Key × Port → Bool) (all_ok : every ok it.ports.ports ≡ true) (shows : (row : Key × Port) → ok row ≡ true → shown_port (birth_of n) (change_row row) ≡ k (shown_port (birth_of n) row)) where
@@ -106,7 +109,7 @@ module _ (change_row : Key × Port → Key × Port) (same_key : (row : Key × Po
       named = rw births_same (record {
         ports_apart = is.ports_apart;
         sections_apart = is.sections_apart;
-        unowned = is.unowned;
+        tokens_apart = is.tokens_apart;
         refs = record {
           in_handles = is.refs.in_handles;
           in_ports = every-mapped (all_pass port_refs (object_stands n)) change_row kept it.ports.ports is.refs.in_ports;
@@ -121,7 +124,7 @@ module _ (change_row : Key × Port → Key × Port) (same_key : (row : Key × Po
       lawful calls made all same kinds = record {
         named = named;
         lawful = rw changes (lawful-ports (rows_by it) calls made it.waits.spare it.ports.message_room k same kinds all.lawful);
-        counted = record { ports_made = all.counted.ports_made; messages_made = all.counted.messages_made; waits_made = all.counted.waits_made };
+        counted = record { ports_made = all.counted.ports_made; messages_made = all.counted.messages_made; waits_made = all.counted.waits_made; tokens_made = all.counted.tokens_made };
         registered = rw births_same all.registered;
         headed = all.headed;
         drawn = rw changes (drawn-ports (rows_by it) k same all.drawn);
@@ -137,7 +140,7 @@ module _ (change_row : Key × Port → Key × Port) (same_key : (row : Key × Po
       all_after = record it { ports = after }
 
       pub roomy : (places : ℕ) → ((p : model.PortRow) → (k p).kind ≡ p.kind) → Roomy (room_by (rows_by it) it places) (room_by (rows_by all_after) all_after places)
-      roomy places kinds = room_ports _ _ _ _ _ _ _ _ (rows_by it) _ k kinds (rows_by all_after) (ap (λ (v : World). v.threads) changes) (ap (λ (v : World). v.messages) changes) (ap (λ (v : World). v.waits) changes) (ap (λ (v : World). v.ports) changes)
+      roomy places kinds = room_ports _ _ _ _ _ _ _ _ _ _ (rows_by it) _ k kinds (rows_by all_after) (ap (λ (v : World). v.threads) changes) (ap (λ (v : World). v.messages) changes) (ap (λ (v : World). v.waits) changes) (ap (λ (v : World). v.ports) changes)
 
 -- the row of a key, changed
 abbrev pub at_row : Key → (Port → Port) → Key × Port → Key × Port

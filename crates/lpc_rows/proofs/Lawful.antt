@@ -166,6 +166,27 @@ module _ (f : ThreadRow → ThreadRow) (same : (t : ThreadRow) → (f t).number 
     messages_fit = rw (alive-change f lives who w.threads, registered-change f kept who w.threads) h.messages_fit;
   }
 
+  -- a thread that changes, and draws nothing
+  pub lawful-changed : (w : World) (calls made a b who : ℕ) → IsLawful w calls made a b → every (draws_at_most (made + 1)) (change (is_thread who) f w.threads) ≡ true
+      → IsLawful (record w { threads = change (is_thread who) f w.threads }) calls made a b
+  lawful-changed w calls made a b who h draws = record {
+    few = h.few;
+    budget = rw (registered-change f kept who w.threads) h.budget;
+    rows = grind (arith, h.rows, length-change (is_thread who) f w.threads);
+    draws = draws;
+    housed = housed-drawn w who w.threads (record w { threads = change (is_thread who) f w.threads }) refl refl h.housed;
+    tables_used = h.tables_used;
+    tables_single = h.tables_single;
+    tables_few = h.tables_few;
+    single = h.single;
+    threads = of-change f same lives who w.threads w.waits h.threads;
+    quiet = h.quiet;
+    own = h.own;
+    told = h.told;
+    waits_fit = rw (alive-change f lives who w.threads) h.waits_fit;
+    messages_fit = rw (alive-change f lives who w.threads, registered-change f kept who w.threads) h.messages_fit;
+  }
+
 pub lawful-identifier : (w : World) (calls made a b who : ℕ) → IsLawful w calls made a b → made + owed_rows w < 16 * calls
     → IsLawful (record w { threads = change (is_thread who) past_identifier w.threads }) calls (made + 1) a b
 lawful-identifier w calls made a b who h lt = lawful-drawn past_identifier (λ t. refl) (λ t. refl) (λ t. refl) (λ t. refl) w calls made a b who h lt (draws-identifiers (made + 1) who w.threads h.draws)

@@ -25,7 +25,9 @@ pub mod Enrolling
 pub mod Born
 pub mod Joins
 pub mod Accepts
+pub mod Offering
 pub mod Pulls
+pub mod ShownViews
 pub mod Unheld
 pub mod Frees
 pub mod ReceivesAt
@@ -48,3 +50,9 @@ pub mod RoomedViews
 pub mod MappedViews
 pub mod UnmappedViews
 pub mod WrittenViews
+pub mod Acting
+pub mod FoundTokens
+pub mod NamedTokens
+pub mod Secured
+pub mod Tokens
+pub mod TokenFrees

@@ -1,5 +1,5 @@
 -- A port more: what stood stands under its name, and the new rows are the step of the rows that the tables stood for.
-use Rattle.std.proofs.Common.{◌≡◌, ◌+◌, ◌-◌, ◌∙◌, ℕ, List, [], ◌∷◌, ◌++◌, Bool, true, false, map, Option, Some, None, refl, ap, arith}
+use Rattle.std.proofs.Common.{◌≡◌, ◌+◌, ◌-◌, ◌∙◌, ℕ, List, [], ◌∷◌, ◌++◌, Bool, true, false, map, Option, Some, None, option_map, refl, ap, arith}
 use Rattle.lpc_base.specs.declared.birth.Birth.{Birth}
 use Rattle.lpc_base.specs.Rows.{each, every, first}
 use Rattle.lpc_base.proofs.RowWords.{every-back, every-front, every-more, every-push}
@@ -17,9 +17,13 @@ use Rattle.std.proofs.lemmas.Bool.Decides.{nat_tests}
 use Rattle.lpc_slots.specs.Table.{at_key}
 use Rattle.lpc_slots.specs.declared.Key.{Key}
 use Rattle.lpc_views.specs.declared.view.View.{View}
+use Rattle.lpc_waits.specs.declared.Accepted.{Accepted}
+use Rattle.lpc_waits.specs.declared.Offer.{Offer}
+use Rattle.lpc_waits.specs.declared.WaitKind.{WaitKind}
+use Rattle.lpc_waits.specs.declared.WaitKind.TheVariants as wait
 use Rattle.lpc_waits.specs.declared.WaitRow.{WaitRow}
 use Rattle.lpc_rows.specs.Names.{KeepsNames, Names, name_of, names_of, some_stands, stands}
-use Rattle.lpc_rows.specs.Shown.{Tables, AreNamed, Births, all_pass, binding_refs, birth_in, birth_of, births_of, message_refs, name_by, node_refs, object_stands, part_refs, port_refs, ports_in, shown_binding, shown_by, shown_handle, shown_message, shown_node, shown_part, shown_port, shown_space, shown_view, shown_wait, space_refs, view_refs, wait_refs}
+use Rattle.lpc_rows.specs.Shown.{Tables, AreNamed, Births, all_pass, binding_refs, birth_in, birth_of, births_of, call_of_wait, message_refs, name_by, node_refs, object_stands, offer_refs, section_in, shown_connect, shown_kind, shown_offer, part_refs, port_refs, ports_in, shown_binding, shown_by, shown_handle, shown_message, shown_node, shown_part, shown_port, shown_space, shown_view, shown_wait, space_refs, view_refs, wait_refs}
 use Rattle.lpc_homes.specs.declared.object.Object.{Object}
 use Rattle.lpc_homes.specs.declared.object.Object.TheVariants as object
 use Rattle.lpc_homes.specs.declared.parts.Part.{Part}
@@ -56,8 +60,34 @@ module _ (ok : Object → Bool) (f g : Object → Birth) (same : (o : Object) �
   message_shape : (row : Key × QueuedMessage) → every ok (message_refs row) ≡ true → shown_message f row ≡ shown_message g row
   message_shape row all = rw (same (object.Port row.1.queue) (grind arith), same (object.Port row.1.message.sender) (grind arith)) refl
 
+  offer_shape : (o : Option Offer) → every ok (section_in o) ≡ true → option_map (shown_offer f) o ≡ option_map (shown_offer g) o
+  offer_shape None all = refl
+  offer_shape (Some o) all = ap (λ b. Some (record { section = b; offset = o.offset; size = o.size })) (same (object.Section o.section) (every_first ok (object.Section o.section) [] all))
+
+  kind_shape : (kind : WaitKind) (bytes : List ℕ) (o : Option Offer) (a : Option Accepted) → every ok (offer_refs kind o a) ≡ true → shown_kind kind bytes (option_map (shown_offer f) o) a ≡ shown_kind kind bytes (option_map (shown_offer g) o) a
+  kind_shape wait.Request bytes o a all = refl
+  kind_shape wait.Receive bytes o a all = refl
+  kind_shape wait.Listen bytes o a all = refl
+  kind_shape wait.Connect bytes o None all = ap (λ offer. shown_connect bytes offer None) (offer_shape o all)
+  kind_shape wait.Connect bytes o (Some a) all = refl
+
   wait_shape : (row : WaitRow) → every ok (wait_refs row) ≡ true → shown_wait f row ≡ shown_wait g row
-  wait_shape row all = rw (same (object.Port row.wait.port) (grind arith), same (object.Port row.wait.queue) (grind arith)) refl
+  wait_shape row all =
+      let offered = offer_refs row.wait.kind row.offer row.accepted in
+      let queue_on = every_later ok (object.Port row.wait.port) (object.Port row.wait.queue ∷ offered) all in
+      let port = same (object.Port row.wait.port) (every_first ok (object.Port row.wait.port) (object.Port row.wait.queue ∷ offered) all) in
+      let queue = same (object.Port row.wait.queue) (every_first ok (object.Port row.wait.queue) offered queue_on) in
+      let kind = kind_shape row.wait.kind row.message.items row.offer row.accepted (every_later ok (object.Port row.wait.queue) offered queue_on) in
+      λ i. record {
+        call = call_of_wait row.wait.kind;
+        thread = row.thread;
+        process = row.wait.process;
+        kind = kind i;
+        port = port i;
+        queue = queue i;
+        identifier = row.wait.identifier;
+        received = row.wait.received;
+      }
 
   node_shape : (node : Node Key) → every ok (node_refs node) ≡ true → shown_node f node ≡ shown_node g node
   node_shape (LinkTo target) all = refl
@@ -130,12 +160,14 @@ module _ (it : Tables) (is : AreNamed (births_of it) it) (key : Key) (row : Port
   stands_more (object.Process birth) there = refl
   stands_more (object.Thread birth) there = refl
   stands_more (object.Section k) there = there
+  stands_more (object.Token k) there = there
 
   name_more : (o : Object) → object_stands n o ≡ true → birth_of m o ≡ birth_of n o
   name_more (object.Port k) there = rw names_push (name-push n.ports key row.birth k there)
   name_more (object.Process birth) there = refl
   name_more (object.Thread birth) there = refl
   name_more (object.Section k) there = refl
+  name_more (object.Token k) there = refl
 
   pub keeps : KeepsNames n.ports m.ports
   keeps = record { name = λ k there. name_more (object.Port k) there; there = λ k there. stands_more (object.Port k) there }
@@ -156,7 +188,7 @@ module _ (it : Tables) (is : AreNamed (births_of it) it) (key : Key) (row : Port
     made_named fresh refs = record {
       ports_apart = rw names_push (apart-push n.ports key row.birth is.ports_apart absent (other_births it.ports.ports fresh));
       sections_apart = is.sections_apart;
-      unowned = is.unowned;
+      tokens_apart = is.tokens_apart;
       refs = record {
         in_handles = rows_more part_refs (object_stands n) (object_stands m) stands_more it.parts is.refs.in_handles;
         in_ports = every-push (all_pass port_refs (object_stands m)) it.ports.ports (key, row) (rows_more port_refs (object_stands n) (object_stands m) stands_more it.ports.ports is.refs.in_ports) (every-more (object_stands n) (object_stands m) stands_more (port_refs (key, row)) refs);

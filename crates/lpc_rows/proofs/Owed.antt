@@ -120,6 +120,7 @@ module _ (it : Tables) (is : AreNamed (births_of it) it) (b : Birth) (fresh : fi
       named (object.Process birth) stand = refl
       named (object.Thread birth) stand = refl
       named (object.Section key) stand = refl
+      named (object.Token key) stand = refl
 
   rows-off : (hs : List (ℕ × Row Object)) → every (object_stands (births_of it)) (map (λ row. row.1.object) hs) ≡ true → has (λ h. names_port b h.object) (map (shown_handle f) hs) ≡ false
   rows-off [] all = refl

@@ -37,9 +37,9 @@ use Rattle.lpc_rows.proofs.Rooms.{room}
 use Rattle.lpc_rows.specs.Kept.{HandleRoom}
 
 -- the room that a message leaves which is taken
-room_taken : (s : ℕ) (vs : List HandleRoom) (a b c d e g : ℕ) (w : World) (hs : List HandleRoom) (p : model.MessageRow → Bool) (m : model.MessageRow) → first p w.messages ≡ Some m → (v : World) → v.threads ≡ w.threads → v.waits ≡ w.waits → v.ports ≡ w.ports → v.messages ≡ without_first p w.messages
-    → Roomy (room s vs a b c d e g w hs) (room s vs a b c (d + 1) e g v hs)
-room_taken s vs a b c d e g w hs p m at v ts xs ps ms =
+room_taken : (y z s : ℕ) (vs : List HandleRoom) (a b c d e g : ℕ) (w : World) (hs : List HandleRoom) (p : model.MessageRow → Bool) (m : model.MessageRow) → first p w.messages ≡ Some m → (v : World) → v.threads ≡ w.threads → v.waits ≡ w.waits → v.ports ≡ w.ports → v.messages ≡ without_first p w.messages
+    → Roomy (room y z s vs a b c d e g w hs) (room y z s vs a b c (d + 1) e g v hs)
+room_taken y z s vs a b c d e g w hs p m at v ts xs ps ms =
     let less = lawful.owed-taken p w m at in
     rw (ts, xs, ps, ms) (record {
       for_processes = omega arith;
@@ -49,6 +49,8 @@ room_taken s vs a b c d e g w hs p m at v ts xs ps ms =
       for_ports = omega arith;
       for_names = omega arith;
       for_sections = omega arith;
+      for_tokens = omega arith;
+      for_token_names = omega arith;
       for_handles = λ pid. omega arith;
       for_views = λ pid. omega arith;
     })
@@ -141,7 +143,7 @@ module _ (it : Tables) (calls made : ℕ) (is : AreLawful it calls made) (queue 
   pulled_named = record {
     ports_apart = is.named.ports_apart;
     sections_apart = is.named.sections_apart;
-    unowned = is.named.unowned;
+    tokens_apart = is.named.tokens_apart;
     refs = record {
       in_handles = is.named.refs.in_handles;
       in_ports = is.named.refs.in_ports;
@@ -160,17 +162,17 @@ module _ (it : Tables) (calls made : ℕ) (is : AreLawful it calls made) (queue 
     pulled_lawful = record {
       named = pulled_named;
       lawful = rw pulls (lawful.lawful-take rows calls made it.waits.spare it.ports.message_room in_rows m at is.lawful);
-      counted = record { ports_made = is.counted.ports_made; messages_made = is.counted.messages_made; waits_made = is.counted.waits_made };
+      counted = record { ports_made = is.counted.ports_made; messages_made = is.counted.messages_made; waits_made = is.counted.waits_made; tokens_made = is.counted.tokens_made };
       registered = is.registered;
       mapped = is.mapped;
       headed = every-without_first has_header in_table it.ports.messages is.headed;
-      drawn = drawn.same-drawn rows _ refl refl refl refl is.drawn;
+      drawn = drawn.same-drawn rows _ refl refl refl refl refl is.drawn;
       born = is.born;
       promised = is.promised;
     }
 
     pub pulled_room : (places : ℕ) → Roomy (room_by rows it places) (room_by (rows_by after) after places)
-    pulled_room places = room_taken _ _ _ _ _ _ _ _ rows _ in_rows m at (rows_by after) refl refl refl (ap (λ (v : World). v.messages) pulls)
+    pulled_room places = room_taken _ _ _ _ _ _ _ _ _ _ rows _ in_rows m at (rows_by after) refl refl refl (ap (λ (v : World). v.messages) pulls)
 
     pub pulled_left : HasLeft (rows_by after) m.message
     pulled_left = subst (λ (v : World). HasLeft v m.message) (sym pulls) (left-pulled in_rows rows m is.lawful.own is.lawful.single at)

@@ -15,7 +15,7 @@ use Rattle.lpc_message.specs.declared.kind.TheConstants.{DATAGRAM}
 use Rattle.lpc_model.specs.World as model
 use Rattle.lpc_model.specs.Closings.{is_closed_post}
 use Rattle.lpc_model.specs.Found as found
-use Rattle.lpc_model.specs.Found.{is_port, is_space, is_table, port_row, same_object, section_row, waits_as}
+use Rattle.lpc_model.specs.Found.{is_port, is_space, is_table, port_row, same_object, section_row, token_row, waits_as}
 use Rattle.lpc_model.specs.Tests.{handle_row}
 use Rattle.lpc_ports.specs.Table as ports
 use Rattle.lpc_ports.specs.Table.{QueuedMessage, row_at}
@@ -24,6 +24,7 @@ use Rattle.lpc_sections.specs.Sections.{SectionRow}
 use Rattle.lpc_slots.specs.Table.{at, at_key, listed}
 use Rattle.lpc_slots.specs.declared.Key.{Key}
 use Rattle.lpc_slots.proofs.Same.{at_first}
+use Rattle.lpc_tokens.specs.declared.token_row.TokenRow.{TokenRow}
 use Rattle.lpc_views.specs.Views.{holds as holds_range, view_of}
 use Rattle.lpc_views.specs.declared.view.View.{View}
 use Rattle.lpc_waits.specs.Table as waits
@@ -37,7 +38,7 @@ use Rattle.lpc_rows.specs.Names.{name_of, names_of, some_stands, stands}
 use Rattle.lpc_rows.specs.Kept.{Kept, is_asking, kept_by, rows_by}
 use Rattle.lpc_homes.specs.Parts.{has_name_of, is_object, is_part, names_it, rows_at, rows_in, views_at, views_in}
 use Rattle.lpc_rows.specs.Ready.{HasRow, IsStanding, IsWait, port_in, port_of, wait_in, waiter}
-use Rattle.lpc_rows.specs.Shown.{Tables, AreNamed, Births, all_pass, birth_of, births_of, message_refs, name_by, object_stands, part_refs, port_refs, ports_in, shown_handle, shown_kind, shown_message, shown_content, shown_part, shown_port, shown_section, shown_space, shown_view, shown_wait, wait_refs}
+use Rattle.lpc_rows.specs.Shown.{Tables, AreNamed, Births, all_pass, birth_of, births_of, message_refs, name_by, object_stands, offer_refs, part_refs, port_refs, ports_in, shown_handle, shown_kind, shown_message, shown_content, shown_offer, shown_part, shown_port, shown_section, shown_space, shown_token, shown_view, shown_wait, wait_refs}
 use Rattle.lpc_homes.specs.declared.object.Object.{Object}
 use Rattle.lpc_homes.specs.declared.object.Object.TheVariants as object
 use Rattle.lpc_homes.specs.declared.parts.Part.{Part}
@@ -96,15 +97,19 @@ pair_stands n None (Some b) all = (refl, grind arith)
 pair_stands n (Some a) None all = (grind arith, refl)
 pair_stands n (Some a) (Some b) all = (grind arith, grind arith)
 
-request_is : (kind : WaitKind) (bytes : List ℕ) (accepted : Option Accepted) → (elim (shown_kind kind bytes accepted) [ model.Request m ↦ true | _ ↦ false ]) ≡ waits.is_request kind
-request_is wait.Connect bytes None = refl
-request_is wait.Connect bytes (Some accepted) = refl
-request_is b bytes accepted = refl
+-- the first two of some objects pass where all do
+pub first_two : (ok : Object → Bool) (a b : Object) (rest : List Object) → every ok (a ∷ b ∷ rest) ≡ true → every ok (a ∷ b ∷ []) ≡ true
+first_two ok a b rest all = grind arith
 
-listen_is : (kind : WaitKind) (bytes : List ℕ) (accepted : Option Accepted) → (elim (shown_kind kind bytes accepted) [ model.Listen ↦ true | _ ↦ false ]) ≡ waits.is_listen kind
-listen_is wait.Connect bytes None = refl
-listen_is wait.Connect bytes (Some accepted) = refl
-listen_is b bytes accepted = refl
+request_is : (kind : WaitKind) (bytes : List ℕ) (offer : Option model.Offer) (accepted : Option Accepted) → (elim (shown_kind kind bytes offer accepted) [ model.Request m ↦ true | _ ↦ false ]) ≡ waits.is_request kind
+request_is wait.Connect bytes offer None = refl
+request_is wait.Connect bytes offer (Some accepted) = refl
+request_is b bytes offer accepted = refl
+
+listen_is : (kind : WaitKind) (bytes : List ℕ) (offer : Option model.Offer) (accepted : Option Accepted) → (elim (shown_kind kind bytes offer accepted) [ model.Listen ↦ true | _ ↦ false ]) ≡ waits.is_listen kind
+listen_is wait.Connect bytes offer None = refl
+listen_is wait.Connect bytes offer (Some accepted) = refl
+listen_is b bytes offer accepted = refl
 
 module _ (it : Tables) (is : AreNamed (births_of it) it) where
   abbrev n : Births
@@ -154,6 +159,14 @@ module _ (it : Tables) (is : AreNamed (births_of it) it) where
       mapped None is' some = absurd (cc)
       mapped (Some row) is' some = rw is' refl
 
+  -- so is a token
+  pub token_there : (key : Key) → stands n.tokens key ≡ true → IsSome (token_row rows (name_of n.tokens key))
+  token_there key stand = mapped (first (at_key key) (listed it.tokens)) (follows.first_token it is key stand) (row_listed (λ (t : TokenRow). t.birth) (listed it.tokens) key stand)
+    where
+      mapped : (o : Option (Key × TokenRow)) → token_row rows (name_of n.tokens key) ≡ option_map shown_token o → is_some o ≡ true → IsSome (token_row rows (name_of n.tokens key))
+      mapped None is' some = absurd (cc)
+      mapped (Some row) is' some = rw is' refl
+
   -- what stands is found under its name
   module _ (places calls made : ℕ) (loose : Bool) where
     abbrev k : Kept
@@ -173,6 +186,7 @@ module _ (it : Tables) (is : AreNamed (births_of it) it) where
     has_row (object.Process birth) stand = tt
     has_row (object.Thread birth) stand = tt
     has_row (object.Section key) stand = section_there key stand
+    has_row (object.Token key) stand = token_there key stand
 
     pub rows_of : (o : Option (Row Object)) → IfSome o (λ row. object_stands n row.object ≡ true) → IfSome o (λ row. HasRow k row.object)
     rows_of None stand = tt
@@ -204,16 +218,17 @@ module _ (it : Tables) (is : AreNamed (births_of it) it) where
   pub is_wait : (places calls made : ℕ) (loose : Bool) (tid : ℕ) (x : Wait) → option_map (λ row. row.wait) (row_of it.waits tid) ≡ Some x → IsWait (kept_by it places calls made loose) tid x
   is_wait places calls made loose tid x at =
       let held = holds (λ (r : WaitRow). r.wait) (row_of it.waits tid) x at in
-      let same : waiter rows tid ≡ shown_wait f (record { thread = held.row.thread; wait = x; message = held.row.message; accepted = held.row.accepted }) =
-      wait_is tid held.row held.found ∙ ap (λ (v : Wait). shown_wait f (record { thread = held.row.thread; wait = v; message = held.row.message; accepted = held.row.accepted })) held.is in
+      let same : waiter rows tid ≡ shown_wait f (record { thread = held.row.thread; wait = x; message = held.row.message; offer = held.row.offer; accepted = held.row.accepted }) =
+      wait_is tid held.row held.found ∙ ap (λ (v : Wait). shown_wait f (record { thread = held.row.thread; wait = v; message = held.row.message; offer = held.row.offer; accepted = held.row.accepted })) held.is in
       let stand : every (object_stands n) (object.Port x.port ∷ object.Port x.queue ∷ []) ≡ true =
-      sym (ap (λ (v : Wait). every (object_stands n) (object.Port v.port ∷ object.Port v.queue ∷ [])) held.is) ∙ every-first (all_pass wait_refs (object_stands n)) (waits.is_of tid) it.waits.rows held.row is.refs.in_waits held.found in
+      sym (ap (λ (v : Wait). every (object_stands n) (object.Port v.port ∷ object.Port v.queue ∷ [])) held.is)
+      ∙ first_two (object_stands n) (object.Port held.row.wait.port) (object.Port held.row.wait.queue) (offer_refs held.row.wait.kind held.row.offer held.row.accepted) (every-first (all_pass wait_refs (object_stands n)) (waits.is_of tid) it.waits.rows held.row is.refs.in_waits held.found) in
       record {
         thread = ap (λ (y : model.WaitRow). y.thread) same ∙ eqb-true held.row.thread tid (first-passes (waits.is_of tid) it.waits.rows held.row held.found);
         call = ap (λ (y : model.WaitRow). y.call) same;
         process = ap (λ (y : model.WaitRow). y.process) same;
-        request = ap (λ (y : model.WaitRow). found.is_request y) same ∙ request_is x.kind held.row.message.items held.row.accepted;
-        listen = ap (λ (y : model.WaitRow). found.is_listen y) same ∙ listen_is x.kind held.row.message.items held.row.accepted;
+        request = ap (λ (y : model.WaitRow). found.is_request y) same ∙ request_is x.kind held.row.message.items (option_map (shown_offer f) held.row.offer) held.row.accepted;
+        listen = ap (λ (y : model.WaitRow). found.is_listen y) same ∙ listen_is x.kind held.row.message.items (option_map (shown_offer f) held.row.offer) held.row.accepted;
         port = ap (λ (y : model.WaitRow). y.port) same;
         queue = ap (λ (y : model.WaitRow). y.queue) same;
         identifier = ap (λ (y : model.WaitRow). y.identifier) same;
@@ -304,6 +319,15 @@ module _ (it : Tables) (is : AreNamed (births_of it) it) where
   object_same (object.Section key) one (object.Process birth) two = refl
   object_same (object.Section key) one (object.Thread birth) two = refl
   object_same (object.Section key) one (object.Section other) two = follows.agree_section it is other key two one
+  object_same (object.Port key) one (object.Token other) two = refl
+  object_same (object.Process birth) one (object.Token other) two = refl
+  object_same (object.Thread birth) one (object.Token other) two = refl
+  object_same (object.Section key) one (object.Token other) two = refl
+  object_same (object.Token key) one (object.Port other) two = refl
+  object_same (object.Token key) one (object.Process birth) two = refl
+  object_same (object.Token key) one (object.Thread birth) two = refl
+  object_same (object.Token key) one (object.Section other) two = refl
+  object_same (object.Token key) one (object.Token other) two = follows.agree_token it is other key two one
 
   pub named_same : (o : Object) → object_stands n o ≡ true → (row : ℕ × Row Object) → object_stands n row.1.object ≡ true → same_object (name_by f row.1.object) (name_by f o) ≡ names_it o row
   named_same o stand row ok = object_same o stand row.1.object ok

@@ -16,8 +16,8 @@ use Rattle.lpc_rows.proofs.Lawful.{owed-port, owed-taken, owed-withdrawn}
 use Rattle.lpc_rows.proofs.Registered.{registered-push}
 
 -- the room by its numbers
-abbrev pub room : ℕ → List HandleRoom → ℕ → ℕ → ℕ → ℕ → ℕ → ℕ → World → List HandleRoom → Room
-room sections views processes threads waits messages ports names w handles = record {
+abbrev pub room : ℕ → ℕ → ℕ → List HandleRoom → ℕ → ℕ → ℕ → ℕ → ℕ → ℕ → World → List HandleRoom → Room
+room tokens token_names sections views processes threads waits messages ports names w handles = record {
   processes = processes;
   threads = threads;
   waits = waits - owed_waits w;
@@ -25,6 +25,8 @@ room sections views processes threads waits messages ports names w handles = rec
   ports = ports;
   names = names;
   sections = sections;
+  tokens = tokens;
+  token_names = token_names;
   handles = handles;
   views = views;
 }
@@ -34,8 +36,8 @@ pub handles_more : (rooms : List HandleRoom) (r : HandleRoom) (pid : ℕ) → ro
 handles_more [] r pid = grind arith
 handles_more (s ∷ rooms) r pid = grind (arith, handles_more rooms r pid)
 
-module _ (s : ℕ) (vs : List HandleRoom) (a b c d e g : ℕ) (w : World) (hs : List HandleRoom) where
-  pub room_threads : (ts : List ThreadRow) → count is_alive ts ≡ count is_alive w.threads → each (λ t. t.registrations) ts ≡ registered_ports w → Roomy (room s vs a b c d e g w hs) (room s vs a b c d e g (record w { threads = ts }) hs)
+module _ (y z s : ℕ) (vs : List HandleRoom) (a b c d e g : ℕ) (w : World) (hs : List HandleRoom) where
+  pub room_threads : (ts : List ThreadRow) → count is_alive ts ≡ count is_alive w.threads → each (λ t. t.registrations) ts ≡ registered_ports w → Roomy (room y z s vs a b c d e g w hs) (room y z s vs a b c d e g (record w { threads = ts }) hs)
   room_threads ts same kept = let owed = ap length kept in record {
     for_processes = omega arith;
     for_threads = omega arith;
@@ -44,12 +46,14 @@ module _ (s : ℕ) (vs : List HandleRoom) (a b c d e g : ℕ) (w : World) (hs : 
     for_ports = omega arith;
     for_names = omega arith;
     for_sections = omega arith;
+    for_tokens = omega arith;
+    for_token_names = omega arith;
     for_handles = λ pid. omega arith;
     for_views = λ pid. omega arith;
   }
 
   pub room_process : (v : World) (less : ℕ) (r q : HandleRoom) → v.threads ≡ w.threads → v.waits ≡ w.waits → v.messages ≡ w.messages → v.ports ≡ w.ports → a ≤ less + 1
-      → Roomy (room s vs a b c d e g w hs) (record (room s (vs ++ q ∷ []) less b c d e g v (hs ++ r ∷ [])) { processes = less + 1 })
+      → Roomy (room y z s vs a b c d e g w hs) (record (room y z s (vs ++ q ∷ []) less b c d e g v (hs ++ r ∷ [])) { processes = less + 1 })
   room_process v less r q ts ws ms ps le = rw (ts, ws, ms, ps) (record {
     for_processes = le;
     for_threads = omega arith;
@@ -58,12 +62,14 @@ module _ (s : ℕ) (vs : List HandleRoom) (a b c d e g : ℕ) (w : World) (hs : 
     for_ports = omega arith;
     for_names = omega arith;
     for_sections = omega arith;
+    for_tokens = omega arith;
+    for_token_names = omega arith;
     for_handles = handles_more hs r;
     for_views = handles_more vs q;
   })
 
   pub room_thread : (v : World) (t : ThreadRow) → t.registrations ≡ [] → v.threads ≡ w.threads ++ t ∷ [] → v.waits ≡ w.waits → v.messages ≡ w.messages → v.ports ≡ w.ports
-      → let after = room s vs a (b - 1) c d e g v hs in Roomy (room s vs a b c d e g w hs) (record after { threads = after.threads + 1; waits = after.waits + 1; messages = after.messages + 1 })
+      → let after = room y z s vs a (b - 1) c d e g v hs in Roomy (room y z s vs a b c d e g w hs) (record after { threads = after.threads + 1; waits = after.waits + 1; messages = after.messages + 1 })
   room_thread v t none ts ws ms ps = rw (ts, ws, ms, ps) (let more = count-push is_alive w.threads t in let one = at-most-one (is_alive t) in let owed = ap length (registered-push w.threads t none) in record {
     for_processes = omega arith;
     for_threads = omega arith;
@@ -72,11 +78,13 @@ module _ (s : ℕ) (vs : List HandleRoom) (a b c d e g : ℕ) (w : World) (hs : 
     for_ports = omega arith;
     for_names = omega arith;
     for_sections = omega arith;
+    for_tokens = omega arith;
+    for_token_names = omega arith;
     for_handles = λ pid. omega arith;
     for_views = λ pid. omega arith;
   })
 
-  pub room_port : (p : PortRow) → let after = room s vs a b c d (e - 1) g (record w { ports = w.ports ++ p ∷ [] }) hs in Roomy (room s vs a b c d e g w hs) (record after { ports = after.ports + 1; messages = after.messages + closing_places p.kind })
+  pub room_port : (p : PortRow) → let after = room y z s vs a b c d (e - 1) g (record w { ports = w.ports ++ p ∷ [] }) hs in Roomy (room y z s vs a b c d e g w hs) (record after { ports = after.ports + 1; messages = after.messages + closing_places p.kind })
   room_port p = let more = owed-port w p in record {
     for_processes = omega arith;
     for_threads = omega arith;
@@ -85,11 +93,13 @@ module _ (s : ℕ) (vs : List HandleRoom) (a b c d e g : ℕ) (w : World) (hs : 
     for_ports = omega arith;
     for_names = omega arith;
     for_sections = omega arith;
+    for_tokens = omega arith;
+    for_token_names = omega arith;
     for_handles = λ pid. omega arith;
     for_views = λ pid. omega arith;
   }
 
-  pub room_enter : (m : MessageRow) → let after = room s vs a b c (d - 1) e g (record w { messages = w.messages ++ m ∷ [] }) hs in Roomy (room s vs a b c d e g w hs) (record after { messages = after.messages + 1 })
+  pub room_enter : (m : MessageRow) → let after = room y z s vs a b c (d - 1) e g (record w { messages = w.messages ++ m ∷ [] }) hs in Roomy (room y z s vs a b c d e g w hs) (record after { messages = after.messages + 1 })
   room_enter m =
       let asked = count-push is_asking w.messages m in
       let told = count-push is_closed_post w.messages m in
@@ -101,11 +111,13 @@ module _ (s : ℕ) (vs : List HandleRoom) (a b c d e g : ℕ) (w : World) (hs : 
         for_ports = omega arith;
         for_names = omega arith;
         for_sections = omega arith;
+        for_tokens = omega arith;
+        for_token_names = omega arith;
         for_handles = λ pid. omega arith;
         for_views = λ pid. omega arith;
       }
 
-  pub room_take : (q : Birth) (m : MessageRow) → first (is_queued q) w.messages ≡ Some m → Roomy (room s vs a b c d e g w hs) (room s vs a b c (d + 1) e g (record w { messages = without_first (is_queued q) w.messages }) hs)
+  pub room_take : (q : Birth) (m : MessageRow) → first (is_queued q) w.messages ≡ Some m → Roomy (room y z s vs a b c d e g w hs) (room y z s vs a b c (d + 1) e g (record w { messages = without_first (is_queued q) w.messages }) hs)
   room_take q m at =
       let less = owed-taken (is_queued q) w m at in
       record {
@@ -116,11 +128,13 @@ module _ (s : ℕ) (vs : List HandleRoom) (a b c d e g : ℕ) (w : World) (hs : 
         for_ports = omega arith;
         for_names = omega arith;
         for_sections = omega arith;
+        for_tokens = omega arith;
+        for_token_names = omega arith;
         for_handles = λ pid. omega arith;
         for_views = λ pid. omega arith;
       }
 
-  pub room_withdraw : (p : MessageRow → Bool) → Roomy (room s vs a b c d e g w hs) (room s vs a b c (d + count p w.messages) e g (record w { messages = without p w.messages }) hs)
+  pub room_withdraw : (p : MessageRow → Bool) → Roomy (room y z s vs a b c d e g w hs) (room y z s vs a b c (d + count p w.messages) e g (record w { messages = without p w.messages }) hs)
   room_withdraw p = let less = owed-withdrawn p w in record {
     for_processes = omega arith;
     for_threads = omega arith;
@@ -129,11 +143,13 @@ module _ (s : ℕ) (vs : List HandleRoom) (a b c d e g : ℕ) (w : World) (hs : 
     for_ports = omega arith;
     for_names = omega arith;
     for_sections = omega arith;
+    for_tokens = omega arith;
+    for_token_names = omega arith;
     for_handles = λ pid. omega arith;
     for_views = λ pid. omega arith;
   }
 
-  pub room_wait : (x : WaitRow) → length w.waits < count is_alive w.threads → Roomy (room s vs a b c d e g w hs) (room s vs a b (c - 1) d e g (record w { waits = w.waits ++ x ∷ [] }) hs)
+  pub room_wait : (x : WaitRow) → length w.waits < count is_alive w.threads → Roomy (room y z s vs a b c d e g w hs) (room y z s vs a b (c - 1) d e g (record w { waits = w.waits ++ x ∷ [] }) hs)
   room_wait x place =
       let more = length_push w.waits x in
       record {
@@ -144,11 +160,13 @@ module _ (s : ℕ) (vs : List HandleRoom) (a b c d e g : ℕ) (w : World) (hs : 
         for_ports = omega arith;
         for_names = omega arith;
         for_sections = omega arith;
+        for_tokens = omega arith;
+        for_token_names = omega arith;
         for_handles = λ pid. omega arith;
         for_views = λ pid. omega arith;
       }
 
-  pub room_end : (who : ℕ) → are_single w.waits ≡ true → Roomy (room s vs a b c d e g w hs) (room s vs a b (cond (has (waits_as who) w.waits) (c + 1) c) d e g (record w { waits = without (waits_as who) w.waits }) hs)
+  pub room_end : (who : ℕ) → are_single w.waits ≡ true → Roomy (room y z s vs a b c d e g w hs) (room y z s vs a b (cond (has (waits_as who) w.waits) (c + 1) c) d e g (record w { waits = without (waits_as who) w.waits }) hs)
   room_end who one =
       let less = length-ended (λ (x : WaitRow). x.thread) who w.waits one in
       record {
@@ -159,6 +177,8 @@ module _ (s : ℕ) (vs : List HandleRoom) (a b c d e g : ℕ) (w : World) (hs : 
         for_ports = omega arith;
         for_names = omega arith;
         for_sections = omega arith;
+        for_tokens = omega arith;
+        for_token_names = omega arith;
         for_handles = λ pid. omega arith;
         for_views = λ pid. omega arith;
       }
@@ -167,7 +187,7 @@ module _ (s : ℕ) (vs : List HandleRoom) (a b c d e g : ℕ) (w : World) (hs : 
       ended true m eq = omega (arith, eq)
       ended false m eq = omega (arith, eq)
 
-  pub room_keep : (xs : List WaitRow) → length xs ≡ length w.waits → Roomy (room s vs a b c d e g w hs) (room s vs a b c d e g (record w { waits = xs }) hs)
+  pub room_keep : (xs : List WaitRow) → length xs ≡ length w.waits → Roomy (room y z s vs a b c d e g w hs) (room y z s vs a b c d e g (record w { waits = xs }) hs)
   room_keep xs long = record {
     for_processes = omega arith;
     for_threads = omega arith;
@@ -176,11 +196,13 @@ module _ (s : ℕ) (vs : List HandleRoom) (a b c d e g : ℕ) (w : World) (hs : 
     for_ports = omega arith;
     for_names = omega arith;
     for_sections = omega arith;
+    for_tokens = omega arith;
+    for_token_names = omega arith;
     for_handles = λ pid. omega arith;
     for_views = λ pid. omega arith;
   }
 
-  pub room_more : (a' b' c' d' e' g' : ℕ) → a ≤ a' → b ≤ b' → c ≤ c' → d ≤ d' → e ≤ e' → g ≤ g' → Roomy (room s vs a b c d e g w hs) (room s vs a' b' c' d' e' g' w hs)
+  pub room_more : (a' b' c' d' e' g' : ℕ) → a ≤ a' → b ≤ b' → c ≤ c' → d ≤ d' → e ≤ e' → g ≤ g' → Roomy (room y z s vs a b c d e g w hs) (room y z s vs a' b' c' d' e' g' w hs)
   room_more a' b' c' d' e' g' la lb lc ld le lg = record {
     for_processes = la;
     for_threads = lb;
@@ -189,6 +211,8 @@ module _ (s : ℕ) (vs : List HandleRoom) (a b c d e g : ℕ) (w : World) (hs : 
     for_ports = le;
     for_names = lg;
     for_sections = omega arith;
+    for_tokens = omega arith;
+    for_token_names = omega arith;
     for_handles = λ pid. omega arith;
     for_views = λ pid. omega arith;
   }
@@ -207,6 +231,8 @@ roomy_same a = record {
   for_ports = omega arith;
   for_names = omega arith;
   for_sections = omega arith;
+  for_tokens = omega arith;
+  for_token_names = omega arith;
   for_handles = λ pid. omega arith;
   for_views = λ pid. omega arith;
 }
@@ -220,6 +246,8 @@ roomy_then a b c one two = record {
   for_ports = omega (arith, one.for_ports, two.for_ports);
   for_names = omega (arith, one.for_names, two.for_names);
   for_sections = omega (arith, one.for_sections, two.for_sections);
+  for_tokens = omega (arith, one.for_tokens, two.for_tokens);
+  for_token_names = omega (arith, one.for_token_names, two.for_token_names);
   for_handles = λ pid. omega (arith, one.for_handles pid, two.for_handles pid);
   for_views = λ pid. omega (arith, one.for_views pid, two.for_views pid);
 }

@@ -26,7 +26,7 @@ use Rattle.lpc_rows.proofs.Sections.{lawful-sections}
 same-overwritten : (old new : List ℕ) (place : ℕ) → overwritten old place new ≡ basics.overwritten place new old
 same-overwritten old new place = ap (take (length old)) (append_assoc (take place old) new (drop (place + length new) old))
 
-length-overwritten : (old new : List ℕ) (place : ℕ) → length (overwritten old place new) ≡ length old
+pub length-overwritten : (old new : List ℕ) (place : ℕ) → length (overwritten old place new) ≡ length old
 length-overwritten old new place =
     let parts = take place old ++ (new ++ drop (place + length new) old) in
     let is : length (overwritten old place new) ≡ length (take (length old) parts) = ap length (same-overwritten old new place) in
@@ -54,7 +54,7 @@ module _ (it : Tables) (is : AreNamed (births_of it) it) (key : Key) (old : Sect
 
   pub names_kept : births_of after ≡ n
   names_kept =
-      ap (λ names. record { ports = n.ports; sections = names })
+      ap (λ names. record { ports = n.ports; sections = names; tokens = n.tokens })
       (ap (names_of (λ (s : SectionRow). s.birth)) listed_new ∙ unseen-change (λ (r : Key × SectionRow). (r.0, r.1.birth)) (at_key key) over (λ row. refl) (listed it.sections))
 
   rows_kept : map shown_section (listed new) ≡ map shown_section (listed it.sections)
@@ -72,12 +72,12 @@ module _ (it : Tables) (is : AreNamed (births_of it) it) (key : Key) (old : Sect
 
   pub written_lawful : (calls made : ℕ) → AreLawful it calls made → KeepsSizes it.sections new → new.made ≡ it.sections.made → AreLawful after calls made
   written_lawful calls made all sizes count = record {
-    named = rw names_kept (record { ports_apart = is.ports_apart; sections_apart = is.sections_apart; unowned = is.unowned; refs = record { in_handles = is.refs.in_handles; in_ports = is.refs.in_ports; in_messages = is.refs.in_messages; in_waits = is.refs.in_waits; in_names = is.refs.in_names; in_views = is.refs.in_views } });
+    named = rw names_kept (record { ports_apart = is.ports_apart; sections_apart = is.sections_apart; tokens_apart = is.tokens_apart; refs = record { in_handles = is.refs.in_handles; in_ports = is.refs.in_ports; in_messages = is.refs.in_messages; in_waits = is.refs.in_waits; in_names = is.refs.in_names; in_views = is.refs.in_views } });
     lawful = rw writes (lawful-sections (rows_by it) (rows_by it).sections (basic (rows_by it) (Writes (name_of n.sections key) place bytes)).contents calls made made it.waits.spare it.ports.message_room all.lawful (omega arith) (omega arith) all.lawful.budget);
-    counted = record { ports_made = all.counted.ports_made; messages_made = all.counted.messages_made; waits_made = all.counted.waits_made };
+    counted = record { ports_made = all.counted.ports_made; messages_made = all.counted.messages_made; waits_made = all.counted.waits_made; tokens_made = all.counted.tokens_made };
     registered = all.registered;
     headed = all.headed;
-    drawn = rw writes (drawn.same-drawn (rows_by it) _ refl refl refl refl all.drawn);
+    drawn = rw writes (drawn.same-drawn (rows_by it) _ refl refl refl refl refl all.drawn);
     born = subst AreBornIn (sym writes) all.born;
     promised = subst (λ (v : World). IsPromised v.waits v.handles it.parts) (sym writes) all.promised;
     mapped = record {

@@ -2,6 +2,7 @@
 -- tables stood for, and the tables stay lawful.
 use Rattle.std.proofs.Common.{◌≡◌, ℕ, ◌+◌, List, [], ◌∷◌, true, false, Bool, cond, not, length, map, Option, Some, None, option_map, inl, inr, refl, ap, sym, subst, ◌∙◌, arith}
 use Rattle.std.specs.Prelude.{is_some, leb, ◌&&◌, if◌then◌else◌}
+use Rattle.std.proofs.lemmas.Bool.{or_parts}
 use Rattle.lpc_base.specs.Rows.{each, every, first, has, passes, without}
 use Rattle.lpc_base.proofs.RowMaps.{without-map}
 use Rattle.lpc_base.proofs.RowWords.{count-bound, every-append, every-off}
@@ -26,6 +27,12 @@ use Rattle.lpc_slots.proofs.Same.{at_first}
 use Rattle.lpc_views.specs.Parts.{is_mapped}
 use Rattle.lpc_views.specs.Views.{shows}
 use Rattle.lpc_views.specs.declared.view.View.{View}
+use Rattle.lpc_waits.specs.Table as waits
+use Rattle.lpc_waits.specs.declared.Accepted.{Accepted}
+use Rattle.lpc_waits.specs.declared.Offer.{Offer}
+use Rattle.lpc_waits.specs.declared.WaitKind.{WaitKind}
+use Rattle.lpc_waits.specs.declared.WaitKind.TheVariants as wait
+use Rattle.lpc_waits.specs.declared.WaitRow.{WaitRow}
 use Rattle.lpc_rows.specs.Held.{has_handles, has_holders}
 use Rattle.lpc_rows.specs.Kept.{rows_by}
 use Rattle.lpc_rows.specs.Lawful.{AreBornIn, AreLawful, IsPromised, has_mapped_views}
@@ -44,10 +51,11 @@ use Rattle.lpc_rows.proofs.Sections.{lawful-sections, renamed, still_pass}
 abbrev pub is_other : Key → Object → Bool
 is_other key o = not (is_object (object.Section key) o)
 
--- no handle names the section, and no view shows it
+-- no handle names the section, no view shows it, and no connect that isn't accepted offers it
 pub record IsUnused (it : Tables) (key : Key) : Type 0 where
   pub handles : has (has_name_of (object.Section key)) it.parts ≡ false
   pub views : has (has_view_of key) it.parts ≡ false
+  pub offers : has (waits.is_offering key) it.waits.rows ≡ false
 
 module _ (key : Key) where
   handles_off : (rows : List (ℕ × Row Object)) → has (names_it (object.Section key)) rows ≡ false → every (is_other key) (map (λ row. row.1.object) rows) ≡ true
@@ -64,6 +72,17 @@ module _ (key : Key) where
     where
       own : (v : View Key) → shows key v ≡ false → every (is_other key) (view_refs v) ≡ true
       own v off = let owner = owner_other v.owner in grind (arith, owner)
+
+  wait_off : (row : WaitRow) → waits.is_offering key row ≡ false → all_pass wait_refs (is_other key) row ≡ true
+  wait_off row off = by row.wait.kind row.offer row.accepted off
+    where
+      by : (kind : WaitKind) (o : Option Offer) (a : Option Accepted) → let x : WaitRow = record row { wait = record row.wait { kind = kind }; offer = o; accepted = a } in waits.is_offering key x ≡ false → all_pass wait_refs (is_other key) x ≡ true
+      by wait.Request o a off = refl
+      by wait.Receive o a off = refl
+      by wait.Listen o a off = refl
+      by wait.Connect None None off = refl
+      by wait.Connect (Some o) None off = grind arith
+      by wait.Connect o (Some a) off = refl
 
   -- rows that name ports alone
   port_other : (row : Key × Port) → all_pass port_refs (is_other key) row ≡ true
@@ -83,7 +102,7 @@ module _ (key : Key) where
     in_handles = every-off (has_name_of (object.Section key)) (all_pass part_refs (is_other key)) (λ part off. handles_off part.handles.rows off) it.parts none.handles;
     in_ports = all_of (all_pass port_refs (is_other key)) port_other it.ports.ports;
     in_messages = all_of (all_pass message_refs (is_other key)) (λ row. refl) it.ports.messages;
-    in_waits = all_of (all_pass wait_refs (is_other key)) (λ row. refl) it.waits.rows;
+    in_waits = every-off (waits.is_offering key) (all_pass wait_refs (is_other key)) wait_off it.waits.rows none.offers;
     in_names = all_of (all_pass binding_refs (is_other key)) (λ row. node_other row.1) it.space.bindings;
     in_views = every-off (has_view_of key) (all_pass space_refs (is_other key)) (λ part off. views_off part.views.views off) it.parts none.views;
   }
@@ -111,12 +130,14 @@ module _ (it : Tables) (is : AreNamed (births_of it) it) (key : Key) (new : Tabl
   stands_less (object.Port k) there = grind arith
   stands_less (object.Process birth) there = refl
   stands_less (object.Thread birth) there = refl
+  stands_less (object.Token k) there = grind arith
   stands_less (object.Section k) there = rw names_less (stands-without n.sections key k (grind arith) (grind arith))
 
   name_less : (o : Object) → ok o ≡ true → birth_of m o ≡ birth_of n o
   name_less (object.Port k) there = refl
   name_less (object.Process birth) there = refl
   name_less (object.Thread birth) there = refl
+  name_less (object.Token k) there = refl
   name_less (object.Section k) there = rw names_less (name-without n.sections key k (grind arith))
 
   pub keeps : KeepsOthers key n.sections m.sections
@@ -132,7 +153,7 @@ module _ (it : Tables) (is : AreNamed (births_of it) it) (key : Key) (new : Tabl
   freed_named = record {
     ports_apart = is.ports_apart;
     sections_apart = rw names_less (apart-without n.sections key is.sections_apart);
-    unowned = is.unowned;
+    tokens_apart = is.tokens_apart;
     refs = still_pass it ok (object_stands m) new pass stands_less;
   }
 
@@ -164,7 +185,7 @@ module _ (it : Tables) (is : AreNamed (births_of it) it) (key : Key) (new : Tabl
   freed_lawful calls made all there is_less = record {
     named = freed_named;
     lawful = rw (frees there) (lawful-sections (rows_by it) (basic (rows_by it) (Frees (section_name (name_of n.sections key)))).sections (basic (rows_by it) (Frees (section_name (name_of n.sections key)))).contents calls made made it.waits.spare it.ports.message_room all.lawful (let fewer = count-bound (λ (s : model.SectionRow). not (is_section (name_of n.sections key) s)) (rows_by it).sections in omega (arith, fewer)) (omega arith) all.lawful.budget);
-    counted = record { ports_made = all.counted.ports_made; messages_made = all.counted.messages_made; waits_made = all.counted.waits_made };
+    counted = record { ports_made = all.counted.ports_made; messages_made = all.counted.messages_made; waits_made = all.counted.waits_made; tokens_made = all.counted.tokens_made };
     registered = all.registered;
     headed = all.headed;
     drawn = rw (frees there) (drawn.drawn-freed (rows_by it) (is_section (name_of n.sections key)) (basic (rows_by it) (Frees (section_name (name_of n.sections key)))).contents all.drawn);
@@ -178,12 +199,15 @@ module _ (it : Tables) (is : AreNamed (births_of it) it) (key : Key) (new : Tabl
 
 -- What the freeing of a section knows
 module _ (it : Tables) (is : AreNamed (births_of it) it) (key : Key) (there : stands (births_of it).sections key ≡ true) where
-  -- in the tables no handle names it and no view shows it
+  -- in the tables no handle names it, no view shows it, and no connect offers it
   pub unused : has_handles (rows_by it) (section_name (name_of (births_of it).sections key)) ≡ false → has_holders (rows_by it) (section_name (name_of (births_of it).sections key)) ≡ false → IsUnused it key
-  unused handles views = record {
-    handles = sym (counted.handles_named it is (object.Section key) there) ∙ handles;
-    views = sym (counted.views_held it is key there) ∙ views;
-  }
+  unused handles holders =
+      let none = or_parts _ _ (sym (counted.section_held it is key there) ∙ holders) in
+      record {
+        handles = sym (counted.handles_named it is (object.Section key) there) ∙ handles;
+        views = none.0;
+        offers = none.1;
+      }
 
   -- and the table has its row
   pub removed_there : (found : Option SectionRow) (new : Table SectionRow) → found ≡ at it.sections key → new ≡ (if is_some found then removed it.sections key else it.sections) → new ≡ removed it.sections key

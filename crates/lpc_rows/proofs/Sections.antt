@@ -110,12 +110,14 @@ module _ (it : Tables) (is : AreNamed (births_of it) it) (key : Key) (row : Sect
   stands_more (object.Port k) there = there
   stands_more (object.Process birth) there = refl
   stands_more (object.Thread birth) there = refl
+  stands_more (object.Token k) there = there
   stands_more (object.Section k) there = rw names_push (stands-push n.sections key row.birth k there)
 
   name_more : (o : Object) → object_stands n o ≡ true → birth_of m o ≡ birth_of n o
   name_more (object.Port k) there = refl
   name_more (object.Process birth) there = refl
   name_more (object.Thread birth) there = refl
+  name_more (object.Token k) there = refl
   name_more (object.Section k) there = rw names_push (name-push n.sections key row.birth k there)
 
   pub keeps : KeepsNames n.sections m.sections
@@ -135,7 +137,7 @@ module _ (it : Tables) (is : AreNamed (births_of it) it) (key : Key) (row : Sect
   added_named fresh = record {
     ports_apart = is.ports_apart;
     sections_apart = rw names_push (apart-push n.sections key row.birth is.sections_apart unnamed (other_births (listed it.sections) fresh));
-    unowned = is.unowned;
+    tokens_apart = is.tokens_apart;
     refs = still_pass it (object_stands n) (object_stands m) new is.refs stands_more;
   }
 
@@ -159,7 +161,7 @@ module _ (it : Tables) (calls made : ℕ) (is : AreLawful it calls made) (key : 
   added_lawful fresh was lt = record {
     named = added_named it is.named key row new more free fresh;
     lawful = rw (adds it is.named key row new more free zero) (lawful-sections (rows_by it) left.sections left.contents calls made (made + 1) it.waits.spare it.ports.message_room is.lawful (let long = length_push (rows_by it).sections (shown_section (key, row)) in omega (arith, long)) (omega arith) (omega (arith, lt)));
-    counted = record { ports_made = omega (arith, is.counted.ports_made); messages_made = omega (arith, is.counted.messages_made); waits_made = omega (arith, is.counted.waits_made) };
+    counted = record { ports_made = omega (arith, is.counted.ports_made); messages_made = omega (arith, is.counted.messages_made); waits_made = omega (arith, is.counted.waits_made); tokens_made = omega (arith, is.counted.tokens_made) };
     registered = is.registered;
     headed = is.headed;
     drawn = rw (adds it is.named key row new more free zero) (drawn.drawn-section (rows_by it) (shown_section (key, row)) left.contents was is.drawn);
@@ -174,7 +176,7 @@ module _ (it : Tables) (calls made : ℕ) (is : AreLawful it calls made) (key : 
 -- More room for sections
 pub roomed_lawful : (it : Tables) (calls made spare : ℕ) → AreLawful it calls made → AreLawful (record it { sections = record it.sections { spare = spare } }) calls made
 roomed_lawful it calls made spare is = record {
-  named = record { ports_apart = is.named.ports_apart; sections_apart = is.named.sections_apart; unowned = is.named.unowned; refs = record { in_handles = is.named.refs.in_handles; in_ports = is.named.refs.in_ports; in_messages = is.named.refs.in_messages; in_waits = is.named.refs.in_waits; in_names = is.named.refs.in_names; in_views = is.named.refs.in_views } };
+  named = record { ports_apart = is.named.ports_apart; sections_apart = is.named.sections_apart; tokens_apart = is.named.tokens_apart; refs = record { in_handles = is.named.refs.in_handles; in_ports = is.named.refs.in_ports; in_messages = is.named.refs.in_messages; in_waits = is.named.refs.in_waits; in_names = is.named.refs.in_names; in_views = is.named.refs.in_views } };
   lawful = is.lawful;
   counted = is.counted;
   registered = is.registered;

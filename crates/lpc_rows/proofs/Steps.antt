@@ -12,7 +12,7 @@ use Rattle.lpc_handles.specs.declared.table.Row.{Row}
 use Rattle.lpc_model.specs.World as model
 use Rattle.lpc_model.specs.World.{World}
 use Rattle.lpc_model.specs.Basics as basics
-use Rattle.lpc_model.specs.Found.{is_port, is_section, is_live_thread, is_process, is_queued, is_thread, waits_as, is_born_process, is_born_thread}
+use Rattle.lpc_model.specs.Found.{is_port, is_section, is_token, is_live_thread, is_process, is_queued, is_thread, waits_as, is_born_process, is_born_thread}
 use Rattle.lpc_model.specs.Entering.{takes}
 use Rattle.lpc_model.specs.Message.{message_of}
 use Rattle.lpc_model.specs.Tests.{next_birth}
@@ -30,9 +30,11 @@ use Rattle.lpc_slots.proofs.Keys.{key_is}
 use Rattle.lpc_waits.specs.Table as waits
 use Rattle.lpc_waits.specs.Table.{WaitTable}
 use Rattle.lpc_waits.specs.declared.Wait.{Wait}
+use Rattle.lpc_waits.specs.declared.WaitKind.{WaitKind}
+use Rattle.lpc_waits.specs.declared.WaitKind.TheVariants as wait
 use Rattle.lpc_waits.specs.declared.WaitRow.{WaitRow}
 use Rattle.lpc_rows.specs.Names.{are_apart, name_of, stands}
-use Rattle.lpc_rows.specs.Shown.{Tables, Births, all_pass, birth_of, births_of, message_refs, object_stands, port_refs, pulled_row, shown_handle, shown_message, shown_port, shown_process, shown_thread, shown_used, shown_wait, tables_of, wait_refs, with_message}
+use Rattle.lpc_rows.specs.Shown.{Tables, Births, all_pass, birth_of, births_of, message_refs, object_stands, offer_refs, port_refs, pulled_row, shown_handle, shown_message, shown_port, shown_process, shown_thread, shown_used, shown_wait, tables_of, wait_refs, with_message}
 use Rattle.lpc_homes.specs.Parts.{are_single_parts, handed, is_part, roomed, spare_at}
 use Rattle.lpc_rows.specs.Kept.{has_queued, is_alive, is_asking, is_unsent, owed_messages, owed_rows, owed_waits, rows_by}
 use Rattle.lpc_rows.specs.OwedClosings.{TellsOnce, closing_places, is_owed}
@@ -42,6 +44,8 @@ use Rattle.lpc_homes.specs.declared.object.Object.TheVariants as object
 use Rattle.lpc_homes.specs.declared.parts.Part.{Part}
 use Rattle.lpc_sections.specs.Sections.{SectionRow}
 use Rattle.lpc_slots.specs.Table.{Table, listed}
+use Rattle.lpc_tokens.specs.Names.{TokenNames}
+use Rattle.lpc_tokens.specs.declared.token_row.TokenRow.{TokenRow}
 use Rattle.lpc_views.specs.Parts.{is_mapped}
 use Rattle.lpc_views.specs.Views.{Views}
 use Rattle.lpc_rows.proofs.Changes as changes
@@ -66,8 +70,8 @@ change_mapped sections parts made pid f same h = record {
   views_mapped = every-change (has_mapped_views sections) (is_part pid) f (λ part all. ap (λ (v : Views Key). every (is_mapped sections) v.views) (same part) ∙ all) parts h.views_mapped;
 }
 
-more_counted : (p : PortTable) (w : WaitTable) (made : ℕ) → IsCounted p w made → IsCounted p w (made + 1)
-more_counted p w made h = record { ports_made = omega (arith, h.ports_made); messages_made = omega (arith, h.messages_made); waits_made = omega (arith, h.waits_made) }
+more_counted : (p : PortTable) (w : WaitTable) (t : Table TokenRow) (made : ℕ) → IsCounted p w t made → IsCounted p w t (made + 1)
+more_counted p w t made h = record { ports_made = omega (arith, h.ports_made); messages_made = omega (arith, h.messages_made); waits_made = omega (arith, h.waits_made); tokens_made = omega (arith, h.tokens_made) }
 
 module _ (it : Tables) (calls made : ℕ) (is : AreLawful it calls made) where
   abbrev n : Births
@@ -118,7 +122,7 @@ module _ (it : Tables) (calls made : ℕ) (is : AreLawful it calls made) where
   drew_identifier who lt = record {
     named = changes.threaded it is.named _;
     lawful = rw (changes.draws_identifier it is.named who) (lawful.lawful-identifier rows calls made it.waits.spare it.ports.message_room who is.lawful lt);
-    counted = more_counted it.ports it.waits made is.counted;
+    counted = more_counted it.ports it.waits it.tokens made is.counted;
     registered = every-change (has_named_ports n) (procs.is_thread who) procs.past_identifier (λ t there. there) it.procs.threads is.registered;
     mapped = more_mapped it.sections it.parts made is.mapped;
     headed = is.headed;
@@ -131,7 +135,7 @@ module _ (it : Tables) (calls made : ℕ) (is : AreLawful it calls made) where
   drew_birth who lt = record {
     named = changes.threaded it is.named _;
     lawful = rw (changes.draws_ordinal it is.named who) (lawful.lawful-ordinal rows calls made it.waits.spare it.ports.message_room who is.lawful lt);
-    counted = more_counted it.ports it.waits made is.counted;
+    counted = more_counted it.ports it.waits it.tokens made is.counted;
     registered = every-change (has_named_ports n) (procs.is_thread who) procs.past_birth (λ t there. there) it.procs.threads is.registered;
     mapped = more_mapped it.sections it.parts made is.mapped;
     headed = is.headed;
@@ -150,14 +154,14 @@ module _ (it : Tables) (calls made : ℕ) (is : AreLawful it calls made) where
   added_process row part room none no_views same lt new begins other = record {
     named = changes.processed it is.named _ part none no_views;
     lawful = rw (changes.adds_process it is.named row part room none no_views same) (lawful.lawful-process rows calls made it.waits.spare it.ports.message_room (shown_process row) is.lawful lt new);
-    counted = more_counted it.ports it.waits made is.counted;
+    counted = more_counted it.ports it.waits it.tokens made is.counted;
     registered = is.registered;
     mapped = record {
       sections_made = omega (arith, is.mapped.sections_made);
       views_mapped = every-push (has_mapped_views it.sections) it.parts part is.mapped.views_mapped (rw no_views refl);
     };
     headed = is.headed;
-    drawn = rw (changes.adds_process it is.named row part room none no_views same) (drawn.same-drawn rows _ refl refl refl refl is.drawn);
+    drawn = rw (changes.adds_process it is.named row part room none no_views same) (drawn.same-drawn rows _ refl refl refl refl refl is.drawn);
     born = subst AreBornIn (sym (changes.adds_process it is.named row part room none no_views same)) (born.born-process rows.processes rows.threads rows.used_processes rows.used_threads is.born (shown_process row) new (λ there. drawn.drew-drawn rows row.birth there is.drawn) begins other);
     promised = subst (λ (v : World). IsPromised v.waits v.handles (it.parts ++ part ∷ [])) (sym (changes.adds_process it is.named row part room none no_views same)) (promised.process-comes rows.waits rows.handles it.parts is.promised row.number part same (lawful.unused-table rows.used_processes row.number rows.handles is.lawful.tables_used new));
   }
@@ -173,7 +177,7 @@ module _ (it : Tables) (calls made : ℕ) (is : AreLawful it calls made) where
   added_thread row room above unused lt young none home wait_room message_room begins other = record {
     named = changes.threaded it is.named _;
     lawful = rw (changes.adds_thread it is.named row room) (lawful.lawful-thread rows calls made it.waits.spare it.ports.message_room (shown_thread row) _ is.lawful lt young (rw none refl) home wait_room message_room);
-    counted = more_counted it.ports it.waits made is.counted;
+    counted = more_counted it.ports it.waits it.tokens made is.counted;
     registered = every-push (has_named_ports n) it.procs.threads row is.registered (rw none refl);
     mapped = more_mapped it.sections it.parts made is.mapped;
     headed = is.headed;
@@ -190,11 +194,11 @@ module _ (it : Tables) (calls made : ℕ) (is : AreLawful it calls made) where
   entered row there long lt place none asks once other = record {
     named = changes.entered it is.named row (it.ports.message_room - 1) (it.ports.messages_made + 1) there;
     lawful = rw (changes.enters it is.named row (it.ports.message_room - 1) (it.ports.messages_made + 1)) (lawful.lawful-enter rows calls made it.waits.spare it.ports.message_room (shown_message (birth_of n) row) is.lawful lt place none asks once other);
-    counted = record { ports_made = omega (arith, is.counted.ports_made); messages_made = omega (arith, is.counted.messages_made); waits_made = omega (arith, is.counted.waits_made) };
+    counted = record { ports_made = omega (arith, is.counted.ports_made); messages_made = omega (arith, is.counted.messages_made); waits_made = omega (arith, is.counted.waits_made); tokens_made = omega (arith, is.counted.tokens_made) };
     registered = is.registered;
     mapped = more_mapped it.sections it.parts made is.mapped;
     headed = every-push has_header it.ports.messages row is.headed long;
-    drawn = drawn.same-drawn rows _ refl refl refl refl is.drawn;
+    drawn = drawn.same-drawn rows _ refl refl refl refl refl is.drawn;
     born = is.born;
     promised = is.promised;
   }
@@ -204,11 +208,11 @@ module _ (it : Tables) (calls made : ℕ) (is : AreLawful it calls made) where
   taken key m there at = record {
     named = changes.taken it is.named key (it.ports.message_room + 1);
     lawful = rw (changes.takes it is.named key (it.ports.message_room + 1) there) (lawful.lawful-take rows calls made it.waits.spare it.ports.message_room (is_queued (name_of n.ports key)) m at is.lawful);
-    counted = record { ports_made = is.counted.ports_made; messages_made = is.counted.messages_made; waits_made = is.counted.waits_made };
+    counted = record { ports_made = is.counted.ports_made; messages_made = is.counted.messages_made; waits_made = is.counted.waits_made; tokens_made = is.counted.tokens_made };
     registered = is.registered;
     mapped = is.mapped;
     headed = every-without_first has_header (ports.is_in key) it.ports.messages is.headed;
-    drawn = drawn.same-drawn rows _ refl refl refl refl is.drawn;
+    drawn = drawn.same-drawn rows _ refl refl refl refl refl is.drawn;
     born = is.born;
     promised = is.promised;
   }
@@ -220,11 +224,11 @@ module _ (it : Tables) (calls made : ℕ) (is : AreLawful it calls made) where
   awaited row there lt thread ready still owed = record {
     named = changes.awaited it is.named row (it.waits.spare - 1) (it.waits.made + 1) there;
     lawful = rw (changes.awaits it is.named row (it.waits.spare - 1) (it.waits.made + 1)) (lawful.lawful-wait rows calls made it.waits.spare it.ports.message_room (shown_wait (birth_of n) row) is.lawful lt thread ready still (lawful.wait-place rows calls made it.waits.spare it.ports.message_room row.thread is.lawful thread ready));
-    counted = record { ports_made = omega (arith, is.counted.ports_made); messages_made = omega (arith, is.counted.messages_made); waits_made = omega (arith, is.counted.waits_made) };
+    counted = record { ports_made = omega (arith, is.counted.ports_made); messages_made = omega (arith, is.counted.messages_made); waits_made = omega (arith, is.counted.waits_made); tokens_made = omega (arith, is.counted.tokens_made) };
     registered = is.registered;
     mapped = more_mapped it.sections it.parts made is.mapped;
     headed = is.headed;
-    drawn = drawn.same-drawn rows _ refl refl refl refl is.drawn;
+    drawn = drawn.same-drawn rows _ refl refl refl refl refl is.drawn;
     born = is.born;
     promised = subst (λ (v : World). IsPromised v.waits v.handles it.parts) (sym (changes.awaits it is.named row (it.waits.spare - 1) (it.waits.made + 1))) owed;
   }
@@ -236,11 +240,11 @@ module _ (it : Tables) (calls made : ℕ) (is : AreLawful it calls made) where
   ended who none = record {
     named = changes.ended it is.named who (cond (has (waits.is_of who) it.waits.rows) (it.waits.spare + 1) it.waits.spare) it.waits.made;
     lawful = rw (changes.ends it is.named who (cond (has (waits.is_of who) it.waits.rows) (it.waits.spare + 1) it.waits.spare) it.waits.made, ← has_wait who) (lawful.lawful-end rows calls made it.waits.spare it.ports.message_room who is.lawful none);
-    counted = record { ports_made = is.counted.ports_made; messages_made = is.counted.messages_made; waits_made = is.counted.waits_made };
+    counted = record { ports_made = is.counted.ports_made; messages_made = is.counted.messages_made; waits_made = is.counted.waits_made; tokens_made = is.counted.tokens_made };
     registered = is.registered;
     mapped = is.mapped;
     headed = is.headed;
-    drawn = drawn.same-drawn rows _ refl refl refl refl is.drawn;
+    drawn = drawn.same-drawn rows _ refl refl refl refl refl is.drawn;
     born = is.born;
     promised = subst (λ (v : World). IsPromised v.waits v.handles it.parts) (sym (changes.ends it is.named who (cond (has (waits.is_of who) it.waits.rows) (it.waits.spare + 1) it.waits.spare) it.waits.made)) (promised.wait-ends rows.waits rows.handles it.parts is.promised (waits_as who));
   }
@@ -248,13 +252,13 @@ module _ (it : Tables) (calls made : ℕ) (is : AreLawful it calls made) where
   -- a wait whose request is received
   pub received : (who : ℕ) → has_queued rows who ≡ false → AreLawful (record it { waits = record it.waits { rows = change (waits.is_of who) waits.received it.waits.rows } }) calls made
   received who none = record {
-    named = changes.waiting it is.named who it.waits.spare it.waits.made waits.received (λ row. refl);
+    named = changes.waiting it is.named who it.waits.spare it.waits.made waits.received (λ row all. all);
     lawful = rw (changes.receives it is.named who) (lawful.lawful-receive rows calls made it.waits.spare it.ports.message_room who is.lawful none);
-    counted = record { ports_made = is.counted.ports_made; messages_made = is.counted.messages_made; waits_made = is.counted.waits_made };
+    counted = record { ports_made = is.counted.ports_made; messages_made = is.counted.messages_made; waits_made = is.counted.waits_made; tokens_made = is.counted.tokens_made };
     registered = is.registered;
     mapped = is.mapped;
     headed = is.headed;
-    drawn = drawn.same-drawn rows _ refl refl refl refl is.drawn;
+    drawn = drawn.same-drawn rows _ refl refl refl refl refl is.drawn;
     born = is.born;
     promised = subst (λ (v : World). IsPromised v.waits v.handles it.parts) (sym (changes.receives it is.named who)) (promised.wait-stays rows.waits rows.handles it.parts is.promised (waits_as who) basics.received (λ x. refl) (λ x. refl) (promised.received-taken who rows.waits is.promised.taken));
   }
@@ -262,13 +266,13 @@ module _ (it : Tables) (calls made : ℕ) (is : AreLawful it calls made) where
   -- a wait that keeps its message
   pub kept_message : (who : ℕ) (bytes : List ℕ) → AreLawful (record it { waits = record it.waits { rows = change (waits.is_of who) (waits.with_message bytes) it.waits.rows } }) calls made
   kept_message who bytes = record {
-    named = changes.waiting it is.named who it.waits.spare it.waits.made (waits.with_message bytes) (λ row. refl);
+    named = changes.waiting it is.named who it.waits.spare it.waits.made (waits.with_message bytes) (λ row all. all);
     lawful = rw (changes.keeps_message it is.named who bytes) (changes.lawful-message rows calls made it.waits.spare it.ports.message_room who bytes is.lawful);
-    counted = record { ports_made = is.counted.ports_made; messages_made = is.counted.messages_made; waits_made = is.counted.waits_made };
+    counted = record { ports_made = is.counted.ports_made; messages_made = is.counted.messages_made; waits_made = is.counted.waits_made; tokens_made = is.counted.tokens_made };
     registered = is.registered;
     mapped = is.mapped;
     headed = is.headed;
-    drawn = drawn.same-drawn rows _ refl refl refl refl is.drawn;
+    drawn = drawn.same-drawn rows _ refl refl refl refl refl is.drawn;
     born = is.born;
     promised = subst (λ (v : World). IsPromised v.waits v.handles it.parts) (sym (changes.keeps_message it is.named who bytes)) (promised.wait-stays rows.waits rows.handles it.parts is.promised (waits_as who) (with_message (message_of bytes)) (changes.connect_kept (message_of bytes)) (λ x. refl) (promised.kept-taken who (with_message (message_of bytes)) (changes.accepted_kept (message_of bytes)) (λ x. refl) rows.waits is.promised.taken));
   }
@@ -286,7 +290,7 @@ module _ (it : Tables) (calls made : ℕ) (is : AreLawful it calls made) where
     registered = is.registered;
     mapped = change_mapped it.sections it.parts made pid (handed value row) (λ part. refl) is.mapped;
     headed = is.headed;
-    drawn = drawn.same-drawn rows _ refl refl refl refl is.drawn;
+    drawn = drawn.same-drawn rows _ refl refl refl refl refl is.drawn;
     born = is.born;
     promised = subst (λ (v : World). IsPromised v.waits v.handles (change (is_part pid) (handed value row) it.parts)) (sym (changes.hands it is.named pid value row)) (promised.handle-comes rows.waits rows.handles it.parts is.promised pid value (shown_handle (birth_of n) (value, row)) row one is.lawful.tables_single welcome);
   }
@@ -299,7 +303,7 @@ module _ (it : Tables) (calls made : ℕ) (is : AreLawful it calls made) where
     registered = is.registered;
     mapped = change_mapped it.sections it.parts made pid (roomed spare) (λ part. refl) is.mapped;
     headed = is.headed;
-    drawn = drawn.same-drawn rows _ refl refl refl refl is.drawn;
+    drawn = drawn.same-drawn rows _ refl refl refl refl refl is.drawn;
     born = is.born;
     promised = subst (λ (v : World). IsPromised v.waits v.handles (change (is_part pid) (roomed spare) it.parts)) (sym (changes.rooms it is.named pid spare)) (promised.room-grows rows.waits rows.handles it.parts is.promised pid spare more one);
   }
@@ -314,7 +318,7 @@ module _ (it : Tables) (calls made : ℕ) (is : AreLawful it calls made) where
   made_lawful key row absent fresh refs was lt place = record {
     named = makes.made_named it is.named key row (it.ports.port_room - 1) (it.ports.ports_made + 1) absent fresh refs;
     lawful = rw (makes.makes it is.named key row (it.ports.port_room - 1) (it.ports.ports_made + 1) refs) (lawful.lawful-port rows calls made it.waits.spare it.ports.message_room (shown_port (birth_of n) (key, row)) is.lawful lt (owed.fresh-shut it is.named row.birth fresh) place);
-    counted = record { ports_made = omega (arith, is.counted.ports_made); messages_made = omega (arith, is.counted.messages_made); waits_made = omega (arith, is.counted.waits_made) };
+    counted = record { ports_made = omega (arith, is.counted.ports_made); messages_made = omega (arith, is.counted.messages_made); waits_made = omega (arith, is.counted.waits_made); tokens_made = omega (arith, is.counted.tokens_made) };
     registered = registered-more n (births_of (record it { ports = record it.ports { ports = it.ports.ports ++ (key, row) ∷ []; port_room = it.ports.port_room - 1; ports_made = it.ports.ports_made + 1 } })) (makes.keeps it is.named key row (it.ports.port_room - 1) (it.ports.ports_made + 1)) it.procs.threads is.registered;
     mapped = more_mapped it.sections it.parts made is.mapped;
     headed = is.headed;
@@ -324,14 +328,14 @@ module _ (it : Tables) (calls made : ℕ) (is : AreLawful it calls made) where
   }
 
 -- nothing
-pub none_lawful : (space : NameSpace Key) (sections : Table SectionRow) → space.bindings ≡ [] → listed sections ≡ [] → sections.made ≡ 0 → AreLawful (tables_of (record { processes = []; threads = []; used_processes = []; used_threads = []; process_room = 0; thread_room = 0 }) [] (record { ports = []; messages = []; port_room = 0; message_room = 0; ports_made = 0; messages_made = 0 }) (record { rows = []; spare = 0; made = 0 }) space sections) 0 0
+pub none_lawful : (space : NameSpace Key) (sections : Table SectionRow) (tokens : Table TokenRow) (names : TokenNames) → space.bindings ≡ [] → listed sections ≡ [] → sections.made ≡ 0 → listed tokens ≡ [] → tokens.made ≡ 0 → AreLawful (tables_of (record { processes = []; threads = []; used_processes = []; used_threads = []; process_room = 0; thread_room = 0 }) [] (record { ports = []; messages = []; port_room = 0; message_room = 0; ports_made = 0; messages_made = 0 }) (record { rows = []; spare = 0; made = 0 }) space sections tokens names) 0 0
 unfolding are_apart
-none_lawful space sections none no_sections unmade = record {
-  named = record { ports_apart = refl; sections_apart = rw no_sections refl; unowned = refl; refs = record { in_handles = refl; in_ports = refl; in_messages = refl; in_waits = refl; in_names = rw none refl; in_views = refl } };
+none_lawful space sections tokens names none no_sections unmade no_tokens unmade_tokens = record {
+  named = record { ports_apart = refl; sections_apart = rw no_sections refl; tokens_apart = rw no_tokens refl; refs = record { in_handles = refl; in_ports = refl; in_messages = refl; in_waits = refl; in_names = rw none refl; in_views = refl } };
   lawful = record {
     few = omega arith;
     budget = omega arith;
-    rows = rw no_sections (omega arith);
+    rows = rw (no_sections, no_tokens) (omega arith);
     draws = refl;
     housed = refl;
     tables_used = refl;
@@ -345,11 +349,11 @@ none_lawful space sections none no_sections unmade = record {
     waits_fit = omega arith;
     messages_fit = omega arith;
   };
-  counted = record { ports_made = omega arith; messages_made = omega arith; waits_made = omega arith };
+  counted = record { ports_made = omega arith; messages_made = omega arith; waits_made = omega arith; tokens_made = omega (arith, unmade_tokens) };
   registered = refl;
   mapped = record { sections_made = omega (arith, unmade); views_mapped = refl };
   headed = refl;
-  drawn = record { threads_single = refl; threads_noted = refl; ports_drawn = refl; sections_drawn = rw no_sections refl };
+  drawn = record { threads_single = refl; threads_noted = refl; ports_drawn = refl; sections_drawn = rw no_sections refl; tokens_drawn = rw no_tokens refl };
   born = record { processes_single = refl; processes_noted = refl; processes_born = refl; threads_born = refl; threads_numbered = refl; process_births = λ b. omega arith; thread_births = λ b. omega arith };
   promised = promised.none-promised;
 }
@@ -365,6 +369,13 @@ module _ (it : Tables) (calls made : ℕ) (is : AreLawful it calls made) where
   -- keys that stand
   pub two_stand : (a b : Key) → stands (births_of it).ports a ≡ true → stands (births_of it).ports b ≡ true → every (object_stands (births_of it)) (object.Port a ∷ object.Port b ∷ []) ≡ true
   two_stand a b one two = rw (one, two) refl
+
+  -- what a wait names that begins, which offers nothing yet
+  pub begun_stands : (kind : WaitKind) (a b : Key) → stands (births_of it).ports a ≡ true → stands (births_of it).ports b ≡ true → every (object_stands (births_of it)) (object.Port a ∷ object.Port b ∷ offer_refs kind None None) ≡ true
+  begun_stands wait.Request a b one two = two_stand a b one two
+  begun_stands wait.Receive a b one two = two_stand a b one two
+  begun_stands wait.Listen a b one two = two_stand a b one two
+  begun_stands wait.Connect a b one two = two_stand a b one two
 
   -- the wait of a thread
   none_of : {X : Type 0} (o : Option X) → is_some o ≡ false → o ≡ None
@@ -463,13 +474,13 @@ module _ (it : Tables) (calls made : ℕ) (is : AreLawful it calls made) where
   -- more room for ports and messages
   pub roomed_ports : (ports messages : ℕ) → it.ports.message_room ≤ messages → AreLawful (record it { ports = record it.ports { port_room = ports; message_room = messages } }) calls made
   roomed_ports ports messages more = record {
-    named = record { ports_apart = is.named.ports_apart; sections_apart = is.named.sections_apart; unowned = is.named.unowned; refs = record { in_handles = is.named.refs.in_handles; in_ports = is.named.refs.in_ports; in_messages = is.named.refs.in_messages; in_waits = is.named.refs.in_waits; in_names = is.named.refs.in_names; in_views = is.named.refs.in_views } };
+    named = record { ports_apart = is.named.ports_apart; sections_apart = is.named.sections_apart; tokens_apart = is.named.tokens_apart; refs = record { in_handles = is.named.refs.in_handles; in_ports = is.named.refs.in_ports; in_messages = is.named.refs.in_messages; in_waits = is.named.refs.in_waits; in_names = is.named.refs.in_names; in_views = is.named.refs.in_views } };
     lawful = lawful.lawful-room all calls made it.waits.spare it.ports.message_room it.waits.spare messages is.lawful (omega arith) more;
-    counted = record { ports_made = is.counted.ports_made; messages_made = is.counted.messages_made; waits_made = is.counted.waits_made };
+    counted = record { ports_made = is.counted.ports_made; messages_made = is.counted.messages_made; waits_made = is.counted.waits_made; tokens_made = is.counted.tokens_made };
     registered = is.registered;
     mapped = is.mapped;
     headed = is.headed;
-    drawn = drawn.same-drawn all _ refl refl refl refl is.drawn;
+    drawn = drawn.same-drawn all _ refl refl refl refl refl is.drawn;
     born = is.born;
     promised = is.promised;
   }
@@ -520,6 +531,16 @@ module _ (it : Tables) (calls made : ℕ) (is : AreLawful it calls made) where
           let own : r.number ≡ who = eqb-true r.number who (first-passes (is_thread who) all.threads r is') in
           let P : Birth → Type 0 = λ x. first (is_section x) all.sections ≡ None in
           subst P (same_Some (next_birth r) b h) (drawn.fresh-section all who r is.drawn is' own)
+
+  pub fresh_token : (who : ℕ) (b : Birth) → option_map next_birth (first (is_thread who) all.threads) ≡ Some b → first (is_token b) all.tokens ≡ None
+  fresh_token who b at = by_thread (first (is_thread who) all.threads) refl at
+    where
+      by_thread : (o : Option model.ThreadRow) → first (is_thread who) all.threads ≡ o → option_map next_birth o ≡ Some b → first (is_token b) all.tokens ≡ None
+      by_thread None is' h = absurd (cc)
+      by_thread (Some r) is' h =
+          let own : r.number ≡ who = eqb-true r.number who (first-passes (is_thread who) all.threads r is') in
+          let P : Birth → Type 0 = λ x. first (is_token x) all.tokens ≡ None in
+          subst P (same_Some (next_birth r) b h) (drawn.fresh-token all who r is.drawn is' own)
 
   -- nor the birth of a process or a thread
   pub next_born : (who : ℕ) (b : Birth) → option_map next_birth (first (is_thread who) all.threads) ≡ Some b → (has (is_born_process b) all.processes ≡ false) × (has (is_born_thread b) (change (is_thread who) basics.past_ordinal all.threads) ≡ false)

@@ -24,7 +24,7 @@ use Rattle.lpc_waits.specs.declared.Wait.{Wait}
 use Rattle.lpc_waits.specs.declared.WaitKind.{WaitKind}
 use Rattle.lpc_waits.specs.declared.WaitKind.TheVariants as wait
 use Rattle.lpc_waits.specs.declared.WaitRow.{WaitRow}
-use Rattle.lpc_rows.specs.Shown.{Tables, birth_of, births_of, object_stands, shown_handle, shown_kind, shown_part, shown_wait}
+use Rattle.lpc_rows.specs.Shown.{Tables, birth_of, births_of, object_stands, shown_handle, shown_kind, shown_offer, shown_part, shown_wait}
 use Rattle.lpc_homes.specs.Parts.{are_single_parts, handed, is_part, roomed, rows_at, rows_in, spare_at, spare_in}
 use Rattle.lpc_rows.specs.Kept as kept
 use Rattle.lpc_rows.specs.Kept.{is_room, room_of_part, rows_by, view_room_of}
@@ -46,14 +46,14 @@ room_at parts pid = ap kept.room_in (first-map room_of_part (λ _. true) (is_par
     spared (Some part) = refl
 
 -- A table's connects are those of the definitions
-connect_is : (kind : WaitKind) (bytes : List ℕ) (accepted : Option Accepted)
-    → ((elim (shown_kind kind bytes accepted) [ model.Connect m ↦ true | _ ↦ false ]) || (elim (shown_kind kind bytes accepted) [ model.Accepted m reply ↦ true | _ ↦ false ])) ≡ waits.is_connect kind
-connect_is wait.Connect bytes None = refl
-connect_is wait.Connect bytes (Some accepted) = refl
-connect_is b bytes accepted = refl
+connect_is : (kind : WaitKind) (bytes : List ℕ) (offer : Option model.Offer) (accepted : Option Accepted)
+    → ((elim (shown_kind kind bytes offer accepted) [ model.Connect m o ↦ true | _ ↦ false ]) || (elim (shown_kind kind bytes offer accepted) [ model.Accepted m reply ↦ true | _ ↦ false ])) ≡ waits.is_connect kind
+connect_is wait.Connect bytes offer None = refl
+connect_is wait.Connect bytes offer (Some accepted) = refl
+connect_is b bytes offer accepted = refl
 
 pub connect_same : (f : Object → Birth) (row : WaitRow) → found.is_connect (shown_wait f row) ≡ waits.is_connect row.wait.kind
-connect_same f row = connect_is row.wait.kind row.message.items row.accepted
+connect_same f row = connect_is row.wait.kind row.message.items (option_map (shown_offer f) row.offer) row.accepted
 
 pub connects_shown : (f : Object → Birth) (pid : ℕ) (rows : List WaitRow) → count (is_connect_of pid) (map (shown_wait f) rows) ≡ count (waits.is_connect_of pid) rows
 connects_shown f pid rows = count-map (shown_wait f) (λ _. true) (waits.is_connect_of pid) (is_connect_of pid) (λ row _. ap (λ b. b && (row.wait.process == pid)) (connect_same f row)) rows (every-true rows)
@@ -185,10 +185,10 @@ module _ (it : Tables) (calls made : ℕ) (is : AreLawful it calls made) where
           omega (arith, long, here)
 
   -- a wait that begins isn't accepted
-  pub fresh_taken : (tid : ℕ) (x : Wait) → is_taken (shown_wait (birth_of (births_of it)) (record { thread = tid; wait = x; message = record { items = [] }; accepted = None })) ≡ true
+  pub fresh_taken : (tid : ℕ) (x : Wait) → is_taken (shown_wait (birth_of (births_of it)) (record { thread = tid; wait = x; message = record { items = [] }; offer = None; accepted = None })) ≡ true
   fresh_taken tid x = by_kind x.kind
     where
-      by_kind : (kind : WaitKind) → is_taken (shown_wait (birth_of (births_of it)) (record { thread = tid; wait = record x { kind = kind }; message = record { items = [] }; accepted = None })) ≡ true
+      by_kind : (kind : WaitKind) → is_taken (shown_wait (birth_of (births_of it)) (record { thread = tid; wait = record x { kind = kind }; message = record { items = [] }; offer = None; accepted = None })) ≡ true
       by_kind wait.Request = refl
       by_kind wait.Receive = refl
       by_kind wait.Listen = refl

@@ -49,6 +49,8 @@ module _ (it : Tables) (calls made : ℕ) (is : AreLawful it calls made) (key : 
     for_ports = omega arith;
     for_names = more;
     for_sections = omega arith;
+    for_tokens = omega arith;
+    for_token_names = omega arith;
     for_handles = λ pid. omega arith;
     for_views = λ pid. omega arith;
   }

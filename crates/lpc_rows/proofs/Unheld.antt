@@ -1,10 +1,10 @@
 -- A port that no row names: the tables find what the definitions find.
 use Rattle.std.proofs.Common.{◌≡◌, ℕ, List, [], ◌∷◌, ◌||◌, Bool, true, false, not, map, Option, Some, None, refl, ◌∙◌, arith}
-use Rattle.std.specs.Prelude.{IsSome, is_none, is_some}
+use Rattle.std.specs.Prelude.{IsSome, is_some}
 use Rattle.lpc_base.specs.declared.birth.Birth.{Birth}
-use Rattle.lpc_base.specs.Rows.{each, every, has}
+use Rattle.lpc_base.specs.Rows.{each, every, has, passes}
 use Rattle.lpc_base.proofs.RowMaps.{has-map}
-use Rattle.lpc_base.proofs.RowWords.{every-append, every-back, every-front, every-more, every-off}
+use Rattle.lpc_base.proofs.RowWords.{every-append, every-back, every-front, every-off}
 use Rattle.lpc_handles.specs.declared.table.Row.{Row}
 use Rattle.lpc_model.specs.Found as found
 use Rattle.lpc_model.specs.Found.{same_birth}
@@ -20,10 +20,14 @@ use Rattle.lpc_slots.specs.declared.Key.{Key}
 use Rattle.lpc_slots.proofs.Keys.{key_turned}
 use Rattle.lpc_views.specs.declared.view.View.{View}
 use Rattle.lpc_waits.specs.Table as waits
+use Rattle.lpc_waits.specs.declared.Accepted.{Accepted}
+use Rattle.lpc_waits.specs.declared.Offer.{Offer}
+use Rattle.lpc_waits.specs.declared.WaitKind.{WaitKind}
+use Rattle.lpc_waits.specs.declared.WaitKind.TheVariants as wait
 use Rattle.lpc_waits.specs.declared.WaitRow.{WaitRow}
 use Rattle.lpc_rows.specs.Names.{name_of, stands}
-use Rattle.lpc_homes.specs.Parts.{has_name_of, is_object, names_it}
-use Rattle.lpc_rows.specs.Shown.{Tables, AllPass, AreNamed, Births, all_pass, binding_refs, birth_in, birth_of, births_of, message_refs, node_refs, object_stands, part_refs, port_refs, ports_in, shown_binding, shown_by, shown_message, shown_port, shown_wait, space_refs, view_refs, wait_refs, has_free_views, is_free_view}
+use Rattle.lpc_homes.specs.Parts.{goes_with, has_name_of, has_view_with, is_object, names_it}
+use Rattle.lpc_rows.specs.Shown.{Tables, AllPass, AreNamed, Births, all_pass, binding_refs, birth_in, birth_of, births_of, message_refs, node_refs, object_stands, part_refs, port_refs, ports_in, shown_binding, shown_by, shown_message, shown_port, shown_wait, offer_refs, section_in, space_refs, view_refs, wait_refs}
 use Rattle.lpc_homes.specs.declared.object.Object.{Object}
 use Rattle.lpc_homes.specs.declared.object.Object.TheVariants as object
 use Rattle.lpc_rows.proofs.Follows as follows
@@ -113,7 +117,15 @@ module _ (key : Key) where
   message_off row off = grind arith
 
   wait_off : (row : WaitRow) → waits.is_wait_at key row ≡ false → all_pass wait_refs (is_other key) row ≡ true
-  wait_off row off = grind arith
+  wait_off row off = let offer = offer_off row.wait.kind row.offer row.accepted in grind (arith, offer)
+    where
+      section_off : (o : Option Offer) → every (is_other key) (section_in o) ≡ true
+      section_off None = refl
+      section_off (Some o) = refl
+
+      offer_off : (kind : WaitKind) (o : Option Offer) (a : Option Accepted) → every (is_other key) (offer_refs kind o a) ≡ true
+      offer_off wait.Connect o None = section_off o
+      offer_off kind o a = refl
 
   node_off : (path : Path) (node : Node Key) → is_name is_key key (path, node) ≡ false → every (is_other key) (node_refs node) ≡ true
   node_off path (LinkTo target) off = refl
@@ -124,23 +136,23 @@ module _ (key : Key) where
   names_off [] none = refl
   names_off (row ∷ rows) none = grind (arith, node_off row.0 row.1, names_off rows)
 
-  -- a view that goes with no port names its section alone
-  views_off : (vs : List (View Key)) → every is_free_view vs ≡ true → every (is_other key) (each view_refs vs) ≡ true
-  views_off [] free = refl
-  views_off (v ∷ vs) free = every-append (is_other key) (view_refs v) (each view_refs vs) (owner_off v.owner (grind arith)) (views_off vs (grind arith))
+  -- a view that doesn't go with the port names its section, and another port at most
+  views_off : (vs : List (View Key)) → has (goes_with key) vs ≡ false → every (is_other key) (each view_refs vs) ≡ true
+  views_off [] none = refl
+  views_off (v ∷ vs) none = every-append (is_other key) (view_refs v) (each view_refs vs) (owner_off v.owner (grind arith)) (views_off vs (grind arith))
     where
-      owner_off : (o : Option Key) → is_none o ≡ true → every (is_other key) (ports_in o) ≡ true
-      owner_off None none = refl
-      owner_off (Some k) none = absurd (cc)
+      owner_off : (o : Option Key) → passes o (λ other. is_key other key) ≡ false → every (is_other key) (ports_in o) ≡ true
+      owner_off None off = refl
+      owner_off (Some k) off = grind arith
 
-  pub others_pass : (it : Tables) → is_named_in it key ≡ false → every has_free_views it.parts ≡ true → AllPass (is_other key) it
-  others_pass it none free = record {
+  pub others_pass : (it : Tables) → is_named_in it key ≡ false → has (has_view_with key) it.parts ≡ false → AllPass (is_other key) it
+  others_pass it none owned = record {
     in_handles = every-off (has_name_of (object.Port key)) (all_pass part_refs (is_other key)) (λ part off. handles_off part.handles.rows off) it.parts (grind arith);
     in_ports = every-off (ports.is_joined_to key) (all_pass port_refs (is_other key)) port_off it.ports.ports (grind arith);
     in_messages = every-off (ports.is_message_at key) (all_pass message_refs (is_other key)) message_off it.ports.messages (grind arith);
     in_waits = every-off (waits.is_wait_at key) (all_pass wait_refs (is_other key)) wait_off it.waits.rows (grind arith);
     in_names = names_off it.space.bindings (grind arith);
-    in_views = every-more has_free_views (all_pass space_refs (is_other key)) (λ part all. views_off part.views.views all) it.parts free;
+    in_views = every-off (has_view_with key) (all_pass space_refs (is_other key)) (λ part off. views_off part.views.views off) it.parts owned;
   }
 
   -- and no message stands in its queue

@@ -129,14 +129,14 @@ module _ (it : Tables) (calls made : ℕ) (is : AreLawful it calls made) where
     registered = is.registered;
     mapped = is.mapped;
     headed = is.headed;
-    drawn = drawn.same-drawn rows _ refl refl refl refl is.drawn;
+    drawn = drawn.same-drawn rows _ refl refl refl refl refl is.drawn;
     born = subst AreBornIn (sym (process-shown b left)) (born.born-less-processes rows.processes rows.threads rows.used_processes rows.used_threads is.born (is_born_process b));
     promised = is.promised;
   }
 
 -- The room
-module _ (s : ℕ) (vs : List HandleRoom) (a b c d e g : ℕ) (w : World) (hs : List HandleRoom) where
-  pub room-less : (more : ℕ) (goes : ThreadRow → Bool) → b ≤ more → Roomy (room s vs a b c d e g w hs) (room s vs a more c d e g (record w { threads = without goes w.threads }) hs)
+module _ (y z s : ℕ) (vs : List HandleRoom) (a b c d e g : ℕ) (w : World) (hs : List HandleRoom) where
+  pub room-less : (more : ℕ) (goes : ThreadRow → Bool) → b ≤ more → Roomy (room y z s vs a b c d e g w hs) (room y z s vs a more c d e g (record w { threads = without goes w.threads }) hs)
   room-less more goes le = let fewer = count-left is_alive goes w.threads in let owed = registered-less_threads goes w.threads in record {
     for_processes = omega arith;
     for_threads = le;
@@ -145,11 +145,13 @@ module _ (s : ℕ) (vs : List HandleRoom) (a b c d e g : ℕ) (w : World) (hs : 
     for_ports = omega arith;
     for_names = omega arith;
     for_sections = omega arith;
+    for_tokens = omega arith;
+    for_token_names = omega arith;
     for_handles = λ pid. omega arith;
     for_views = λ pid. omega arith;
   }
 
-  pub room-vacated : (more : ℕ) (ps : List ProcessRow) → a ≤ more → Roomy (room s vs a b c d e g w hs) (room s vs more b c d e g (record w { processes = ps }) hs)
+  pub room-vacated : (more : ℕ) (ps : List ProcessRow) → a ≤ more → Roomy (room y z s vs a b c d e g w hs) (room y z s vs more b c d e g (record w { processes = ps }) hs)
   room-vacated more ps le = record {
     for_processes = le;
     for_threads = omega arith;
@@ -158,6 +160,8 @@ module _ (s : ℕ) (vs : List HandleRoom) (a b c d e g : ℕ) (w : World) (hs : 
     for_ports = omega arith;
     for_names = omega arith;
     for_sections = omega arith;
+    for_tokens = omega arith;
+    for_token_names = omega arith;
     for_handles = λ pid. omega arith;
     for_views = λ pid. omega arith;
   }

@@ -7,10 +7,10 @@ use Rattle.lpc_base.specs.Rows.{change, count, each, every, first, passes, witho
 use Rattle.lpc_base.proofs.RowMaps.{change-map, push-map, unseen-change, without-map}
 use Rattle.lpc_base.proofs.RowWords.{every-append, every-back, every-change, every-front, every-push, every-true, every-without}
 use Rattle.lpc_handles.specs.Handles.{Handles}
-use Rattle.lpc_homes.specs.Parts.{emptied, is_part, mapped, unmapped, view_roomed, views_at}
+use Rattle.lpc_homes.specs.Parts.{dropped, emptied, goes_with, is_part, mapped, unmapped, view_roomed, views_at}
 use Rattle.lpc_homes.specs.declared.object.Object.{Object}
 use Rattle.lpc_homes.specs.declared.parts.Part.{Part}
-use Rattle.lpc_model.specs.Basics.{DropsViewsOf, Maps, Unmaps, basic, with_view, without_view, without_views}
+use Rattle.lpc_model.specs.Basics.{DropsOwned, DropsViewsOf, Maps, Unmaps, basic, with_view, without_owned, without_view, without_views}
 use Rattle.lpc_model.specs.Found as found
 use Rattle.lpc_model.specs.Found.{is_space}
 use Rattle.lpc_model.specs.Tests.{is_connect_of}
@@ -26,11 +26,12 @@ use Rattle.lpc_views.specs.declared.view.View.{View}
 use Rattle.lpc_rows.specs.Clauses.{unmapped_at, view_at}
 use Rattle.lpc_rows.specs.Kept.{Roomy, owed_rows, room_by, rows_by}
 use Rattle.lpc_rows.specs.Lawful.{AreBornIn, AreLawful, IsLawful, IsPromised, has_mapped_views, has_places}
-use Rattle.lpc_rows.specs.Names.{stands}
-use Rattle.lpc_rows.specs.Shown.{Births, Tables, all_pass, birth_of, births_of, has_free_views, is_free_view, object_stands, part_refs, shown_handle, shown_part, shown_space, shown_view, space_refs, view_refs}
+use Rattle.lpc_rows.specs.Names.{name_of, some_stands, stands}
+use Rattle.lpc_rows.specs.Shown.{Births, Tables, all_pass, birth_of, births_of, object_stands, part_refs, ports_in, shown_handle, shown_part, shown_space, shown_view, space_refs, view_refs}
 use Rattle.lpc_rows.proofs.Drawn as drawn
 use Rattle.lpc_rows.proofs.Readings.{found_view, listed_stands}
 use Rattle.lpc_rows.proofs.Rooms.{roomy_same}
+use Rattle.lpc_rows.proofs.ShownViews.{each_stands, owned_same}
 use Rattle.lpc_rows.proofs.ViewRooms.{unmapped_room}
 
 -- the refs of views
@@ -38,16 +39,16 @@ each-push : {A B : Type 0} (refs : A → List B) (xs : List A) (y : A) → each 
 each-push refs [] y = append-nil (refs y)
 each-push refs (x ∷ xs) y = ap (λ r. refs x ++ r) (each-push refs xs y) ∙ sym (append_assoc (refs x) (each refs xs) (refs y))
 
-refs-without : (ok : Object → Bool) (base : ℕ) (vs : List (View Key)) → every ok (each view_refs vs) ≡ true → every ok (each view_refs (without (lies_at base) vs)) ≡ true
-refs-without ok base [] all = refl
-refs-without ok base (v ∷ vs) all =
+refs-without : (ok : Object → Bool) (test : View Key → Bool) (vs : List (View Key)) → every ok (each view_refs vs) ≡ true → every ok (each view_refs (without test vs)) ≡ true
+refs-without ok test [] all = refl
+refs-without ok test (v ∷ vs) all =
     let own = every-front ok (view_refs v) (each view_refs vs) all in
-    let rest = refs-without ok base vs (every-back ok (view_refs v) (each view_refs vs) all) in
-    at (lies_at base v) own rest
+    let rest = refs-without ok test vs (every-back ok (view_refs v) (each view_refs vs) all) in
+    at (test v) own rest
   where
-    at : (gone : Bool) → every ok (view_refs v) ≡ true → every ok (each view_refs (without (lies_at base) vs)) ≡ true → every ok (each view_refs (cond (not gone) (v ∷ without (lies_at base) vs) (without (lies_at base) vs))) ≡ true
+    at : (gone : Bool) → every ok (view_refs v) ≡ true → every ok (each view_refs (without test vs)) ≡ true → every ok (each view_refs (cond (not gone) (v ∷ without test vs) (without test vs))) ≡ true
     at true own rest = rest
-    at false own rest = every-append ok (view_refs v) (each view_refs (without (lies_at base) vs)) own rest
+    at false own rest = every-append ok (view_refs v) (each view_refs (without test vs)) own rest
 
 -- what the rows without views keep
 pub lawful-views : (w : World) (vs : List model.ViewTable) (calls made a b : ℕ) → IsLawful w calls made a b → IsLawful (record w { views = vs }) calls made a b
@@ -69,7 +70,7 @@ lawful-views w vs calls made a b h = record {
   messages_fit = h.messages_fit;
 }
 
-module _ (it : Tables) (calls made : ℕ) (is : AreLawful it calls made) (pid : ℕ) (f : Part → Part) (number : (part : Part) → (f part).process ≡ part.process) (handles : (part : Part) → (f part).handles ≡ part.handles) where
+module _ (it : Tables) (calls made : ℕ) (is : AreLawful it calls made) (test : Part → Bool) (f : Part → Part) (number : (part : Part) → (f part).process ≡ part.process) (handles : (part : Part) → (f part).handles ≡ part.handles) where
   abbrev n : Births
   n = births_of it
 
@@ -83,11 +84,11 @@ module _ (it : Tables) (calls made : ℕ) (is : AreLawful it calls made) (pid : 
   rows = rows_by it
 
   abbrev after : Tables
-  after = record it { parts = change (is_part pid) f it.parts }
+  after = record it { parts = change test f it.parts }
 
-  same_handles : map (shown_part g) (change (is_part pid) f it.parts) ≡ map (shown_part g) it.parts
+  same_handles : map (shown_part g) (change test f it.parts) ≡ map (shown_part g) it.parts
   same_handles =
-      unseen-change (shown_part g) (is_part pid) f
+      unseen-change (shown_part g) test f
       (λ part. (λ i. record { process = number part i; rows = map (shown_handle g) (handles part i).rows })) it.parts
 
   handle_refs : (part : Part) → all_pass part_refs ok part ≡ true → all_pass part_refs ok (f part) ≡ true
@@ -96,52 +97,52 @@ module _ (it : Tables) (calls made : ℕ) (is : AreLawful it calls made) (pid : 
   places : (part : Part) → has_places rows.waits part ≡ true → has_places rows.waits (f part) ≡ true
   places part there = (λ i. nat_le (count (is_connect_of (number part i)) rows.waits) (handles part i).spare) ∙ there
 
-  -- the views of a process are changed
-  pub reworked : (k : model.ViewTable → model.ViewTable) → ((part : Part) → shown_space g (f part) ≡ k (shown_space g part)) → rows_by after ≡ record rows { views = change (is_space pid) k rows.views }
-  reworked k shows =
+  -- the views of some processes are changed
+  pub reworked : (t : model.ViewTable → Bool) → ((part : Part) → t (shown_space g part) ≡ test part) → (k : model.ViewTable → model.ViewTable) → ((part : Part) → all_pass space_refs ok part ≡ true → shown_space g (f part) ≡ k (shown_space g part))
+      → rows_by after ≡ record rows { views = change t k rows.views }
+  reworked t same k shows =
       rw (
         same_handles,
-        change-map (shown_space g) (λ _. true) (is_part pid) (is_space pid) (λ part _. refl) f k (λ part _. shows part) it.parts (every-true it.parts),
+        change-map (shown_space g) (all_pass space_refs ok) test t (λ part _. same part) f k shows it.parts is.named.refs.in_views,
       ) refl
 
   -- or stay
   pub unseen : ((part : Part) → shown_space g (f part) ≡ shown_space g part) → rows_by after ≡ rows
-  unseen shows = rw (same_handles, unseen-change (shown_space g) (is_part pid) f shows it.parts) refl
+  unseen shows = rw (same_handles, unseen-change (shown_space g) test f shows it.parts) refl
 
   pub reworked_lawful : (vs : List model.ViewTable) → rows_by after ≡ record rows { views = vs }
-      → ((part : Part) → has_free_views part ≡ true → has_free_views (f part) ≡ true)
       → ((part : Part) → all_pass space_refs ok part ≡ true → all_pass space_refs ok (f part) ≡ true)
       → ((part : Part) → has_mapped_views it.sections part ≡ true → has_mapped_views it.sections (f part) ≡ true)
       → AreLawful after calls made
-  reworked_lawful vs shown free refs mapped = record {
+  reworked_lawful vs shown refs mapped = record {
     named = record {
       ports_apart = is.named.ports_apart;
       sections_apart = is.named.sections_apart;
-      unowned = every-change has_free_views (is_part pid) f free it.parts is.named.unowned;
+      tokens_apart = is.named.tokens_apart;
       refs = record {
-        in_handles = every-change (all_pass part_refs ok) (is_part pid) f handle_refs it.parts is.named.refs.in_handles;
+        in_handles = every-change (all_pass part_refs ok) test f handle_refs it.parts is.named.refs.in_handles;
         in_ports = is.named.refs.in_ports;
         in_messages = is.named.refs.in_messages;
         in_waits = is.named.refs.in_waits;
         in_names = is.named.refs.in_names;
-        in_views = every-change (all_pass space_refs ok) (is_part pid) f refs it.parts is.named.refs.in_views;
+        in_views = every-change (all_pass space_refs ok) test f refs it.parts is.named.refs.in_views;
       };
     };
     lawful = rw shown (lawful-views rows vs calls made it.waits.spare it.ports.message_room is.lawful);
     counted = is.counted;
     registered = is.registered;
     headed = is.headed;
-    drawn = rw shown (drawn.same-drawn rows _ refl refl refl refl is.drawn);
+    drawn = rw shown (drawn.same-drawn rows _ refl refl refl refl refl is.drawn);
     born = subst AreBornIn (sym shown) is.born;
-    promised = subst (λ (v : World). IsPromised v.waits v.handles (change (is_part pid) f it.parts)) (sym shown) (record {
-      places = every-change (has_places rows.waits) (is_part pid) f places it.parts is.promised.places;
+    promised = subst (λ (v : World). IsPromised v.waits v.handles (change test f it.parts)) (sym shown) (record {
+      places = every-change (has_places rows.waits) test f places it.parts is.promised.places;
       loads = is.promised.loads;
       homes = is.promised.homes;
       taken = is.promised.taken;
     });
     mapped = record {
       sections_made = is.mapped.sections_made;
-      views_mapped = every-change (has_mapped_views it.sections) (is_part pid) f mapped it.parts is.mapped.views_mapped;
+      views_mapped = every-change (has_mapped_views it.sections) test f mapped it.parts is.mapped.views_mapped;
     };
   }
 
@@ -150,7 +151,7 @@ module _ (it : Tables) (calls made : ℕ) (is : AreLawful it calls made) (pid : 
   pub maps : (view : View Key) → rows_by (record it { parts = change (is_part pid) (mapped view) it.parts }) ≡ basic (rows_by it) (Maps pid (shown_view (birth_of (births_of it)) view))
   maps view =
       let show = shown_view (birth_of (births_of it)) in
-      reworked it calls made is pid (mapped view) (λ part. refl) (λ part. refl) (with_view (show view)) (λ part. ap (λ vs. record { process = part.process; rows = vs }) (push-map show part.views.views view))
+      reworked it calls made is (is_part pid) (mapped view) (λ part. refl) (λ part. refl) (is_space pid) (λ part. refl) (with_view (show view)) (λ part all. ap (λ vs. record { process = part.process; rows = vs }) (push-map show part.views.views view))
 
   -- its section stands
   section_stands : (view : View Key) → is_mapped it.sections view ≡ true → stands (births_of it).sections view.section ≡ true
@@ -162,12 +163,15 @@ module _ (it : Tables) (calls made : ℕ) (is : AreLawful it calls made) (pid : 
           absurd (cc)
       by (Some row) found some = listed_stands (λ (s : SectionRow). s.birth) (listed it.sections) view.section row some
 
-  pub mapped_lawful : (view : View Key) → is_mapped it.sections view ≡ true → view.owner ≡ None → AreLawful (record it { parts = change (is_part pid) (mapped view) it.parts }) calls made
-  mapped_lawful view there alone =
+  owner_stands : (o : Option Key) → some_stands (births_of it).ports o ≡ true → every (object_stands (births_of it)) (ports_in o) ≡ true
+  owner_stands None there = refl
+  owner_stands (Some k) there = rw there refl
+
+  pub mapped_lawful : (view : View Key) → is_mapped it.sections view ≡ true → some_stands (births_of it).ports view.owner ≡ true → AreLawful (record it { parts = change (is_part pid) (mapped view) it.parts }) calls made
+  mapped_lawful view there owned =
       let stand = section_stands view there in
-      let own : every (object_stands (births_of it)) (view_refs view) ≡ true = rw (stand, alone) refl in
-      reworked_lawful it calls made is pid (mapped view) (λ part. refl) (λ part. refl) _ (maps view)
-      (λ part all. every-push is_free_view part.views.views view all (rw alone refl))
+      let own : every (object_stands (births_of it)) (view_refs view) ≡ true = rw stand (owner_stands view.owner owned) in
+      reworked_lawful it calls made is (is_part pid) (mapped view) (λ part. refl) (λ part. refl) _ (maps view)
       (λ part all. rw (each-push view_refs part.views.views view) (every-append (object_stands (births_of it)) (each view_refs part.views.views) (view_refs view) all own))
       (λ part all. every-push (is_mapped it.sections) part.views.views view all there)
 
@@ -175,29 +179,45 @@ module _ (it : Tables) (calls made : ℕ) (is : AreLawful it calls made) (pid : 
   pub unmaps : (base : ℕ) → rows_by (record it { parts = change (is_part pid) (unmapped base) it.parts }) ≡ basic (rows_by it) (Unmaps pid base)
   unmaps base =
       let show = shown_view (birth_of (births_of it)) in
-      reworked it calls made is pid (unmapped base) (λ part. refl) (λ part. refl) (without_view base)
-      (λ part. ap (λ vs. record { process = part.process; rows = vs }) (without-map show (λ _. true) (lies_at base) (found.lies_at base) (λ v _. refl) part.views.views (every-true part.views.views)))
+      reworked it calls made is (is_part pid) (unmapped base) (λ part. refl) (λ part. refl) (is_space pid) (λ part. refl) (without_view base)
+      (λ part all. ap (λ vs. record { process = part.process; rows = vs }) (without-map show (λ _. true) (lies_at base) (found.lies_at base) (λ v _. refl) part.views.views (every-true part.views.views)))
 
   pub unmapped_lawful : (base : ℕ) → AreLawful (record it { parts = change (is_part pid) (unmapped base) it.parts }) calls made
   unmapped_lawful base =
-      reworked_lawful it calls made is pid (unmapped base) (λ part. refl) (λ part. refl) _ (unmaps base)
-      (λ part all. every-without is_free_view (lies_at base) part.views.views all)
-      (λ part all. refs-without (object_stands (births_of it)) base part.views.views all)
+      reworked_lawful it calls made is (is_part pid) (unmapped base) (λ part. refl) (λ part. refl) _ (unmaps base)
+      (λ part all. refs-without (object_stands (births_of it)) (lies_at base) part.views.views all)
       (λ part all. every-without (is_mapped it.sections) (lies_at base) part.views.views all)
 
   -- all views of a process go
   pub drops : rows_by (record it { parts = change (is_part pid) emptied it.parts }) ≡ basic (rows_by it) (DropsViewsOf pid)
-  drops = reworked it calls made is pid emptied (λ part. refl) (λ part. refl) without_views (λ part. refl)
+  drops = reworked it calls made is (is_part pid) emptied (λ part. refl) (λ part. refl) (is_space pid) (λ part. refl) without_views (λ part all. refl)
 
   pub dropped_lawful : AreLawful (record it { parts = change (is_part pid) emptied it.parts }) calls made
-  dropped_lawful = reworked_lawful it calls made is pid emptied (λ part. refl) (λ part. refl) _ drops (λ part all. refl) (λ part all. refl) (λ part all. refl)
+  dropped_lawful = reworked_lawful it calls made is (is_part pid) emptied (λ part. refl) (λ part. refl) _ drops (λ part all. refl) (λ part all. refl)
 
   -- more room for views
   pub rooms : (spare : ℕ) → rows_by (record it { parts = change (is_part pid) (view_roomed spare) it.parts }) ≡ rows_by it
-  rooms spare = unseen it calls made is pid (view_roomed spare) (λ part. refl) (λ part. refl) (λ part. refl)
+  rooms spare = unseen it calls made is (is_part pid) (view_roomed spare) (λ part. refl) (λ part. refl) (λ part. refl)
 
   pub roomed_lawful : (spare : ℕ) → AreLawful (record it { parts = change (is_part pid) (view_roomed spare) it.parts }) calls made
-  roomed_lawful spare = reworked_lawful it calls made is pid (view_roomed spare) (λ part. refl) (λ part. refl) (rows_by it).views (rooms spare) (λ part all. all) (λ part all. all) (λ part all. all)
+  roomed_lawful spare = reworked_lawful it calls made is (is_part pid) (view_roomed spare) (λ part. refl) (λ part. refl) (rows_by it).views (rooms spare) (λ part all. all) (λ part all. all)
+
+-- The views that go with a port go, of all processes
+module _ (it : Tables) (calls made : ℕ) (is : AreLawful it calls made) (port : Key) (there : stands (births_of it).ports port ≡ true) where
+  abbrev without_port : Tables
+  without_port = record it { parts = map (dropped port) it.parts }
+
+  pub drops_owned : rows_by without_port ≡ basic (rows_by it) (DropsOwned (name_of (births_of it).ports port))
+  drops_owned =
+      reworked it calls made is (λ _. true) (dropped port) (λ part. refl) (λ part. refl) (λ _. true) (λ part. refl) (without_owned (name_of (births_of it).ports port))
+      (λ part all. ap (λ vs. record { process = part.process; rows = vs })
+      (without-map (shown_view (birth_of (births_of it))) (all_pass view_refs (object_stands (births_of it))) (goes_with port) (found.is_owned_by (name_of (births_of it).ports port)) (owned_same it is.named port there) part.views.views (each_stands (object_stands (births_of it)) part.views.views all)))
+
+  pub owned_lawful : AreLawful without_port calls made
+  owned_lawful =
+      reworked_lawful it calls made is (λ _. true) (dropped port) (λ part. refl) (λ part. refl) _ drops_owned
+      (λ part all. refs-without (object_stands (births_of it)) (goes_with port) part.views.views all)
+      (λ part all. every-without (is_mapped it.sections) (goes_with port) part.views.views all)
 
 -- The view that holds an address goes, where there is one
 pub record IsUnmapped (it : Tables) (calls made pid address places : ℕ) (new : List Part) : Type 0 where

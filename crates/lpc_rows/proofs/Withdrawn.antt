@@ -52,7 +52,7 @@ module _ (it : Tables) (calls made : ℕ) (is : AreLawful it calls made) (who : 
     named = record {
       ports_apart = is.named.ports_apart;
       sections_apart = is.named.sections_apart;
-      unowned = is.named.unowned;
+      tokens_apart = is.named.tokens_apart;
       refs = record {
         in_handles = is.named.refs.in_handles;
         in_ports = is.named.refs.in_ports;
@@ -63,17 +63,17 @@ module _ (it : Tables) (calls made : ℕ) (is : AreLawful it calls made) (who : 
       };
     };
     lawful = rw (withdraws, ← same_count) (lawful.lawful-withdraw rows calls made it.waits.spare it.ports.message_room (is_own_of who) is.lawful);
-    counted = record { ports_made = is.counted.ports_made; messages_made = is.counted.messages_made; waits_made = is.counted.waits_made };
+    counted = record { ports_made = is.counted.ports_made; messages_made = is.counted.messages_made; waits_made = is.counted.waits_made; tokens_made = is.counted.tokens_made };
     registered = is.registered;
     mapped = is.mapped;
     headed = every-without has_header (ports.is_own_of who) it.ports.messages is.headed;
-    drawn = drawn.same-drawn rows _ refl refl refl refl is.drawn;
+    drawn = drawn.same-drawn rows _ refl refl refl refl refl is.drawn;
     born = is.born;
     promised = is.promised;
   }
 
   pub withdrawn_room : (places : ℕ) → Roomy (room_by rows it places) (room_by (rows_by after) after places)
-  withdrawn_room places = rw (ap (λ (v : World). v.messages) withdraws, ← same_count) (rooms.room_withdraw _ _ _ _ _ _ _ _ rows _ (is_own_of who))
+  withdrawn_room places = rw (ap (λ (v : World). v.messages) withdraws, ← same_count) (rooms.room_withdraw _ _ _ _ _ _ _ _ _ _ rows _ (is_own_of who))
 
   pub withdrawn_left : has_queued (rows_by after) who ≡ false
   withdrawn_left = rw (ap (λ (v : World). v.messages) withdraws) (none_left (is_own_of who) rows.messages)

@@ -12,7 +12,7 @@ pub record HandlePlaces : Type 0 where
 
 -- How many rows each table has memory for, be they there or not: only a table that asks for memory has more of them. Of
 -- processes and threads it is the numbers ever used, which stay used, and the room for more: a row that goes may leave
--- a place, so that there is room for one more then.
+-- a place, so that there is room for one more then. Of the names of tokens it isn't told.
 pub record Capacity : Type 0 where
   pub processes : ℕ
   pub threads : ℕ
@@ -21,12 +21,13 @@ pub record Capacity : Type 0 where
   pub ports : ℕ
   pub names : ℕ
   pub sections : ℕ
+  pub tokens : ℕ
   pub handles : List HandlePlaces
   pub views : List HandlePlaces
 
 -- no memory
 abbrev pub no_capacity : Capacity
-no_capacity = record { processes = 0; threads = 0; waits = 0; messages = 0; ports = 0; names = 0; sections = 0; handles = []; views = [] }
+no_capacity = record { processes = 0; threads = 0; waits = 0; messages = 0; ports = 0; names = 0; sections = 0; tokens = 0; handles = []; views = [] }
 
 -- the places for handles of a process
 abbrev pub places_of_part : Part → HandlePlaces
@@ -46,6 +47,7 @@ capacity_by it places = record {
   ports = it.ports.port_room + length it.ports.ports;
   names = it.space.spare + length it.space.bindings;
   sections = it.sections.spare + length (listed it.sections);
+  tokens = it.tokens.spare + length (listed it.tokens);
   handles = map places_of_part it.parts;
   views = map view_places_of it.parts;
 }

@@ -1,15 +1,15 @@
 -- Words of the world's clauses: what stands at a key, what a call leaves of the rows, and the room that it takes.
-use Rattle.std.specs.Prelude.{◌≡◌, ℕ, ◌+◌, ◌<◌, ◌≤◌, ◌==◌, ◌&&◌, Bool, false, true, not, List, [], map, Option, option_map, is_some, IfErr, MatchOption, None, Some, MatchResult, Result, Ok, Err, length, replicate, if◌then◌else◌}
+use Rattle.std.specs.Prelude.{◌≡◌, ℕ, ◌+◌, ◌++◌, nat_le, ◌<◌, ◌≤◌, ◌==◌, ◌&&◌, Bool, false, true, not, List, [], map, Option, option_map, is_some, IfErr, MatchOption, None, Some, MatchResult, Result, Ok, Err, length, replicate, if◌then◌else◌}
 use Rattle.lpc_base.specs.declared.birth.Birth.{Birth}
 use Rattle.lpc_base.specs.declared.limits.TheConstants.{HANDLE_LIMIT, VIEW_LIMIT}
 use Rattle.lpc_base.specs.declared.port_kind.PortKind.{PortKind}
 use Rattle.lpc_base.specs.declared.status.Status.{Status}
-use Rattle.lpc_base.specs.Rows.{change, every, first, has, without}
+use Rattle.lpc_base.specs.Rows.{change, every, first, has, passes, without}
 use Rattle.lpc_base.specs.Views.{least_base, passes_section, view_size}
 use Rattle.lpc_handles.specs.declared.table.Row.{Row}
-use Rattle.lpc_model.specs.Basics.{Basic, basic, AddsHandle, AddsSection, Enters, Joins, Makes, Unmaps, Writes}
+use Rattle.lpc_model.specs.Basics.{Basic, basic, AddsHandle, AddsSection, AddsToken, Enters, Joins, Makes, Unmaps, Writes}
 use Rattle.lpc_model.specs.Entering.{takes, takes_from}
-use Rattle.lpc_model.specs.Found.{handles_of, is_port, is_process, is_queued, is_queued_connect, is_table, is_thread, pair_of, port_row, section_row, view_holding, views_of, waits_as}
+use Rattle.lpc_model.specs.Found.{handles_of, is_port, is_process, is_queued, is_queued_connect, is_table, is_thread, pair_of, port_row, section_row, token_row, view_holding, views_of, waits_as}
 use Rattle.lpc_model.specs.Memory.{bytes_at, place_in}
 use Rattle.lpc_model.specs.Message.{asks}
 use Rattle.lpc_model.specs.Tests.{handle_load, handle_row, next_birth}
@@ -27,18 +27,20 @@ use Rattle.lpc_ports.specs.declared.messages.Message.{Message}
 use Rattle.lpc_procs.specs.declared.rows.BornThread.{BornThread}
 use Rattle.lpc_sections.specs.Sections.{SectionRow}
 use Rattle.lpc_slots.specs.declared.Key.{Key}
+use Rattle.lpc_tokens.specs.declared.token_row.TokenRow.{TokenRow}
 use Rattle.lpc_views.specs.declared.view.MapFault.{MapFault}
 use Rattle.lpc_views.specs.declared.view.MapFault.TheVariants.{InvalidViewSize, Quota, SectionProtection}
 use Rattle.lpc_views.specs.declared.view.View.{View}
 use Rattle.lpc_waits.specs.Table as table
+use Rattle.lpc_waits.specs.declared.Offer.{Offer}
 use Rattle.lpc_waits.specs.declared.Wait.{Wait}
 use Rattle.lpc_rows.specs.Bound.{with_name}
 use Rattle.lpc_rows.specs.Joined.{with_completed}
 use Rattle.lpc_rows.specs.Kept.{Kept, Room, handle_room, has_queued, is_pending, is_unsent, owed_handles}
 use Rattle.lpc_rows.specs.Lawful.{is_quiet}
-use Rattle.lpc_rows.specs.Names.{name_of}
+use Rattle.lpc_rows.specs.Names.{name_of, some_stands}
 use Rattle.lpc_rows.specs.Ready.{port_of, waiter}
-use Rattle.lpc_rows.specs.Shown.{all_pass, birth_of, name_by, object_stands, port_with, pulled_row, row_with, shown_view, waiting_row, with_message}
+use Rattle.lpc_rows.specs.Shown.{all_pass, birth_of, name_by, object_stands, port_with, pulled_row, row_with, shown_offer, shown_view, waiting_row, with_message, with_offer}
 use Rattle.lpc_rows.specs.OwedClosings.{TellsOnce, closing_places}
 use Rattle.lpc_homes.specs.declared.object.Object.{Object}
 
@@ -177,6 +179,16 @@ without_wait w tid = record w { waits = without (waits_as tid) w.waits }
 abbrev pub waiting_with : World → ℕ → whole.Message → World
 waiting_with w tid message = record w { waits = change (waits_as tid) (with_message message) w.waits }
 
+-- a wait whose connect offers a part of a section, or nothing
+abbrev pub offering_with : Kept → ℕ → Option Offer → World
+offering_with w tid offer =
+    let shown = option_map (shown_offer (birth_of w.births)) offer in
+    record w.rows { waits = change (waits_as tid) (with_offer shown) w.rows.waits }
+
+-- the section of an offer stands, where there is one
+abbrev pub has_section : Kept → Option Offer → Bool
+has_section w offer = some_stands w.births.sections (option_map (λ o. o.section) offer)
+
 -- a thread's connect got its handle, and ended
 abbrev pub finished : Kept → ℕ → ℕ → Object → ℕ → World
 finished w tid value object access =
@@ -267,10 +279,21 @@ view_at w pid address = view_holding w pid address 1
 abbrev pub HasFewViews : World → ℕ → Type 0
 HasFewViews w pid = length (views_of w pid) < VIEW_LIMIT
 
--- the base of a further view of a process: none where it has as many as may be, or none is free
+-- the base of a further view beside some: none where they are as many as may be, or none is free; that in a process
+abbrev pub base_among : List model.ViewRow → ℕ → Option ℕ
+base_among views size =
+    if length views == VIEW_LIMIT then None else least_base (map (λ v. (v.base, v.size)) views) size
+
 abbrev pub new_base : World → ℕ → ℕ → Option ℕ
-new_base w pid size =
-    if length (views_of w pid) == VIEW_LIMIT then None else least_base (map (λ v. (v.base, v.size)) (views_of w pid)) size
+new_base w pid size = base_among (views_of w pid) size
+
+-- that beside the views of a process and further ones, which aren't mapped
+abbrev pub base_beside : Kept → ℕ → List (View Key) → ℕ → Option ℕ
+base_beside w pid others size = base_among (views_of w.rows pid ++ map (view_shown w) others) size
+
+-- a view shows no more than its section has
+abbrev pub is_of_section : Kept → View Key → Bool
+is_of_section w view = passes (section_at w view.section) (λ s. nat_le (view.offset + view.size) s.size)
 
 -- the size of a view of a section, or why there is none
 abbrev pub size_of_view : model.SectionRow → ℕ → ℕ → Bool → Result ℕ MapFault
@@ -279,19 +302,32 @@ size_of_view s offset size writable =
     if passes_section s.size offset size then Err InvalidViewSize else
     Ok (view_size s.size offset size)
 
--- a view of its own that a process maps, at its base
-abbrev pub view_of_own : model.SectionRow → ℕ → Bool → ℕ → Option ℕ → Result model.ViewRow MapFault
-view_of_own s offset writable size None = Err Quota
-view_of_own s offset writable size (Some base) =
-    Ok (record { base = base; size = size; section = s.birth; offset = offset; writable = writable; owner = None })
+-- what a view shows, how it may be used, and the port that it goes with, none where the process maps it by itself
+pub record Shows : Type 0 where
+  pub section : model.SectionRow
+  pub offset : ℕ
+  pub writable : Bool
+  pub owner : Option Birth
 
-abbrev pub view_of_size : World → ℕ → model.SectionRow → ℕ → Bool → Result ℕ MapFault → Result model.ViewRow MapFault
-view_of_size w pid s offset writable (Err fault) = Err fault
-view_of_size w pid s offset writable (Ok size) = view_of_own s offset writable size (new_base w pid size)
+-- a view of so many bytes of that, at its base
+abbrev pub view_at_base : Shows → ℕ → Option ℕ → Result model.ViewRow MapFault
+view_at_base v size None = Err Quota
+view_at_base v size (Some base) = Ok (record {
+  base = base;
+  size = size;
+  section = v.section.birth;
+  offset = v.offset;
+  writable = v.writable;
+  owner = v.owner;
+})
+
+abbrev pub view_of_size : World → ℕ → Shows → Result ℕ MapFault → Result model.ViewRow MapFault
+view_of_size w pid v (Err fault) = Err fault
+view_of_size w pid v (Ok size) = view_at_base v size (new_base w pid size)
 
 -- the new view, or the first cause why there is none: its protection, its range, then the quota
-abbrev pub mapped_view : World → ℕ → model.SectionRow → ℕ → ℕ → Bool → Result model.ViewRow MapFault
-mapped_view w pid s offset size writable = view_of_size w pid s offset writable (size_of_view s offset size writable)
+abbrev pub mapped_view : World → ℕ → Shows → ℕ → Result model.ViewRow MapFault
+mapped_view w pid v size = view_of_size w pid v (size_of_view v.section v.offset size v.writable)
 
 -- the world with these bytes at an address of a view; the same where there is no view
 abbrev pub written_through : World → ℕ → List ℕ → Option model.ViewRow → World
@@ -307,7 +343,28 @@ unmapped_at w pid (Some v) = basic w (Unmaps pid v.base)
 abbrev pub bytes_through : World → ℕ → ℕ → model.ViewRow → List ℕ
 bytes_through w address n v = bytes_at w.contents v address n
 
+-- what a view of a section shows from an offset on, which goes with the port at a key or with none
+abbrev pub showing : Kept → ℕ → Bool → Option Key → model.SectionRow → Shows
+showing w offset writable owner s =
+    record { section = s; offset = offset; writable = writable; owner = some_birth w owner }
+
 -- a mapping answers what the definitions answer
-abbrev pub MapsAs : Kept → ℕ → Key → ℕ → ℕ → Bool → Result (View Key) MapFault → Type 0
-MapsAs w pid section offset size writable result =
-    option_map (λ s. mapped_view w.rows pid s offset size writable) (section_at w section) ≡ Some (seen (view_shown w) result)
+abbrev pub MapsAs : Kept → ℕ → Key → ℕ → ℕ → Bool → Option Key → Result (View Key) MapFault → Type 0
+MapsAs w pid section offset size writable owner result =
+    option_map (λ s. mapped_view w.rows pid (showing w offset writable owner s) size) (section_at w section)
+    ≡ Some (seen (view_shown w) result)
+
+-- Tokens
+-- the row of the token at a key, and a token as it is added
+abbrev pub token_at : Kept → Key → Option model.TokenRow
+token_at w key = token_row w.rows (name_of w.births.tokens key)
+
+abbrev pub with_token : Kept → TokenRow → World
+with_token w t = after w (AddsToken (record { birth = t.birth; token = t.token; level = t.level }))
+
+-- and the room with the place that it took, or that a token's name took
+abbrev pub and_token : Room → Room
+and_token r = record r { tokens = r.tokens + 1 }
+
+abbrev pub and_token_name : Room → Room
+and_token_name r = record r { token_names = r.token_names + 1 }

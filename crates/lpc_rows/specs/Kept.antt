@@ -79,6 +79,8 @@ pub record Room : Type 0 where
   pub ports : ℕ
   pub names : ℕ
   pub sections : ℕ
+  pub tokens : ℕ
+  pub token_names : ℕ
   pub handles : List HandleRoom
   pub views : List HandleRoom
 
@@ -109,6 +111,8 @@ room_by rows it places = record {
   ports = it.ports.port_room;
   names = it.space.spare;
   sections = it.sections.spare;
+  tokens = it.tokens.spare;
+  token_names = it.token_names.spare;
   handles = map room_of_part it.parts;
   views = map view_room_of it.parts;
 }
@@ -153,6 +157,9 @@ grown_handles w pid more = grown_capacity (handle_places w.capacity pid) (owed_h
 abbrev pub grown_sections : Kept → ℕ → ℕ
 grown_sections w more = grown_capacity w.capacity.sections more (length w.rows.sections)
 
+abbrev pub grown_tokens : Kept → ℕ → ℕ
+grown_tokens w more = grown_capacity w.capacity.tokens more (length w.rows.tokens)
+
 abbrev pub grown_views : Kept → ℕ → ℕ → ℕ
 grown_views w pid more = grown_capacity (view_places w.capacity pid) more (length (views_of w.rows pid))
 
@@ -193,6 +200,8 @@ pub record Roomy (old new : Room) : Type 0 where
   pub for_ports : old.ports ≤ new.ports
   pub for_names : old.names ≤ new.names
   pub for_sections : old.sections ≤ new.sections
+  pub for_tokens : old.tokens ≤ new.tokens
+  pub for_token_names : old.token_names ≤ new.token_names
   pub for_handles : (pid : ℕ) → handle_room old pid ≤ handle_room new pid
   pub for_views : (pid : ℕ) → view_room old pid ≤ view_room new pid
 

@@ -13,6 +13,7 @@ use Rattle.lpc_procs.specs.declared.rows.Registration.{Registration}
 use Rattle.lpc_sections.specs.Sections.{SectionRow}
 use Rattle.lpc_slots.specs.Table.{Table}
 use Rattle.lpc_slots.specs.declared.Key.{Key}
+use Rattle.lpc_tokens.specs.declared.token_row.TokenRow.{TokenRow}
 use Rattle.lpc_views.specs.Parts.{is_mapped}
 use Rattle.lpc_waits.specs.Table.{WaitTable}
 use Rattle.lpc_homes.specs.declared.parts.Part.{Part}
@@ -55,7 +56,7 @@ pub record IsLawful (w : World) (calls made waits messages : ℕ) : Type 0 where
   -- so no counter reaches its end
   pub few : calls ≤ LINES_LIMIT
   pub budget : made + owed_rows w ≤ CALL_BUDGET * calls
-  pub rows : length w.processes + length w.threads + length w.ports + length w.sections ≤ made
+  pub rows : length w.processes + length w.threads + length w.ports + length w.sections + length w.tokens ≤ made
   pub draws : every (draws_at_most (made + 1)) w.threads ≡ true
   -- each live thread's process stands, and each thread's has one table of handles
   pub housed : every (is_housed w) w.threads ≡ true
@@ -76,10 +77,11 @@ pub record IsLawful (w : World) (calls made waits messages : ℕ) : Type 0 where
   pub messages_fit : owed_messages w ≤ messages
 
 -- what was inserted into the tables is counted
-pub record IsCounted (ports : PortTable) (waits : WaitTable) (made : ℕ) : Type 0 where
+pub record IsCounted (ports : PortTable) (waits : WaitTable) (tokens : Table TokenRow) (made : ℕ) : Type 0 where
   pub ports_made : ports.ports_made ≤ made
   pub messages_made : ports.messages_made ≤ made
   pub waits_made : waits.made ≤ made
+  pub tokens_made : tokens.made ≤ made
 
 -- no two threads have one number
 abbrev pub are_single_threads : List ThreadRow → Bool
@@ -101,12 +103,13 @@ drew_own b t = not (t.number == b.maker) || nat_lt b.ordinal t.next_ordinal
 abbrev pub was_drawn : List UsedThread → List ThreadRow → Birth → Bool
 was_drawn used threads b = has (is_used_thread b.maker) used && every (drew_own b) threads
 
--- a port's birth was drawn by its maker, and so was a section's, so that what is drawn next is no port's and no section's
+-- a port's birth was drawn by its maker, and so was a section's and a token's, so that what is drawn next is none of theirs
 pub record AreDrawn (w : World) : Type 0 where
   pub threads_single : are_single_threads w.threads ≡ true
   pub threads_noted : every (is_noted w.used_threads) w.threads ≡ true
   pub ports_drawn : every (λ p. was_drawn w.used_threads w.threads p.birth) w.ports ≡ true
   pub sections_drawn : every (λ s. was_drawn w.used_threads w.threads s.birth) w.sections ≡ true
+  pub tokens_drawn : every (λ t. was_drawn w.used_threads w.threads t.birth) w.tokens ≡ true
 
 -- no two processes have one number, and a process's number was used
 abbrev pub are_single_processes : List ProcessRow → Bool
@@ -183,7 +186,7 @@ pub record AreMappedIn (sections : Table SectionRow) (parts : List Part) (made :
 pub record AreLawful (it : Tables) (calls made : ℕ) : Type 0 where
   pub named : AreNamed (births_of it) it
   pub lawful : IsLawful (rows_by it) calls made it.waits.spare it.ports.message_room
-  pub counted : IsCounted it.ports it.waits made
+  pub counted : IsCounted it.ports it.waits it.tokens made
   pub drawn : AreDrawn (rows_by it)
   pub born : AreBornIn (rows_by it)
   pub promised : IsPromised (rows_by it).waits (rows_by it).handles it.parts

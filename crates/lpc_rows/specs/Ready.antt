@@ -6,7 +6,7 @@ use Rattle.lpc_base.specs.declared.port_kind.PortKind.TheVariants.{Unnamed}
 use Rattle.lpc_model.specs.declared.entry.CallName.TheVariants.{NtReplyWaitReceivePort}
 use Rattle.lpc_model.specs.Listed.{Listed}
 use Rattle.lpc_model.specs.World.{World, PortRow, Receive, ThreadRow, WaitRow}
-use Rattle.lpc_model.specs.Found.{is_listen, is_request, live_thread, no_birth, port_row, section_row, wait_of}
+use Rattle.lpc_model.specs.Found.{is_listen, is_request, live_thread, no_birth, port_row, section_row, token_row, wait_of}
 use Rattle.lpc_waits.specs.Table as table
 use Rattle.lpc_waits.specs.declared.Wait.{Wait}
 use Rattle.lpc_rows.specs.Names.{name_of, stands}
@@ -15,6 +15,7 @@ use Rattle.lpc_rows.specs.Kept.{Kept, is_alive}
 use Rattle.lpc_slots.specs.declared.Key.{Key}
 use Rattle.lpc_homes.specs.declared.object.Object.{Object}
 use Rattle.lpc_homes.specs.declared.object.Object.TheVariants as object
+use Rattle.lpc_tokens.specs.declared.security.Security.TheVariants.{Unsecured}
 
 -- a thread that lives and doesn't wait can make a call
 abbrev pub is_ready : World → ℕ → Bool
@@ -22,7 +23,7 @@ is_ready w tid = is_some (live_thread w tid) && is_none (wait_of w tid)
 
 -- the row of a live thread
 abbrev pub no_thread : ThreadRow
-no_thread = record { number = 0; process = 0; birth = record { maker = 0; ordinal = 0; process = 0 }; live = false; next_identifier = 0; next_ordinal = 0; registrations = [] }
+no_thread = record { number = 0; process = 0; birth = record { maker = 0; ordinal = 0; process = 0 }; live = false; next_identifier = 0; next_ordinal = 0; registrations = []; own = None }
 
 abbrev pub thread_in : Option ThreadRow → ThreadRow
 thread_in None = no_thread
@@ -33,7 +34,7 @@ caller w tid = thread_in (live_thread w tid)
 
 -- the row of a port that stands
 abbrev pub no_port : PortRow
-no_port = record { birth = no_birth; kind = Unnamed; connection = None; pair = None; context = 0; completed = false; creator = None }
+no_port = record { birth = no_birth; kind = Unnamed; connection = None; pair = None; context = 0; completed = false; creator = None; security = Unsecured }
 
 abbrev pub port_in : Option PortRow → PortRow
 port_in None = no_port
@@ -52,6 +53,7 @@ HasRow w (object.Port key) = IsStanding w key
 HasRow w (object.Process birth) = Unit
 HasRow w (object.Thread birth) = Unit
 HasRow w (object.Section key) = IsSome (section_row w.rows (name_of w.births.sections key))
+HasRow w (object.Token key) = IsSome (token_row w.rows (name_of w.births.tokens key))
 
 -- the wait of a thread that waits
 abbrev pub no_wait : WaitRow

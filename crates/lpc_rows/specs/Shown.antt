@@ -1,8 +1,8 @@
 -- The tables' rows as the definitions' rows: births in place of keys.
-use Rattle.std.specs.Prelude.{◌≡◌, ℕ, List, [], ◌∷◌, ◌++◌, Bool, true, false, Option, Some, None, is_none, length, option_map, option_to_list, map}
+use Rattle.std.specs.Prelude.{◌≡◌, ℕ, List, [], ◌∷◌, ◌++◌, Bool, true, false, Option, Some, None, length, option_map, option_to_list, map}
 use Rattle.lpc_base.specs.declared.birth.Birth.{Birth}
 use Rattle.lpc_base.specs.declared.port_kind.PortKind.{PortKind}
-use Rattle.lpc_base.specs.Rows.{each, every}
+use Rattle.lpc_base.specs.Rows.{each, every, given}
 use Rattle.lpc_handles.specs.declared.table.Row.{Row}
 use Rattle.lpc_model.specs.declared.entry.CallName.{CallName}
 use Rattle.lpc_model.specs.declared.entry.CallName.TheVariants.{NtConnectPort, NtListenPort, NtReplyWaitReceivePort, NtRequestWaitReplyPort}
@@ -29,9 +29,13 @@ use Rattle.lpc_procs.specs.declared.rows.UsedThread.{UsedThread}
 use Rattle.lpc_sections.specs.Sections.{SectionRow}
 use Rattle.lpc_slots.specs.Table.{Table, listed}
 use Rattle.lpc_slots.specs.declared.Key.{Key}
+use Rattle.lpc_tokens.specs.Names as named
+use Rattle.lpc_tokens.specs.declared.security.Security.TheVariants.{Unsecured}
+use Rattle.lpc_tokens.specs.declared.token_row.TokenRow.{TokenRow}
 use Rattle.lpc_views.specs.declared.view.View.{View}
 use Rattle.lpc_waits.specs.Table.{WaitTable}
 use Rattle.lpc_waits.specs.declared.Accepted.{Accepted}
+use Rattle.lpc_waits.specs.declared.Offer.{Offer}
 use Rattle.lpc_waits.specs.declared.Wait.{Wait}
 use Rattle.lpc_waits.specs.declared.WaitKind.{WaitKind}
 use Rattle.lpc_waits.specs.declared.WaitKind.TheVariants as wait
@@ -46,6 +50,7 @@ use Rattle.lpc_homes.specs.declared.parts.Part.{Part}
 pub record Births : Type 0 where
   pub ports : Names
   pub sections : Names
+  pub tokens : Names
 
 -- the birth of an object, and whether its key stands; a process and a thread are named by their births, and have none
 abbrev pub birth_of : Births → Object → Birth
@@ -53,12 +58,14 @@ birth_of n (object.Port key) = name_of n.ports key
 birth_of n (object.Process birth) = birth
 birth_of n (object.Thread birth) = birth
 birth_of n (object.Section key) = name_of n.sections key
+birth_of n (object.Token key) = name_of n.tokens key
 
 abbrev pub object_stands : Births → Object → Bool
 object_stands n (object.Port key) = stands n.ports key
 object_stands n (object.Process birth) = true
 object_stands n (object.Thread birth) = true
 object_stands n (object.Section key) = stands n.sections key
+object_stands n (object.Token key) = stands n.tokens key
 
 -- the kind of an object, and its name
 abbrev pub kind_of : Object → ObjectKind
@@ -66,6 +73,7 @@ kind_of (object.Port key) = kind.Port
 kind_of (object.Process birth) = kind.Process
 kind_of (object.Thread birth) = kind.Thread
 kind_of (object.Section key) = kind.Section
+kind_of (object.Token key) = kind.Token
 
 abbrev pub name_by : (Object → Birth) → Object → ObjectName
 name_by f o = record { kind = kind_of o; birth = f o }
@@ -94,9 +102,10 @@ shown_port f row = record {
   context = row.1.context;
   completed = row.1.completed;
   creator = option_map shown_creator row.1.creator;
+  security = row.1.security;
 }
 
--- a port that is added, which has no other end yet
+-- a port that is added, which has no other end yet, and which anyone may use
 abbrev pub port_with : (Object → Birth) → PortKind → Birth → Option Key → Option Creator → model.PortRow
 port_with f kind birth connection creator = record {
   birth = birth;
@@ -106,6 +115,7 @@ port_with f kind birth connection creator = record {
   context = 0;
   completed = false;
   creator = option_map shown_creator creator;
+  security = Unsecured;
 }
 
 abbrev pub message_refs : Key × QueuedMessage → List Object
@@ -126,25 +136,41 @@ call_of_wait wait.Receive = NtReplyWaitReceivePort
 call_of_wait wait.Listen = NtListenPort
 call_of_wait wait.Connect = NtConnectPort
 
-abbrev pub shown_connect : List ℕ → Option Accepted → model.WaitKind
-shown_connect bytes None = model.Connect (message_of bytes)
-shown_connect bytes (Some accepted) = model.Accepted (message_of bytes) accepted.reply.items
+-- what a connect offers, and what it is accepted with
+abbrev pub shown_offer : (Object → Birth) → Offer → model.Offer
+shown_offer f offer = record { section = f (object.Section offer.section); offset = offer.offset; size = offer.size }
 
-abbrev pub shown_kind : WaitKind → List ℕ → Option Accepted → model.WaitKind
-shown_kind wait.Request bytes accepted = model.Request (message_of bytes)
-shown_kind wait.Receive bytes accepted = model.Receive
-shown_kind wait.Listen bytes accepted = model.Listen
-shown_kind wait.Connect bytes accepted = shown_connect bytes accepted
+abbrev pub shown_acceptance : Accepted → model.Acceptance
+shown_acceptance a = record { reply = a.reply.items; target = a.target; vbase = a.vbase; vsize = a.vsize }
+
+-- an accepted connect offers nothing any longer
+abbrev pub shown_connect : List ℕ → Option model.Offer → Option Accepted → model.WaitKind
+shown_connect bytes offer None = model.Connect (message_of bytes) offer
+shown_connect bytes offer (Some accepted) = model.Accepted (message_of bytes) (shown_acceptance accepted)
+
+abbrev pub shown_kind : WaitKind → List ℕ → Option model.Offer → Option Accepted → model.WaitKind
+shown_kind wait.Request bytes offer accepted = model.Request (message_of bytes)
+shown_kind wait.Receive bytes offer accepted = model.Receive
+shown_kind wait.Listen bytes offer accepted = model.Listen
+shown_kind wait.Connect bytes offer accepted = shown_connect bytes offer accepted
+
+-- a wait names its ports, and the section that a connect offers which isn't accepted
+abbrev pub section_in : Option Offer → List Object
+section_in offer = given offer (λ o. object.Section o.section ∷ [])
+
+abbrev pub offer_refs : WaitKind → Option Offer → Option Accepted → List Object
+offer_refs wait.Connect offer None = section_in offer
+offer_refs kind offer accepted = []
 
 abbrev pub wait_refs : WaitRow → List Object
-wait_refs row = object.Port row.wait.port ∷ object.Port row.wait.queue ∷ []
+wait_refs row = object.Port row.wait.port ∷ object.Port row.wait.queue ∷ offer_refs row.wait.kind row.offer row.accepted
 
 abbrev pub shown_wait : (Object → Birth) → WaitRow → model.WaitRow
 shown_wait f row = record {
   call = call_of_wait row.wait.kind;
   thread = row.thread;
   process = row.wait.process;
-  kind = shown_kind row.wait.kind row.message.items row.accepted;
+  kind = shown_kind row.wait.kind row.message.items (option_map (shown_offer f) row.offer) row.accepted;
   port = f (object.Port row.wait.port);
   queue = f (object.Port row.wait.queue);
   identifier = row.wait.identifier;
@@ -167,6 +193,13 @@ shown_section row = record { birth = row.1.birth; size = length row.1.bytes; wri
 abbrev pub shown_content : Key × SectionRow → model.ContentRow
 shown_content row = record { section = row.1.birth; bytes = row.1.bytes }
 
+-- a token, and the name of one
+abbrev pub shown_token : Key × TokenRow → model.TokenRow
+shown_token row = record { birth = row.1.birth; token = row.1.token; level = row.1.level }
+
+abbrev pub shown_token_name : named.TokenName → model.TokenName
+shown_token_name row = record { name = row.name; token = row.token }
+
 -- a view names its section, and the port that it goes with
 abbrev pub view_refs : View Key → List Object
 view_refs view = object.Section view.section ∷ ports_in view.owner
@@ -188,7 +221,7 @@ abbrev pub shown_space : (Object → Birth) → Part → model.ViewTable
 shown_space f part = record { process = part.process; rows = map (shown_view f) part.views.views }
 
 abbrev pub shown_process : ProcessRow → model.ProcessRow
-shown_process p = record { number = p.number; maker = p.maker; birth = p.birth }
+shown_process p = record { number = p.number; maker = p.maker; birth = p.birth; token = p.token }
 
 abbrev pub shown_thread : ThreadRow → model.ThreadRow
 shown_thread t = record {
@@ -199,6 +232,7 @@ shown_thread t = record {
   next_identifier = t.next_identifier;
   next_ordinal = t.next_ordinal;
   registrations = map (λ (r : Registration). r.birth) t.registered.items;
+  own = t.own;
 }
 
 abbrev pub shown_used : UsedThread → model.UsedThread
@@ -229,7 +263,7 @@ shown_binding f = binding_as (port_birth f)
 
 -- All rows
 -- the tables: processes and threads, the handles and views of each process, ports with the messages in their queues,
--- waits, the name space, and sections
+-- waits, the name space, sections, tokens, and the names of tokens
 pub record Tables : Type 0 where
   pub procs : procs.Table
   pub parts : List Part
@@ -237,9 +271,20 @@ pub record Tables : Type 0 where
   pub waits : WaitTable
   pub space : NameSpace Key
   pub sections : Table SectionRow
+  pub tokens : Table TokenRow
+  pub token_names : named.TokenNames
 
-abbrev pub tables_of : procs.Table → List Part → PortTable → WaitTable → NameSpace Key → Table SectionRow → Tables
-tables_of procs parts ports waits space sections = record { procs = procs; parts = parts; ports = ports; waits = waits; space = space; sections = sections }
+abbrev pub tables_of : procs.Table → List Part → PortTable → WaitTable → NameSpace Key → Table SectionRow → Table TokenRow → named.TokenNames → Tables
+tables_of procs parts ports waits space sections tokens names = record {
+  procs = procs;
+  parts = parts;
+  ports = ports;
+  waits = waits;
+  space = space;
+  sections = sections;
+  tokens = tokens;
+  token_names = names;
+}
 
 -- what the tables stand for, under the births of keys
 abbrev pub shown_by : Births → Tables → World
@@ -256,6 +301,8 @@ shown_by n it = record {
   sections = map shown_section (listed it.sections);
   contents = model.Known (map shown_content (listed it.sections));
   views = map (shown_space (birth_of n)) it.parts;
+  tokens = map shown_token (listed it.tokens);
+  token_names = map shown_token_name it.token_names.rows;
 }
 
 -- the births that the tables give their keys
@@ -265,8 +312,11 @@ port_names ports = names_of (λ (p : Port). p.birth) ports.ports
 abbrev pub section_names : Table SectionRow → Names
 section_names sections = names_of (λ (s : SectionRow). s.birth) (listed sections)
 
+abbrev pub token_births : Table TokenRow → Names
+token_births tokens = names_of (λ (t : TokenRow). t.birth) (listed tokens)
+
 abbrev pub births_of : Tables → Births
-births_of it = record { ports = port_names it.ports; sections = section_names it.sections }
+births_of it = record { ports = port_names it.ports; sections = section_names it.sections; tokens = token_births it.tokens }
 
 -- each object that a row names passes
 abbrev pub all_pass : {R : Type 0} → (R → List Object) → (Object → Bool) → R → Bool
@@ -281,20 +331,12 @@ pub record AllPass (ok : Object → Bool) (it : Tables) : Type 0 where
   pub in_names : every (all_pass binding_refs ok) it.space.bindings ≡ true
   pub in_views : every (all_pass space_refs ok) it.parts ≡ true
 
--- a view goes with no port
-abbrev pub is_free_view : View Key → Bool
-is_free_view view = is_none view.owner
-
-abbrev pub has_free_views : Part → Bool
-has_free_views part = every is_free_view part.views.views
-
--- No two objects have one key or one birth, and each object that a row names stands. No view goes with a port: no call maps
--- one for a connection yet.
+-- no two objects have one key or one birth, and each object that a row names stands
 pub record AreNamed (n : Births) (it : Tables) : Type 0 where
   pub ports_apart : are_apart n.ports ≡ true
   pub sections_apart : are_apart n.sections ≡ true
+  pub tokens_apart : are_apart n.tokens ≡ true
   pub refs : AllPass (object_stands n) it
-  pub unowned : every has_free_views it.parts ≡ true
 
 -- a message as it enters a queue, and as it is taken from one
 abbrev pub row_with : Births → Key → Key → ℕ → whole.Message → model.MessageRow
@@ -313,15 +355,23 @@ pulled_row n queue m = sent_row n queue m.sender m.context m.bytes.items
 
 -- a wait that a thread begins with a message
 abbrev pub waiting_row : Births → ℕ → Wait → List ℕ → model.WaitRow
-waiting_row n tid wait bytes = shown_wait (birth_of n) (record { thread = tid; wait = wait; message = record { items = bytes }; accepted = None })
+waiting_row n tid wait bytes = shown_wait (birth_of n) (record { thread = tid; wait = wait; message = record { items = bytes }; offer = None; accepted = None })
 
 -- a request's or connect's wait keeps its message; another wait has none
 abbrev pub keeping : whole.Message → model.WaitKind → model.WaitKind
 keeping m (model.Request old) = model.Request m
 keeping m model.Receive = model.Receive
 keeping m model.Listen = model.Listen
-keeping m (model.Connect old) = model.Connect m
-keeping m (model.Accepted old reply) = model.Accepted m reply
+keeping m (model.Connect old offer) = model.Connect m offer
+keeping m (model.Accepted old a) = model.Accepted m a
 
 abbrev pub with_message : whole.Message → model.WaitRow → model.WaitRow
 with_message m x = record x { kind = keeping m x.kind }
+
+-- a connect that isn't accepted offers this, or nothing
+abbrev pub offering : Option model.Offer → model.WaitKind → model.WaitKind
+offering offer (model.Connect m old) = model.Connect m offer
+offering offer kind = kind
+
+abbrev pub with_offer : Option model.Offer → model.WaitRow → model.WaitRow
+with_offer offer x = record x { kind = offering offer x.kind }

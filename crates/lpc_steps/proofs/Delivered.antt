@@ -61,7 +61,7 @@ passed-as w m Listen q own takes quiet =
     off : (b : Bool) → not b ≡ true → b ≡ false
     off true h = absurd (cc)
     off false h = refl
-passed-as w m (Connect n) q own takes quiet = absurd (cc)
+passed-as w m (Connect n offer) q own takes quiet = absurd (cc)
 passed-as w m (Accepted n reply) q own takes quiet = absurd (cc)
 
 pub passed : (w : World) (m : MessageRow) (x : WaitRow) → takes m x ≡ true → is_quiet w.messages x ≡ true → world_after w (Enters m ∷ given_steps x m) ≡ world_after w (received_steps m)
@@ -102,7 +102,7 @@ silent-given x m bs = by_kind x.kind
     by_kind (Request n) = silent-receipt m.message.header.client.thread m.queue (asks m.message) bs
     by_kind Receive = silent-receipt m.message.header.client.thread m.queue (asks m.message) bs
     by_kind Listen = silent-receipt m.message.header.client.thread m.queue (asks m.message) bs
-    by_kind (Connect n) = silent-receipt m.message.header.client.thread m.queue (asks m.message) bs
+    by_kind (Connect n offer) = silent-receipt m.message.header.client.thread m.queue (asks m.message) bs
     by_kind (Accepted n reply) = silent-receipt m.message.header.client.thread m.queue (asks m.message) bs
 
 loose-given : (x : WaitRow) (m : MessageRow) (l : Bool) (wake : Basic) → loosens wake ≡ true → loosened l (given_steps x m ++ wake ∷ []) ≡ true
@@ -115,7 +115,7 @@ loose-given x m l wake is = by_kind x.kind
     by_kind (Request n) = loose-receipt m.message.header.client.thread m.queue true (asks m.message) (wake ∷ []) ∙ last true
     by_kind Receive = loose-receipt m.message.header.client.thread m.queue true (asks m.message) (wake ∷ []) ∙ last true
     by_kind Listen = loose-receipt m.message.header.client.thread m.queue true (asks m.message) (wake ∷ []) ∙ last true
-    by_kind (Connect n) = loose-receipt m.message.header.client.thread m.queue true (asks m.message) (wake ∷ []) ∙ last true
+    by_kind (Connect n offer) = loose-receipt m.message.header.client.thread m.queue true (asks m.message) (wake ∷ []) ∙ last true
     by_kind (Accepted n reply) = loose-receipt m.message.header.client.thread m.queue true (asks m.message) (wake ∷ []) ∙ last true
 
 pub entered : (w : World) (es : List Entry) (loose : Bool) (m : MessageRow) (x : WaitRow) → first (takes m) w.waits ≡ Some x

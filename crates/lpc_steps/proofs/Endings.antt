@@ -9,8 +9,8 @@ use Rattle.lpc_base.proofs.RowWords.{without-none}
 use Rattle.lpc_model.specs.declared.entry.Entry.{Entry}
 use Rattle.lpc_base.specs.declared.status.Status.{Status}
 use Rattle.lpc_model.specs.declared.entry.Field.{Field}
-use Rattle.lpc_model.specs.Basics.{Withdraws, basic, told, world_after}
-use Rattle.lpc_model.specs.Entering.{woken}
+use Rattle.lpc_model.specs.Basics.{DropsOwned, Withdraws, basic, told, world_after}
+use Rattle.lpc_model.specs.Entering.{end_connect, woken}
 use Rattle.lpc_model.specs.Found.{is_port, is_the, waits_as}
 use Rattle.lpc_model.specs.Linked.{passes_or_none}
 use Rattle.lpc_model.specs.World.{PortRow, WaitRow, World}
@@ -120,6 +120,14 @@ pub withdrawn-first : (w : World) (tid : ℕ) (status : Status) (fields : List F
 unfolding waiter
 withdrawn-first w tid status fields es before loose own =
     subst (λ n. left_by (basic w (Withdraws tid)) es before (woken status fields (waiter w tid) ∷ []) ≡ left_by w es loose (woken status fields (waiter w tid) ∷ Withdraws n ∷ [])) (sym own) refl
+
+-- so with a connect, whose client port's views go too
+pub withdrawn-connect : (w : World) (tid : ℕ) (bytes : List ℕ) (es : List Entry) (before loose : Bool) → (let x = waiter w tid in x.thread ≡ tid)
+    → left_by (basic w (Withdraws tid)) es before (let x = waiter (basic w (Withdraws tid)) tid in end_connect bytes x ∷ DropsOwned x.port ∷ [])
+    ≡ left_by w es loose (let x = waiter w tid in end_connect bytes x ∷ Withdraws x.thread ∷ DropsOwned x.port ∷ [])
+unfolding waiter
+withdrawn-connect w tid bytes es before loose own =
+    subst (λ n. left_by (basic w (Withdraws tid)) es before (let x = waiter w tid in end_connect bytes x ∷ DropsOwned x.port ∷ []) ≡ left_by w es loose (let x = waiter w tid in end_connect bytes x ∷ Withdraws n ∷ DropsOwned x.port ∷ [])) (sym own) refl
 
 -- what a wake leaves
 pub woken-left : (w v : World) (es fs : List Entry) (before loose : Bool) (x : WaitRow) (status : Status) (fields : List Field)

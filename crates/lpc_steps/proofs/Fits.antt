@@ -14,8 +14,8 @@ use Rattle.lpc_rows.specs.Ready.{wait_in, waiter}
 
 -- a wait that a message fits isn't pending
 fit_idle : (k : WaitKind) (a b c e f : Bool) → (a && (b && (c && ((elim k [ Request m ↦ true | _ ↦ false ]) && (e && f))))) ≡ true
-    → ((elim k [ Request m ↦ true | _ ↦ false ]) || ((elim k [ Connect m ↦ true | _ ↦ false ]) || (elim k [ Accepted m reply ↦ true | _ ↦ false ]))) && not e ≡ false
-fit_idle k a b c true f h = no (elim k [ Request m ↦ true | _ ↦ false ]) ((elim k [ Connect m ↦ true | _ ↦ false ]) || (elim k [ Accepted m reply ↦ true | _ ↦ false ]))
+    → ((elim k [ Request m ↦ true | _ ↦ false ]) || ((elim k [ Connect m offer ↦ true | _ ↦ false ]) || (elim k [ Accepted m reply ↦ true | _ ↦ false ]))) && not e ≡ false
+fit_idle k a b c true f h = no (elim k [ Request m ↦ true | _ ↦ false ]) ((elim k [ Connect m offer ↦ true | _ ↦ false ]) || (elim k [ Accepted m reply ↦ true | _ ↦ false ]))
   where
     no : (p q : Bool) → (p || q) && false ≡ false
     no true q = refl

@@ -5,3 +5,4 @@ pub mod Delivered
 pub mod Fits
 pub mod Answered
 pub mod Told
+pub mod Placed

@@ -10,7 +10,7 @@ use Rattle.lpc_model.specs.Close.{is_accepted_across, is_across, is_offered_to, 
 use Rattle.lpc_model.specs.Found.{is_accepted, is_client_port, is_connect, is_made_on, is_offered, is_port, is_receive, is_request, is_taken, is_the, pair_of, port_row, same_birth, waits_as}
 use Rattle.lpc_model.specs.Linked.{is_mutual}
 use Rattle.lpc_model.specs.World as model
-use Rattle.lpc_model.specs.World.{PortRow, WaitRow, World}
+use Rattle.lpc_model.specs.World.{Offer, PortRow, WaitRow, World}
 use Rattle.lpc_slots.specs.Table.{is_key}
 use Rattle.lpc_slots.specs.declared.Key.{Key}
 use Rattle.lpc_waits.specs.Table as waits
@@ -25,7 +25,7 @@ use Rattle.lpc_rows.specs.Kept.{OwnPend, has_queued, is_pending, is_pending_in}
 use Rattle.lpc_rows.specs.Lawful.{are_single}
 use Rattle.lpc_rows.specs.Names.{are_apart, name_of, some_stands, stands}
 use Rattle.lpc_rows.specs.Ready.{waiter}
-use Rattle.lpc_rows.specs.Shown.{Births, all_pass, birth_of, object_stands, shown_kind, shown_wait, wait_refs}
+use Rattle.lpc_rows.specs.Shown.{Births, all_pass, birth_of, object_stands, shown_kind, shown_offer, shown_wait, wait_refs}
 use Rattle.lpc_steps.specs.declared.ending.Ending.{Ending}
 use Rattle.lpc_steps.specs.declared.ending.Ending.TheVariants.{AcceptedAcross, Offers, QueuedRequests, Receives, ReceivesAcross, Requests, RequestsAcross}
 use Rattle.lpc_homes.specs.declared.object.Object.{Object}
@@ -88,13 +88,13 @@ module _ (w : World) (pairs : HasMutualPairs w) where
 
 -- What is known of a wait that ends
 idle_taker : (k : model.WaitKind) (z received : Bool) → ((elim k [ model.Receive ↦ true | _ ↦ false ]) || (elim k [ model.Listen ↦ true | _ ↦ false ])) && z ≡ true
-    → ((elim k [ model.Request m ↦ true | _ ↦ false ]) || ((elim k [ model.Connect m ↦ true | _ ↦ false ]) || (elim k [ model.Accepted m reply ↦ true | _ ↦ false ]))) && not received ≡ false
+    → ((elim k [ model.Request m ↦ true | _ ↦ false ]) || ((elim k [ model.Connect m offer ↦ true | _ ↦ false ]) || (elim k [ model.Accepted m reply ↦ true | _ ↦ false ]))) && not received ≡ false
 idle_taker model.Receive z received is = refl
 idle_taker model.Listen z received is = refl
 idle_taker b z received is = absurd (cc)
 
 idle_receive : (k : model.WaitKind) (z received : Bool) → (elim k [ model.Receive ↦ true | _ ↦ false ]) && z ≡ true
-    → ((elim k [ model.Request m ↦ true | _ ↦ false ]) || ((elim k [ model.Connect m ↦ true | _ ↦ false ]) || (elim k [ model.Accepted m reply ↦ true | _ ↦ false ]))) && not received ≡ false
+    → ((elim k [ model.Request m ↦ true | _ ↦ false ]) || ((elim k [ model.Connect m offer ↦ true | _ ↦ false ]) || (elim k [ model.Accepted m reply ↦ true | _ ↦ false ]))) && not received ≡ false
 idle_receive model.Receive z received is = refl
 idle_receive b z received is = absurd (cc)
 
@@ -131,13 +131,13 @@ record IsSeenAs (k : model.WaitKind) (kind : WaitKind) (answer : Option Accepted
   request : (elim k [ model.Request m ↦ true | _ ↦ false ]) ≡ waits.is_request kind
   receive : (elim k [ model.Receive ↦ true | _ ↦ false ]) ≡ waits.is_receive kind
   listen : (elim k [ model.Listen ↦ true | _ ↦ false ]) ≡ waits.is_listen kind
-  offered : (elim k [ model.Connect m ↦ true | _ ↦ false ]) ≡ waits.is_connect kind && not (is_some answer)
+  offered : (elim k [ model.Connect m offer ↦ true | _ ↦ false ]) ≡ waits.is_connect kind && not (is_some answer)
   accepted : (elim k [ model.Accepted m reply ↦ true | _ ↦ false ]) ≡ waits.is_connect kind && is_some answer
 
-seen : (kind : WaitKind) (bytes : List ℕ) (accepted : Option Accepted) → IsSeenAs (shown_kind kind bytes accepted) kind accepted
-seen wait.Connect bytes None = record { request = refl; receive = refl; listen = refl; offered = refl; accepted = refl }
-seen wait.Connect bytes (Some a) = record { request = refl; receive = refl; listen = refl; offered = refl; accepted = refl }
-seen b bytes accepted = record { request = refl; receive = refl; listen = refl; offered = refl; accepted = refl }
+seen : (kind : WaitKind) (bytes : List ℕ) (offer : Option Offer) (accepted : Option Accepted) → IsSeenAs (shown_kind kind bytes offer accepted) kind accepted
+seen wait.Connect bytes offer None = record { request = refl; receive = refl; listen = refl; offered = refl; accepted = refl }
+seen wait.Connect bytes offer (Some a) = record { request = refl; receive = refl; listen = refl; offered = refl; accepted = refl }
+seen b bytes offer accepted = record { request = refl; receive = refl; listen = refl; offered = refl; accepted = refl }
 
 -- the wait that is found
 pub record IsNext (w : World) (e : Ending) (b : Birth) (r : Option ℕ) : Type 0 where
@@ -201,8 +201,8 @@ module _ (n : Births) (rows : World) (lent : WaitTable) (is : AreLent n rows len
     queue_same : same_birth (name_of n.ports row.wait.queue) (name_of n.ports key) ≡ is_key row.wait.queue key
     queue_same = agrees n.ports row.wait.queue key is.apart (grind arith) there
 
-    kinds : IsSeenAs (shown_kind row.wait.kind row.message.items row.accepted) row.wait.kind row.accepted
-    kinds = seen row.wait.kind row.message.items row.accepted
+    kinds : IsSeenAs (shown_kind row.wait.kind row.message.items (option_map (shown_offer f) row.offer) row.accepted) row.wait.kind row.accepted
+    kinds = seen row.wait.kind row.message.items (option_map (shown_offer f) row.offer) row.accepted
 
     receiver_same : is_receiver (name_of n.ports key) (shown_wait f row) ≡ waits.is_receiver_at key row
     receiver_same = rw (port_same, queue_same, kinds.receive, kinds.listen) refl
@@ -256,7 +256,7 @@ module _ (n : Births) (rows : World) (lent : WaitTable) (is : AreLent n rows len
         request-turned rows pairs (name_of n.ports key) (shown_wait f row)
         ∙ ap (λ o. is_request (shown_wait f row) && is_the (name_of n.ports row.wait.port) o) (sym pair)
         ∙ ap (λ t. is_request (shown_wait f row) && t) (at_same other stand row ok)
-        ∙ ap (λ t. t && is_at other row) (seen row.wait.kind row.message.items row.accepted).request)
+        ∙ ap (λ t. t && is_at other row) (seen row.wait.kind row.message.items (option_map (shown_offer f) row.offer) row.accepted).request)
 
     pub next-request_across : (other : Key) → stands n.ports other ≡ true → Some (name_of n.ports other) ≡ pair_of rows (name_of n.ports key) → (r : Option ℕ)
         → r ≡ first_thread (waits.is_request_on other) lent → IsNext rows RequestsAcross (name_of n.ports key) r
@@ -271,7 +271,7 @@ module _ (n : Births) (rows : World) (lent : WaitTable) (is : AreLent n rows len
         receive-turned rows pairs (name_of n.ports key) (shown_wait f row)
         ∙ ap (λ o. is_receive (shown_wait f row) && is_the (name_of n.ports row.wait.port) o) (sym client)
         ∙ ap (λ t. is_receive (shown_wait f row) && t) (at_same other stand row ok)
-        ∙ ap (λ t. t && is_at other row) (seen row.wait.kind row.message.items row.accepted).receive)
+        ∙ ap (λ t. t && is_at other row) (seen row.wait.kind row.message.items (option_map (shown_offer f) row.offer) row.accepted).receive)
 
     pub next-receive_across : (other : Key) → stands n.ports other ≡ true → Some (name_of n.ports other) ≡ client_across rows (name_of n.ports key) → (r : Option ℕ)
         → r ≡ first_thread (waits.is_receive_on other) lent → IsNext rows ReceivesAcross (name_of n.ports key) r
@@ -287,4 +287,4 @@ module _ (n : Births) (rows : World) (lent : WaitTable) (is : AreLent n rows len
         ∙ ap (λ o. is_accepted (shown_wait f row) && (is_made_on (name_of n.ports key) (shown_wait f row) || is_the (name_of n.ports row.wait.port) o)) (sym pair)
         ∙ ap (λ t. is_accepted (shown_wait f row) && (is_made_on (name_of n.ports key) (shown_wait f row) || t)) (at_same other stand row ok)
         ∙ ap (λ t. is_accepted (shown_wait f row) && (t || is_at other row)) (port_same key there row ok)
-        ∙ ap (λ t. t && waits.is_made_at key other row) (seen row.wait.kind row.message.items row.accepted).accepted)
+        ∙ ap (λ t. t && waits.is_made_at key other row) (seen row.wait.kind row.message.items (option_map (shown_offer f) row.offer) row.accepted).accepted)

@@ -138,8 +138,8 @@ fn end_request(world: &mut World, tid: u32, status: Status, out: &mut Entries)
     wake(world, tid, status, Fields::none(), out);
 }
 
-/// A thread's connect that isn't accepted ends, and its connection request leaves its queue, where it still stands
-/// there.
+/// A thread's connect that isn't accepted ends, and with it go the views that its client port owns; its connection
+/// request leaves its queue, where it still stands there.
 fn end_offered(world: &mut World, tid: u32, out: &mut Entries)
     requires spare { 1 ≤ out.old.spare }
     requires waits { has (waits_as tid) world.old.rows.waits ≡ true }

@@ -5,9 +5,9 @@ ghost use Rattle.lpc_base.specs.declared.limits.TheConstants.{HANDLE_LIMIT};
 ghost use Rattle.lpc_model.specs.Found as found;
 ghost use Rattle.lpc_model.specs.Found.{free_handle, is_table};
 ghost use Rattle.lpc_model.specs.Tests as tests;
-ghost use Rattle.lpc_model.specs.declared.entry.ObjectKind.TheVariants.{Section};
+ghost use Rattle.lpc_model.specs.declared.entry.ObjectKind.TheVariants.{Section, Token};
 ghost use Rattle.lpc_steps.specs.Clauses.{IsUnderName, handle_for, object_for, port_for};
-ghost use Rattle.lpc_rows.specs.Clauses.{Answers, HasHandleRoom, HasSmallLoad, port_at, row_shown, section_at, with_handle};
+ghost use Rattle.lpc_rows.specs.Clauses.{Answers, HasHandleRoom, HasSmallLoad, port_at, row_shown, section_at, token_at, with_handle};
 ghost use Rattle.lpc_rows.specs.Kept.{CanMake, handle_room};
 ghost use Rattle.lpc_rows.specs.Names.{name_of, stands};
 ghost use Rattle.lpc_rows.specs.Ready.{HasRow, is_ready};
@@ -73,6 +73,7 @@ pub fn kind_of(object: Object) -> ObjectKind
         Object::Process(_) => ObjectKind::Process,
         Object::Thread(_) => ObjectKind::Thread,
         Object::Section(_) => ObjectKind::Section,
+        Object::Token(_) => ObjectKind::Token,
     }
 }
 
@@ -85,6 +86,7 @@ fn is_of_kind(object: Object, kind: ObjectKind) -> bool
         Object::Process(_) => matches!(kind, ObjectKind::Process),
         Object::Thread(_) => matches!(kind, ObjectKind::Thread),
         Object::Section(_) => matches!(kind, ObjectKind::Section),
+        Object::Token(_) => matches!(kind, ObjectKind::Token),
     }
 }
 
@@ -98,7 +100,9 @@ pub fn port_at(world: &World, tid: u32, handle: u32) -> Result<Key, Status>
 {
     match object_at(world, tid, handle, ObjectKind::Port, 1)? {
         Object::Port(port) => Ok(port),
-        Object::Process(_) | Object::Thread(_) | Object::Section(_) => unreachable!(),
+        Object::Process(_) | Object::Thread(_) | Object::Section(_) | Object::Token(_) => {
+            unreachable!()
+        }
     }
 }
 
@@ -113,7 +117,26 @@ pub fn section_at(world: &World, tid: u32, handle: u32, right: u32) -> Result<Ke
 {
     match object_at(world, tid, handle, ObjectKind::Section, right)? {
         Object::Section(section) => Ok(section),
-        Object::Port(_) | Object::Process(_) | Object::Thread(_) => unreachable!(),
+        Object::Port(_) | Object::Process(_) | Object::Thread(_) | Object::Token(_) => {
+            unreachable!()
+        }
+    }
+}
+
+/// The token that a handle of the thread's process names, with a right to it: INVALID_HANDLE where no handle has the
+/// value, OBJECT_TYPE_MISMATCH where it names no token, ACCESS_DENIED where it lacks the right.
+pub fn token_at(world: &World, tid: u32, handle: u32, right: u32) -> Result<Key, Status>
+    requires { is_ready world.now.rows tid ≡ true }
+    ensures token { Answers result (name_of world.now.births.tokens)
+        (object_for world.now.rows tid Token right handle) }
+    ensures stands { IfOk result (λ key. stands world.now.births.tokens key ≡ true) }
+    ensures row { IfOk result (λ key. IsSome (token_at world.now key)) }
+{
+    match object_at(world, tid, handle, ObjectKind::Token, right)? {
+        Object::Token(token) => Ok(token),
+        Object::Port(_) | Object::Process(_) | Object::Thread(_) | Object::Section(_) => {
+            unreachable!()
+        }
     }
 }
 

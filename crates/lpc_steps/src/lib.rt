@@ -8,6 +8,7 @@ mod entering;
 mod fitting;
 mod handles;
 mod message;
+mod offers;
 mod queues;
 mod threads;
 mod waiting;
@@ -17,8 +18,14 @@ pub use connections::{Completable, answered_connect, completion_test, is_connect
 pub use ending::{Ending, end_all};
 pub use entering::deliver;
 pub use fitting::{client_test, fitted, reply_test};
-pub use handles::{give_handle, handles_test, kind_of, object_at, own_handle, port_at, section_at};
+pub use handles::{
+    give_handle, handles_test, kind_of, object_at, own_handle, port_at, section_at, token_at,
+};
 pub use message::{read_message, wants_answer};
+pub use offers::{
+    Wanted, base_of, map_view, mapping_status, offer_test, size_of_view, view_beside, view_test,
+    wanted_test,
+};
 pub use queues::{context, datagram_test, receive_test, route};
 pub use threads::{thread_reserve, thread_test};
 pub use waiting::{end_connect, wait_with, waiting_call, wake};

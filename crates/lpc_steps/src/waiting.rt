@@ -1,7 +1,7 @@
 // A wait that begins with a message, and one that ends.
 ghost use Rattle.std.specs.Prelude.{◌++◌, ◌+◌, ◌∷◌, ◌≡◌, ◌≤◌, [], false, length, true};
 ghost use Rattle.lpc_base.specs.Rows.{has};
-ghost use Rattle.lpc_model.specs.Basics.{Awaits, Wakes, told};
+ghost use Rattle.lpc_model.specs.Basics.{Awaits, DropsOwned, Wakes, told};
 ghost use Rattle.lpc_model.specs.Entering.{end_connect, shown as shown_to, takes};
 ghost use Rattle.lpc_model.specs.Found.{is_connect, is_live_thread, waits_as};
 ghost use Rattle.lpc_steps.specs.Clauses.{has_no_read, waking};
@@ -124,21 +124,24 @@ pub(crate) fn tell_wake(
     });
 }
 
-/// A waiting connect ends unsuccessfully: its thread is told PORT_CONNECTION_REFUSED, with the bytes of a refusal, at
-/// most 232. Its connection request stands in no queue.
+/// A waiting connect ends unsuccessfully, and with it go the views that its client port owns: its thread is told
+/// PORT_CONNECTION_REFUSED, with the bytes of a refusal, at most 232. Its connection request stands in no queue.
 pub fn end_connect(world: &mut World, tid: u32, info: &[u8], out: &mut Entries)
     requires spare { 1 ≤ out.old.spare }
     requires waits { has (waits_as tid) world.old.rows.waits ≡ true }
     requires connect { is_connect (waiter world.old.rows tid) ≡ true }
     requires left { has_queued world.old.rows tid ≡ false }
     requires info { length info.now ≤ 232 }
-    ensures takes { Took (end_connect info.now
-        (waiter world.old.rows tid) ∷ []) world.old world.new out.old out.new }
+    ensures takes { let x = waiter world.old.rows tid in
+        let steps = end_connect info.now x ∷ DropsOwned x.port ∷ [] in
+        Took steps world.old world.new out.old out.new }
     ensures births { world.new.births ≡ world.old.births }
     ensures calls { world.new.calls ≡ world.old.calls }
     ensures capacity { world.new.capacity ≡ world.old.capacity }
     ensures made { world.new.made ≡ world.old.made }
     ensures spare { out.new.spare + 1 ≡ out.old.spare }
 {
+    let port = world.waiting(tid).port;
     wake(world, tid, PORT_CONNECTION_REFUSED, info_field(info), out);
+    world.views_drop_owned(port);
 }

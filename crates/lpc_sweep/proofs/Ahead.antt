@@ -4,13 +4,13 @@ use Rattle.std.specs.Prelude.{◌==◌}
 use Rattle.lpc_base.specs.declared.birth.Birth.{Birth}
 use Rattle.lpc_base.specs.Rows.{every, has}
 use Rattle.lpc_base.proofs.RowWords.{every-more, every-without}
-use Rattle.lpc_model.specs.World.{ObjectName, SectionRow, World}
+use Rattle.lpc_model.specs.World.{ObjectName, SectionRow, TokenRow, World}
 use Rattle.lpc_model.specs.Basics.{Frees, basic, freed, world_after}
-use Rattle.lpc_model.specs.Found.{is_section, process_name, section_name, thread_name}
-use Rattle.lpc_model.specs.Linked.{HasHeldSections}
+use Rattle.lpc_model.specs.Found.{is_section, is_token, process_name, section_name, thread_name, token_name}
+use Rattle.lpc_model.specs.Linked.{HasHeldSections, HasHeldTokens}
 use Rattle.lpc_model.specs.Sweep.{is_unheld, sweep}
-use Rattle.lpc_model.proofs.Held.FreedLife.{process_first, section_first, thread_first}
-use Rattle.lpc_model.proofs.Held.Lives.{same-section, same-thread}
+use Rattle.lpc_model.proofs.Held.FreedLife.{process_first, section_first, thread_first, token_first}
+use Rattle.lpc_model.proofs.Held.Lives.{same-section, same-thread, same-token}
 use Rattle.lpc_model.specs.declared.entry.ObjectKind.{ObjectKind}
 use Rattle.lpc_model.specs.declared.entry.ObjectKind.TheVariants as kind
 use Rattle.lpc_rows.specs.Capacity.{but_lives}
@@ -20,7 +20,7 @@ use Rattle.lpc_sweep.specs.Sweeping.{CanSweep, HasHeldThreads, SweepsAhead}
 use Rattle.lpc_sweep.proofs.HeldPorts.{can_freed}
 
 pub ahead_same : (w : Kept) → CanSweep w.rows → SweepsAhead w w
-ahead_same w can = record { can = can; leaves = refl; sections = λ held. held; calls = refl; made = omega arith; room = roomy_same w.room; capacity = refl; lives = record { for_processes = omega arith; for_threads = omega arith } }
+ahead_same w can = record { can = can; leaves = refl; sections = λ held. held; tokens = λ held. held; calls = refl; made = omega arith; room = roomy_same w.room; capacity = refl; lives = record { for_processes = omega arith; for_threads = omega arith } }
 
 pub lives_then : (u v w : Kept) → GainsNoLives u v → GainsNoLives v w → GainsNoLives u w
 lives_then u v w one two = record { for_processes = omega (arith, one.for_processes, two.for_processes); for_threads = omega (arith, one.for_threads, two.for_threads) }
@@ -30,6 +30,7 @@ ahead_then u v w one two = record {
   can = two.can;
   leaves = two.leaves ∙ one.leaves;
   sections = λ held. two.sections (one.sections held);
+  tokens = λ held. two.tokens (one.tokens held);
   calls = two.calls ∙ one.calls;
   made = omega (arith, one.made, two.made);
   room = roomy_then _ _ _ one.room two.room;
@@ -48,6 +49,17 @@ sections-held w o held = left o.kind o.birth (every-more (λ s. not (is_unheld w
     left kind.Section b all = every-without still (is_section b) w.sections all
     left k b all = all
 
+-- so do tokens
+pub tokens-held : (w : World) (o : ObjectName) → HasHeldTokens w → HasHeldTokens (basic w (Frees o))
+tokens-held w o held = left o.kind o.birth (every-more (λ t. not (is_unheld w (token_name t.birth))) still (λ t is. ap (λ n. not (n == 0)) (same-token w o t.birth) ∙ is) w.tokens held)
+  where
+    still : TokenRow → Bool
+    still t = not (is_unheld (basic w (Frees o)) (token_name t.birth))
+
+    left : (k : ObjectKind) (b : Birth) → every still w.tokens ≡ true → every still (freed w k b).tokens ≡ true
+    left kind.Token b all = every-without still (is_token b) w.tokens all
+    left k b all = all
+
 -- what no row counts for goes
 module _ (u v : Kept) (b : Birth) (calls : v.calls ≡ u.calls) (made : v.made ≤ u.made) (room : Roomy u.room v.room) (capacity : but_lives v.capacity ≡ but_lives u.capacity) (lives : GainsNoLives u v) (can : CanSweep u.rows) where
   ahead-by : (o : ObjectName) → v.rows ≡ basic u.rows (Frees o) → is_unheld u.rows o ≡ true → world_after (basic u.rows (Frees o)) (sweep (basic u.rows (Frees o))) ≡ world_after u.rows (sweep u.rows) → SweepsAhead u v
@@ -55,6 +67,7 @@ module _ (u v : Kept) (b : Birth) (calls : v.calls ≡ u.calls) (made : v.made �
     can = subst CanSweep (sym went) (can_freed u.rows o can none);
     leaves = ap (λ (w : World). world_after w (sweep w)) went ∙ same;
     sections = λ held. subst HasHeldSections (sym went) (sections-held u.rows o held);
+    tokens = λ held. subst HasHeldTokens (sym went) (tokens-held u.rows o held);
     calls = calls;
     made = made;
     room = room;
@@ -70,6 +83,9 @@ module _ (u v : Kept) (b : Birth) (calls : v.calls ≡ u.calls) (made : v.made �
 
   pub section-ahead : v.rows ≡ basic u.rows (Frees (section_name b)) → has (is_section b) u.rows.sections ≡ true → is_unheld u.rows (section_name b) ≡ true → SweepsAhead u v
   section-ahead went there none = ahead-by (section_name b) went none (section_first u.rows b there none)
+
+  pub token-ahead : v.rows ≡ basic u.rows (Frees (token_name b)) → is_unheld u.rows (token_name b) ≡ true → SweepsAhead u v
+  token-ahead went none = ahead-by (token_name b) went none (token_first u.rows b none)
 
 -- threads that are held stay so where a process goes
 pub threads-held : (w : World) (b : Birth) → is_unheld w (process_name b) ≡ true → HasHeldThreads w → HasHeldThreads (basic w (Frees (process_name b)))

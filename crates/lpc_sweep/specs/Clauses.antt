@@ -2,7 +2,7 @@
 use Rattle.std.specs.Prelude.{ℕ, Bool, Option, option_map, slice_get}
 use Rattle.lpc_base.specs.declared.birth.Birth.{Birth}
 use Rattle.lpc_base.specs.Rows.{first, has}
-use Rattle.lpc_model.specs.Found.{is_port, port_name, process_name, section_name, thread_name}
+use Rattle.lpc_model.specs.Found.{is_port, port_name, process_name, section_name, thread_name, token_name}
 use Rattle.lpc_model.specs.Sweep.{is_unheld}
 use Rattle.lpc_model.specs.World.{World}
 use Rattle.lpc_slots.specs.declared.Key.{Key}
@@ -32,12 +32,19 @@ section_in_place w place = option_map (λ s. s.birth) (slice_get w.rows.sections
 abbrev pub some_section : Kept → Option Key → Option Birth
 some_section w key = option_map (name_of w.births.sections) key
 
+-- the birth of the token at a place, and of an optional one
+abbrev pub token_in_place : Kept → ℕ → Option Birth
+token_in_place w place = option_map (λ t. t.birth) (slice_get w.rows.tokens place)
+
+abbrev pub some_token : Kept → Option Key → Option Birth
+some_token w key = option_map (name_of w.births.tokens) key
+
 -- no row counts for the port
 abbrev pub is_unheld_at : Kept → Key → Bool
 is_unheld_at w key = is_unheld w.rows (port_name (birth_at w key))
 
--- the birth of the oldest thread that no row counts for, of the oldest such process, of the oldest such port, and of the
--- oldest such section
+-- the birth of the oldest thread that no row counts for, of the oldest such process, of the oldest such port, of the
+-- oldest such section, and of the oldest such token
 abbrev pub oldest_thread : World → Option Birth
 oldest_thread w = option_map (λ t. t.birth) (first (λ t. is_unheld w (thread_name t.birth)) w.threads)
 
@@ -49,3 +56,6 @@ oldest_port w = option_map (λ p. p.birth) (first (λ p. is_unheld w (port_name 
 
 abbrev pub oldest_section : World → Option Birth
 oldest_section w = option_map (λ s. s.birth) (first (λ s. is_unheld w (section_name s.birth)) w.sections)
+
+abbrev pub oldest_token : World → Option Birth
+oldest_token w = option_map (λ t. t.birth) (first (λ t. is_unheld w (token_name t.birth)) w.tokens)

@@ -4,7 +4,7 @@ use Rattle.lpc_base.specs.Rows.{every}
 use Rattle.lpc_model.specs.Basics.{world_after}
 use Rattle.lpc_model.specs.Deaths.{HasLivingRegistrations}
 use Rattle.lpc_model.specs.Found.{process_name, thread_name}
-use Rattle.lpc_model.specs.Linked.{HasHeldSections, IsLinked}
+use Rattle.lpc_model.specs.Linked.{HasHeldSections, HasHeldTokens, IsLinked}
 use Rattle.lpc_model.specs.OpenQueues.{HasOpenQueues}
 use Rattle.lpc_model.specs.SoundWaits.{IsSoundWorld}
 use Rattle.lpc_model.specs.Standing.{NamesWhatStands}
@@ -30,11 +30,12 @@ pub record CanSweep (w : World) : Type 0 where
   pub registrations : HasLivingRegistrations w
 
 -- Rows went ahead that the sweep takes away: it can still be done, and leaves the same world. Where some row counted for
--- each section, one still does. Their room is spare, and no memory was asked for.
+-- each section or each token, one still does. Their room is spare, and no memory was asked for.
 pub record SweepsAhead (old new : Kept) : Type 0 where
   pub can : CanSweep new.rows
   pub leaves : world_after new.rows (sweep new.rows) ≡ world_after old.rows (sweep old.rows)
   pub sections : HasHeldSections old.rows → HasHeldSections new.rows
+  pub tokens : HasHeldTokens old.rows → HasHeldTokens new.rows
   pub calls : new.calls ≡ old.calls
   pub made : new.made ≤ old.made
   pub room : Roomy old.room new.room

@@ -1,10 +1,10 @@
 // The oldest row of each kind that no row counts for.
-ghost use Rattle.std.specs.Prelude.{◌≡◌, ◌<◌, true, IfNone, IfSome, Some, length, not};
+ghost use Rattle.std.specs.Prelude.{◌≡◌, ◌<◌, false, true, IfNone, IfSome, Some, length, not};
 ghost use Rattle.lpc_base.specs.Rows.{has};
-ghost use Rattle.lpc_model.specs.Found.{is_born_process, is_born_thread, is_section, process_name, section_name, thread_name};
-ghost use Rattle.lpc_model.specs.Linked.{HasHeldPorts, HasHeldSections};
+ghost use Rattle.lpc_model.specs.Found.{is_born_process, is_born_thread, is_section, is_token, process_name, section_name, thread_name, token_name};
+ghost use Rattle.lpc_model.specs.Linked.{HasHeldPorts, HasHeldSections, HasHeldTokens};
 ghost use Rattle.lpc_model.specs.Sweep.{is_unheld};
-ghost use Rattle.lpc_sweep.specs.Clauses.{birth_in_place, has_port, is_unheld_at, oldest_port, oldest_process, oldest_section, oldest_thread, process_in_place, section_in_place, some_section, thread_in_place};
+ghost use Rattle.lpc_sweep.specs.Clauses.{birth_in_place, has_port, is_unheld_at, oldest_port, oldest_process, oldest_section, oldest_thread, oldest_token, process_in_place, section_in_place, some_section, some_token, thread_in_place, token_in_place};
 ghost use Rattle.lpc_sweep.specs.Sweeping.{CanSweep, HasHeldProcesses, HasHeldThreads};
 ghost use Rattle.lpc_rows.specs.Clauses.{birth_at, name_at, some_birth};
 ghost use Rattle.lpc_rows.specs.Held.{has_holders};
@@ -63,7 +63,7 @@ pub fn unheld_port(world: &World) -> Option<Key>
 }
 
 /// An object that isn't a port has a handle, or is held otherwise: a process or thread by a live thread, a section by a
-/// view. No handle is asked for where it is held so.
+/// view or an offer. Nothing but handles holds a token. No handle is asked for where it is held otherwise.
 fn is_object_held(world: &World, object: Object, held: bool) -> bool
     requires stands { object_stands world.now.births object ≡ true }
     requires held { held ≡ has_holders world.now.rows (name_at world.now object) }
@@ -168,8 +168,49 @@ pub fn unheld_section(world: &World) -> Option<Key>
 {
     for place in 0..section_count(world) {
         let section = section_key(world, place);
-        if !is_object_held(world, Object::Section(section), world.is_shown(section)) {
+        if !is_object_held(
+            world,
+            Object::Section(section),
+            world.is_shown_or_offered(section),
+        ) {
             return Some(section);
+        }
+    }
+    None
+}
+
+/// How many tokens there are.
+pub fn token_count(world: &World) -> usize
+    ensures { result ≡ length world.now.rows.tokens }
+{
+    world.tokens().count()
+}
+
+/// The token at a place, in the order of making.
+fn token_key(world: &World, place: usize) -> Key
+    requires { place < length world.now.rows.tokens }
+    ensures stands { stands world.now.births.tokens result ≡ true }
+    ensures birth { token_in_place world.now place
+        ≡ Some (name_of world.now.births.tokens result) }
+{
+    let (key, _) = world.tokens().row(place);
+    key
+}
+
+/// The oldest token that no handle names: None exactly where each has one.
+pub fn unheld_token(world: &World) -> Option<Key>
+    ensures none { IfNone result (HasHeldTokens world.now.rows) }
+    ensures oldest { some_token world.now result ≡ oldest_token world.now.rows }
+    ensures stands { IfSome result (λ key. stands world.now.births.tokens key ≡ true) }
+    ensures row { IfSome result (λ key.
+        has (is_token (name_of world.now.births.tokens key)) world.now.rows.tokens ≡ true) }
+    ensures unheld { IfSome result (λ key.
+        is_unheld world.now.rows (token_name (name_of world.now.births.tokens key)) ≡ true) }
+{
+    for place in 0..token_count(world) {
+        let token = token_key(world, place);
+        if !is_object_held(world, Object::Token(token), false) {
+            return Some(token);
         }
     }
     None

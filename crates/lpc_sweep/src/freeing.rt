@@ -1,7 +1,7 @@
 // Rows that no row counts for go, one after the other.
 ghost use Rattle.std.specs.Prelude.{◌≡◌, ◌≤◌, [], false, true};
 ghost use Rattle.lpc_model.specs.Basics.{world_after, Frees};
-ghost use Rattle.lpc_model.specs.Linked.{AreLivesHeld, HasHeldSections};
+ghost use Rattle.lpc_model.specs.Linked.{AreLivesHeld, HasHeldSections, HasHeldTokens};
 ghost use Rattle.lpc_model.specs.Sweep as model;
 ghost use Rattle.lpc_model.specs.Sweep.{is_unheld};
 ghost use Rattle.lpc_sweep.specs.Sweeping.{CanSweep, HasHeldThreads, SweepsAhead};
@@ -11,8 +11,8 @@ ghost use Rattle.lpc_rows.specs.Kept.{GainsNoLives, Roomy};
 ghost use Rattle.lpc_rows.specs.Shown.{object_stands};
 
 use crate::finding::{
-    port_count, process_count, section_count, thread_count, unheld_port, unheld_process,
-    unheld_section, unheld_thread,
+    port_count, process_count, section_count, thread_count, token_count, unheld_port,
+    unheld_process, unheld_section, unheld_thread, unheld_token,
 };
 use lpc_world::{Object, World};
 
@@ -34,6 +34,22 @@ fn free(world: &mut World, object: Object)
         Object::Process(birth) => world.processes_free(birth),
         Object::Thread(birth) => world.threads_free(birth),
         Object::Section(section) => world.sections_free(section),
+        Object::Token(token) => world.tokens_free(token),
+    }
+}
+
+/// While there is a token that no handle names, it goes.
+fn free_tokens(world: &mut World)
+    requires can { CanSweep world.old.rows }
+    ensures ahead { SweepsAhead world.old world.new }
+    ensures held { HasHeldTokens world.new.rows }
+{
+    for freed in 0..token_count(world) {
+        let _ = freed;
+        match unheld_token(world) {
+            Some(token) => free(world, Object::Token(token)),
+            None => return,
+        }
     }
 }
 
@@ -83,12 +99,13 @@ fn free_processes(world: &mut World)
     }
 }
 
-/// While there is a port that no row counts for, it goes. Some row counts for each thread, each process and each
-/// section.
+/// While there is a port that no row counts for, it goes. Some row counts for each thread, each process, each section
+/// and each token.
 fn free_ports(world: &mut World)
     requires can { CanSweep world.old.rows }
     requires lives { AreLivesHeld world.old.rows }
     requires sections { HasHeldSections world.old.rows }
+    requires tokens { HasHeldTokens world.old.rows }
     ensures rows { world.new.rows ≡ world_after world.old.rows (model.sweep world.old.rows) }
     ensures calls { world.new.calls ≡ world.old.calls }
     ensures made { world.new.made ≤ world.old.made }
@@ -105,8 +122,9 @@ fn free_ports(world: &mut World)
     }
 }
 
-/// Each object goes that no row counts for, and then each that only those counted for: sections, the threads that have
-/// ended, the processes without a live thread, and ports. There is nothing to do where no row went since the last time.
+/// Each object goes that no row counts for, and then each that only those counted for: tokens, sections, the threads
+/// that have ended, the processes without a live thread, and ports. There is nothing to do where no row went since the
+/// last time.
 pub fn sweep(world: &mut World)
     requires can { CanSweep world.old.rows }
     requires still { world.old.loose ≡ false → model.unheld world.old.rows ≡ [] }
@@ -119,6 +137,7 @@ pub fn sweep(world: &mut World)
     ensures lives { GainsNoLives world.old world.new }
 {
     if world.is_loose() {
+        free_tokens(world);
         free_sections(world);
         free_threads(world);
         free_processes(world);

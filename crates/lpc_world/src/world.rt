@@ -9,7 +9,7 @@ ghost use Rattle.std.specs.Prelude.{◌≡◌, ◌∷◌, ◌++◌, ◌+◌, ◌
 ghost use Rattle.lpc_base.specs.Room.{grown_room};
 ghost use Rattle.lpc_base.specs.Rows.{has};
 ghost use Rattle.lpc_model.specs.World.{no_rows};
-ghost use Rattle.lpc_model.specs.Found.{free_handle, handles_of, is_live_thread, is_process, is_table, is_thread, port_row, section_row, was_process, was_thread, waits_as, is_born_process, is_born_thread};
+ghost use Rattle.lpc_model.specs.Found.{free_handle, handles_of, is_live_thread, is_process, is_table, is_thread, port_row, section_row, token_row, was_process, was_thread, waits_as, is_born_process, is_born_thread};
 ghost use Rattle.lpc_model.specs.Basics.{AddsProcess, AddsThread, Awaits, DrawsIdentifier, DrawsOrdinal, Receives, Takes, Withdraws};
 ghost use Rattle.lpc_model.specs.Machine.{new_process, new_thread};
 ghost use Rattle.lpc_model.specs.Message.{message_of};
@@ -35,6 +35,7 @@ mod lives;
 mod names;
 mod reading;
 mod sections;
+mod tokens;
 mod views;
 
 use lpc_base::{Birth, OutOfMemory, PortKind, reserve_rows};
@@ -45,14 +46,16 @@ use lpc_names::Names;
 use lpc_ports::{Creator, Message, Ports};
 use lpc_procs::Procs;
 use lpc_sections::Section;
+use lpc_sid::Token;
 use lpc_slots::{Key, Slots};
+use lpc_tokens::{TokenNames, TokenRow};
 use lpc_views::Space;
 use lpc_waits::{Wait, Waits};
 use std::alloc::Global;
 use std::marker::Model;
 
 /// The world: processes and threads, the handles and views of each process, ports with the messages in their queues,
-/// waits, and sections.
+/// waits, sections, and tokens with the names that some have.
 ///
 /// Contracts see the rows of the definitions, in which an object is named by its birth, the births of keys, how many
 /// directive and service calls were made, and how many more rows go in without memory.
@@ -63,6 +66,8 @@ pub struct World {
     waits: Waits,
     names: Names<Key>,
     sections: Slots<Section>,
+    tokens: Slots<TokenRow>,
+    token_names: TokenNames,
     calls: u32,
     made: u32,
     loose: bool,
@@ -77,9 +82,9 @@ impl Model for World {
 
     ghost Value = { Kept };
 
-    ghost view = { λ w. kept_by (tables_of w.procs w.parts.items w.ports w.waits w.names w.sections) (vec_capacity w.parts - vec_len w.parts) w.calls w.made w.loose };
+    ghost view = { λ w. kept_by (tables_of w.procs w.parts.items w.ports w.waits w.names w.sections w.tokens w.token_names) (vec_capacity w.parts - vec_len w.parts) w.calls w.made w.loose };
 
-    ghost invariant = { λ w. AreLawful (tables_of w.procs w.parts.items w.ports w.waits w.names w.sections) w.calls w.made };
+    ghost invariant = { λ w. AreLawful (tables_of w.procs w.parts.items w.ports w.waits w.names w.sections w.tokens w.token_names) w.calls w.made };
 }
 
 // Written out, so that a proof about what holds a world lets it go in one step, and not table by table.
@@ -92,6 +97,8 @@ impl Drop for World {
             waits: _,
             names: _,
             sections: _,
+            tokens: _,
+            token_names: _,
             calls: _,
             made: _,
             loose: _,
@@ -106,6 +113,7 @@ impl World {
         ensures rows { result.rows ≡ no_rows }
         ensures births { result.births.ports ≡ [] }
         ensures sections { result.births.sections ≡ [] }
+        ensures tokens { result.births.tokens ≡ [] }
         ensures calls { result.calls ≡ 0 }
         ensures made { result.made ≡ 0 }
         ensures loose { result.loose ≡ false }
@@ -118,6 +126,8 @@ impl World {
             waits: Waits::new(alloc),
             names: Names::new(alloc),
             sections: Slots::new(alloc),
+            tokens: Slots::new(alloc),
+            token_names: TokenNames::new(alloc),
             calls: 0,
             made: 0,
             loose: false,
@@ -170,6 +180,7 @@ impl World {
         ensures maker { (result.maker == 0) ≡ false }
         ensures fresh { port_row self.new.rows result ≡ None }
         ensures section { section_row self.new.rows result ≡ None }
+        ensures token { token_row self.new.rows result ≡ None }
         ensures process { has (is_born_process result) self.new.rows.processes ≡ false }
         ensures thread { has (is_born_thread result) self.new.rows.threads ≡ false }
         ensures drawn { has (drew result) self.new.rows.threads ≡ true }
@@ -181,9 +192,10 @@ impl World {
         self.procs.draw_birth(tid)
     }
 
-    /// Adds a process, without threads, handles and views. Its number is from 1 to 2,147,483,647 and was never used. Its
-    /// birth is that of a directive with this number, or a thread has drawn it and no process has it.
-    pub fn procs_add_process(&mut self, pid: u32, maker: Option<u32>, birth: Birth)
+    /// Adds a process, without threads, handles and views, with a copy of the token. Its number is from 1 to
+    /// 2,147,483,647 and was never used. Its birth is that of a directive with this number, or a thread has drawn it
+    /// and no process has it.
+    pub fn procs_add_process(&mut self, pid: u32, maker: Option<u32>, birth: Birth, token: &Token)
         requires room { 0 < self.old.room.processes }
         requires budget { CanMake self.old }
         requires number { IsNumber pid }
@@ -192,7 +204,7 @@ impl World {
         requires fresh { (birth.maker == 0) ≡ false
             → has (is_born_process birth) self.old.rows.processes ≡ false }
         ensures rows { self.new.rows
-            ≡ after self.old (AddsProcess (new_process pid maker birth)) }
+            ≡ after self.old (AddsProcess (new_process pid maker birth token.now)) }
         ensures births { self.new.births ≡ self.old.births }
         ensures calls { self.new.calls ≡ self.old.calls }
         ensures loose { self.new.loose ≡ self.old.loose }
@@ -205,7 +217,7 @@ impl World {
             } }
     {
         self.made += 1;
-        self.procs.add_process(pid, maker, birth);
+        self.procs.add_process(pid, maker, birth, token);
         self.parts.push_reserved(Part {
             process: pid,
             handles: Table::new(self.alloc),
@@ -261,6 +273,7 @@ impl World {
         ensures stands { stands self.new.births.ports result ≡ true }
         ensures others { KeepsNames self.old.births.ports self.new.births.ports }
         ensures sections { self.new.births.sections ≡ self.old.births.sections }
+        ensures tokens { self.new.births.tokens ≡ self.old.births.tokens }
         ensures calls { self.new.calls ≡ self.old.calls }
         ensures loose { self.new.loose ≡ self.old.loose }
         ensures made { self.new.made ≡ self.old.made + 1 }

@@ -3,7 +3,7 @@ ghost use Rattle.std.specs.Prelude.{◌≡◌, ◌+◌, ◌*◌, ◌≤◌, true
 ghost use Rattle.lpc_base.specs.Rows.{count, has};
 ghost use Rattle.lpc_base.specs.declared.limits.TheConstants.{VIEW_LIMIT};
 ghost use Rattle.lpc_model.specs.Basics.{Cuts, DropsHandle, Empties, Unbinds};
-ghost use Rattle.lpc_model.specs.Found.{all_registrations, handle_count, holders, is_table, pointer_count, same_birth};
+ghost use Rattle.lpc_model.specs.Found.{all_registrations, all_views, handle_count, holders, is_owned_by, is_table, pointer_count, same_birth};
 ghost use Rattle.lpc_model.specs.declared.entry.ObjectKind.TheVariants as kind;
 ghost use Rattle.lpc_rows.specs.Closing.{HasMutualPairs};
 ghost use Rattle.lpc_rows.specs.Capacity.{but_names};
@@ -14,7 +14,7 @@ ghost use Rattle.lpc_rows.specs.Shown.{object_stands};
 ghost use Rattle.lpc_rows.specs.Clauses.{after, birth_at, name_at};
 
 use crate::world::World;
-use lpc_homes::{Object, parts};
+use lpc_homes::{Object, parts, views};
 use lpc_slots::Key;
 
 impl World {
@@ -94,18 +94,19 @@ impl World {
         parts::handles_to(&self.parts, object) + self.holders_of(object)
     }
 
-    /// How many rows but handles count for an object.
+    /// How many rows but handles count for an object: for a token none.
     fn holders_of(&self, object: Object) -> usize
         requires { object_stands self.now.births object ≡ true }
         ensures holders { let o = name_at self.now object in
             result ≡ holders self.now.rows o.kind o.birth }
-        ensures few { result ≤ VIEW_LIMIT * self.now.made }
+        ensures few { result ≤ (VIEW_LIMIT + 5) * self.now.made }
     {
         match object {
             Object::Port(port) => self.holders_of_port(port),
             Object::Process(birth) => self.procs.lives_of_process(birth),
             Object::Thread(birth) => self.procs.lives_of_thread(birth),
-            Object::Section(section) => self.views_of_section(section),
+            Object::Section(section) => self.holders_of_section(section),
+            Object::Token(_) => 0,
         }
     }
 
@@ -119,10 +120,21 @@ impl World {
         self.procs.registered_to(self.port(port).birth)
     }
 
-    /// How many rows but handles count for a port: ports, messages, waits, and registrations.
+    /// How many rows but handles count for a port: ports, messages, waits, registrations, and views that go with it.
     fn holders_of_port(&self, port: Key) -> usize
         requires { stands self.now.births.ports port ≡ true }
         ensures holders { result ≡ holders self.now.rows kind.Port (birth_at self.now port) }
+        ensures few { result ≤ (VIEW_LIMIT + 5) * self.now.made }
+    {
+        self.rows_at_port(port) + views::owned_views(&self.parts, port)
+    }
+
+    /// How many of these aren't views.
+    fn rows_at_port(&self, port: Key) -> usize
+        requires { stands self.now.births.ports port ≡ true }
+        ensures rows { let views = all_views self.now.rows in
+            result + count (is_owned_by (birth_at self.now port)) views
+            ≡ holders self.now.rows kind.Port (birth_at self.now port) }
         ensures few { result ≤ 5 * self.now.made }
     {
         let ports = self.ports.paired_to(port) + self.ports.connected_to(port);

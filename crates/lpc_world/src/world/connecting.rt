@@ -1,23 +1,23 @@
 // What the services of connections look up in the world.
-ghost use Rattle.std.specs.Prelude.{◌≡◌, IfOk, IfSome, None, Some, Ok, Err, false, true};
+ghost use Rattle.std.specs.Prelude.{◌≡◌, IfOk, IfSome, None, Some, Ok, Err, false, true, option_map};
 ghost use Rattle.lpc_base.specs.Rows.{has};
 ghost use Rattle.lpc_model.specs.Connect as connect;
-ghost use Rattle.lpc_model.specs.Connect.{answer_of, is_accepted_on};
-ghost use Rattle.lpc_model.specs.Found.{is_accepted, is_offered, is_table, waits_as};
+ghost use Rattle.lpc_model.specs.Connect.{acceptance_of, is_accepted_on};
+ghost use Rattle.lpc_model.specs.Found.{is_accepted, is_offered, is_table, offer_of, waits_as};
 ghost use Rattle.lpc_model.specs.Named.{named_port};
 ghost use Rattle.lpc_rows.specs.Kept.{has_queued, is_pending_in};
 ghost use Rattle.lpc_rows.specs.Names.{stands};
 ghost use Rattle.lpc_rows.specs.Ready.{waiter};
-ghost use Rattle.lpc_rows.specs.Clauses.{Answers, FindsWait, IsOwnWait, birth_at};
+ghost use Rattle.lpc_rows.specs.Clauses.{Answers, FindsWait, IsOwnWait, birth_at, has_section};
+ghost use Rattle.lpc_rows.specs.Shown.{birth_of, shown_acceptance, shown_offer};
 
 use crate::world::World;
-use arrayvec::ArrayVec;
 use lpc_base::status::OBJECT_TYPE_MISMATCH;
 use lpc_base::{Status, held};
 use lpc_homes::parts;
 use lpc_names::{Found, status_of};
 use lpc_slots::Key;
-use lpc_waits::WaitKind;
+use lpc_waits::{Accepted, Offer, WaitKind};
 
 impl World {
     /// The port that a path leads to: the status of the path's fault, and OBJECT_TYPE_MISMATCH where a directory stands
@@ -53,15 +53,35 @@ impl World {
         parts::reaches_port(&self.parts, pid, port)
     }
 
-    /// The data of the answer that accepted the connect of a thread.
-    pub fn reply_bytes(&self, tid: u32) -> ArrayVec<u8, 256>
+    /// What the connect of a thread was accepted with.
+    pub fn acceptance(&self, tid: u32) -> Accepted
         requires waits { has (waits_as tid) self.now.rows.waits ≡ true }
         requires accepted { is_accepted (waiter self.now.rows tid) ≡ true }
-        ensures { result.items ≡ answer_of (waiter self.now.rows tid) }
+        ensures { shown_acceptance result ≡ acceptance_of (waiter self.now.rows tid) }
     {
         match self.waits.accepted(tid) {
-            Some(accepted) => held(accepted.reply.as_slice()),
+            Some(accepted) => Accepted {
+                reply: held(accepted.reply.as_slice()),
+                target: accepted.target,
+                vbase: accepted.vbase,
+                vsize: accepted.vsize,
+            },
             None => unreachable!(),
+        }
+    }
+
+    /// The part of a section that a waiting thread's connect offers, which isn't accepted: None where it offers nothing,
+    /// where it is accepted, and where the thread waits for something else.
+    pub fn waits_offer(&self, tid: u32) -> Option<Offer>
+        requires { has (waits_as tid) self.now.rows.waits ≡ true }
+        ensures offer { option_map (shown_offer (birth_of self.now.births)) result
+            ≡ offer_of (waiter self.now.rows tid) }
+        ensures stands { has_section self.now result ≡ true }
+    {
+        if self.is_offered(tid) {
+            self.waits.offer(tid).copied()
+        } else {
+            None
         }
     }
 

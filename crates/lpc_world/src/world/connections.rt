@@ -1,20 +1,21 @@
 // The changes that a connection makes: its ports are joined and completed, a connect is accepted, and a connection
 // request is taken from its queue.
-ghost use Rattle.std.specs.Prelude.{◌≡◌, ◌≤◌, ◌<◌, ◌||◌, true, false, IfSome, IfNone, is_some, length};
+ghost use Rattle.std.specs.Prelude.{◌≡◌, ◌≤◌, ◌<◌, ◌||◌, true, false, IfSome, IfNone, None, is_some, length};
 ghost use Rattle.lpc_base.specs.Rows.{has};
 ghost use Rattle.lpc_model.specs.Basics.{Accepts, TakesConnect};
-ghost use Rattle.lpc_model.specs.Found.{is_accepted, waits_as};
+ghost use Rattle.lpc_model.specs.Found.{is_accepted, offer_of, waits_as};
 ghost use Rattle.lpc_model.specs.Message.{message_of};
 ghost use Rattle.lpc_rows.specs.Kept.{IsStep, Roomy, StaysReady, StaysUnqueued};
 ghost use Rattle.lpc_rows.specs.Names.{stands};
 ghost use Rattle.lpc_rows.specs.Ready.{waiter};
 ghost use Rattle.lpc_base.specs.declared.limits.TheConstants.{HEADER_SIZE, MESSAGE_LIMIT};
-ghost use Rattle.lpc_rows.specs.Clauses.{HasLeft, after, birth_at, joined, oldest_connect, pulled, with_completion};
+ghost use Rattle.lpc_rows.specs.Clauses.{HasLeft, after, birth_at, has_section, joined, offering_with, oldest_connect, pulled, with_completion};
+ghost use Rattle.lpc_rows.specs.Shown.{shown_acceptance};
 
 use crate::world::World;
 use lpc_ports::Message;
 use lpc_slots::Key;
-use lpc_waits::Accepted;
+use lpc_waits::{Accepted, Offer};
 
 impl World {
     /// A client port and a server port become the two ends of a connection, and both get its context.
@@ -39,25 +40,39 @@ impl World {
         self.ports.set_completed(port, completed);
     }
 
-    /// A waiting thread's connect, which was received and isn't accepted yet, is accepted with the data of an answer.
-    /// With None, and where the thread waits for something else, nothing changes.
+    /// A waiting thread's connect, which was received and isn't accepted yet, is accepted, and offers nothing from then
+    /// on. With None, and where the thread waits for something else, nothing changes but that a sweep is due.
     pub fn waits_set_accepted(&mut self, tid: u32, accepted: Option<Accepted>)
         requires waits { has (waits_as tid) self.old.rows.waits ≡ true }
         requires offered { is_accepted (waiter self.old.rows tid) ≡ false }
         requires received { let x = waiter self.old.rows tid in x.received ≡ true }
         ensures some { IfSome accepted
-            (λ a. self.new.rows ≡ after self.old (Accepts tid a.reply.items)) }
+            (λ a. self.new.rows ≡ after self.old (Accepts tid (shown_acceptance a))) }
         ensures none { IfNone accepted (self.new.rows ≡ self.old.rows) }
         ensures births { self.new.births ≡ self.old.births }
         ensures calls { self.new.calls ≡ self.old.calls }
-        ensures loose { self.new.loose ≡ self.old.loose }
+        ensures loose { self.new.loose ≡ true }
         ensures made { self.new.made ≡ self.old.made }
         ensures room { Roomy self.old.room self.new.room }
         ensures unqueued { StaysUnqueued self.old.rows self.new.rows }
         ensures still { StaysReady self.old.rows self.new.rows }
         ensures capacity { self.new.capacity ≡ self.old.capacity }
     {
+        self.loose = true;
         self.waits.set_accepted(tid, accepted);
+    }
+
+    /// A waiting thread's connect, which offers nothing yet, offers a part of a section that stands, or still nothing.
+    /// Where it is accepted, and where the thread waits for something else, the rows stay.
+    pub fn waits_set_offer(&mut self, tid: u32, offer: Option<Offer>)
+        requires waits { has (waits_as tid) self.old.rows.waits ≡ true }
+        requires first { offer_of (waiter self.old.rows tid) ≡ None }
+        requires section { has_section self.old offer ≡ true }
+        ensures step { IsStep (offering_with self.old tid offer) self.old self.new }
+        ensures loose { self.new.loose ≡ self.old.loose }
+        ensures capacity { self.new.capacity ≡ self.old.capacity }
+    {
+        self.waits.set_offer(tid, offer);
     }
 
     /// Takes the oldest connection request of a queue: None exactly where no connection request stands in it.

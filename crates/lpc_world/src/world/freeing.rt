@@ -10,11 +10,11 @@ ghost use Rattle.lpc_rows.specs.Clauses.{after, birth_at};
 
 use crate::world::World;
 use lpc_base::Birth;
-use lpc_homes::{Object, parts};
+use lpc_homes::{Object, parts, views};
 use lpc_slots::Key;
 
 impl World {
-    /// A row but a thread's names the port: a handle, another port, a message, a wait, or a name.
+    /// A row but a thread's or a view names the port: a handle, another port, a message, a wait, or a name.
     fn is_named_by_row(&self, port: Key) -> bool
         requires { stands self.now.births.ports port ≡ true }
         ensures { result ≡ held.is_named_by_row self.now.rows (birth_at self.now port) }
@@ -33,12 +33,20 @@ impl World {
         self.procs.names(self.port(port).birth)
     }
 
-    /// Some row names the port: one of these, or a thread by a registration.
+    /// A view of some process goes with the port.
+    fn is_owner(&self, port: Key) -> bool
+        requires { stands self.now.births.ports port ≡ true }
+        ensures { result ≡ held.is_owner self.now.rows (birth_at self.now port) }
+    {
+        views::is_owner(&self.parts, port)
+    }
+
+    /// Some row names the port: one of these, a thread by a registration, or a view that goes with it.
     pub fn is_named(&self, port: Key) -> bool
         requires { stands self.now.births.ports port ≡ true }
         ensures { result ≡ held.is_named self.now.rows (birth_at self.now port) }
     {
-        self.is_named_by_row(port) || self.is_registered_port(port)
+        self.is_named_by_row(port) || self.is_registered_port(port) || self.is_owner(port)
     }
 
     /// A row went since the last sweep that may have named an object.
@@ -107,6 +115,7 @@ impl World {
             ≡ after self.old (Frees (port_name (birth_at self.old port))) }
         ensures others { KeepsOthers port self.old.births.ports self.new.births.ports }
         ensures sections { self.new.births.sections ≡ self.old.births.sections }
+        ensures tokens { self.new.births.tokens ≡ self.old.births.tokens }
         ensures calls { self.new.calls ≡ self.old.calls }
         ensures made { self.new.made ≤ self.old.made }
         ensures counted { self.new.made + owed_rows self.old.rows

@@ -7,7 +7,7 @@ ghost use Rattle.lpc_model.specs.Tests.{handle_load};
 ghost use Rattle.lpc_rows.specs.Kept.{CALL_BUDGET, OwnPend};
 ghost use Rattle.lpc_rows.specs.Lawful.{AreBornIn, are_single};
 ghost use Rattle.lpc_rows.specs.Names.{are_apart};
-ghost use Rattle.lpc_rows.specs.Shown.{port_names, section_names, shown_binding, shown_handle, shown_message, shown_port, shown_process, shown_section, shown_thread, shown_used, shown_wait, wait_refs};
+ghost use Rattle.lpc_rows.specs.Shown.{port_names, section_names, shown_binding, shown_handle, shown_message, shown_port, shown_process, shown_section, shown_thread, shown_token, shown_used, shown_wait, token_births, wait_refs};
 ghost use Rattle.lpc_rows.specs.Clauses.{all_stand, shown_in};
 ghost use Rattle.lpc_slots.specs.Table.{listed};
 
@@ -19,6 +19,7 @@ use lpc_ports::Ports;
 use lpc_procs::Procs;
 use lpc_sections::Section;
 use lpc_slots::{Key, Slots};
+use lpc_tokens::TokenRow;
 use lpc_waits::Waits;
 
 impl World {
@@ -53,6 +54,15 @@ impl World {
         ensures sections { self.now.rows.sections ≡ map shown_section (listed result.now) }
     {
         &self.sections
+    }
+
+    /// Tokens.
+    pub fn tokens(&self) -> &Slots<TokenRow>
+        ensures births { self.now.births.tokens ≡ token_births result.now }
+        ensures apart { are_apart self.now.births.tokens ≡ true }
+        ensures tokens { self.now.rows.tokens ≡ map shown_token (listed result.now) }
+    {
+        &self.tokens
     }
 
     /// The waits of threads.

@@ -44,6 +44,7 @@ impl World {
         ensures stands { has (is_thread tid) self.now.rows.threads ≡ true }
         ensures live { has (is_live_thread tid) self.now.rows.threads ≡ true }
         ensures ready { has (waits_as tid) self.now.rows.waits ≡ false }
+        ensures process { has_process self.now.rows result.process ≡ true }
         ensures table { has (is_table result.process) self.now.rows.handles ≡ true }
         ensures few { length self.now.rows.waits < count is_alive self.now.rows.threads }
     {
@@ -106,25 +107,32 @@ impl World {
     // Ports and queues.
 
     /// The row of a port that stands.
-    pub fn port(&self, port: Key) -> Port
+    pub fn port(&self, port: Key) -> &Port
         requires { stands self.now.births.ports port ≡ true }
         ensures found { row_at self.now port ≡ Some (port_at self.now port) }
         ensures birth { let p = port_at self.now port in p.birth ≡ birth_at self.now port }
-        ensures own { let p = port_at self.now port in p.birth ≡ result.birth }
-        ensures kind { let p = port_at self.now port in p.kind ≡ result.kind }
-        ensures pair { let p = port_at self.now port in p.pair ≡ some_birth self.now result.pair }
-        ensures connection { let p = port_at self.now port in
-            p.connection ≡ some_birth self.now result.connection }
-        ensures context { let p = port_at self.now port in p.context ≡ result.context }
-        ensures completed { let p = port_at self.now port in p.completed ≡ result.completed }
-        ensures creator { let p = port_at self.now port in
-            p.creator ≡ option_map shown_creator result.creator }
+        ensures own { let p = port_at self.now port in let row = result.now in p.birth ≡ row.birth }
+        ensures kind { let p = port_at self.now port in let row = result.now in p.kind ≡ row.kind }
+        ensures pair { let p = port_at self.now port in let row = result.now in
+            p.pair ≡ some_birth self.now row.pair }
+        ensures connection { let p = port_at self.now port in let row = result.now in
+            p.connection ≡ some_birth self.now row.connection }
+        ensures context { let p = port_at self.now port in let row = result.now in
+            p.context ≡ row.context }
+        ensures completed { let p = port_at self.now port in let row = result.now in
+            p.completed ≡ row.completed }
+        ensures creator { let p = port_at self.now port in let row = result.now in
+            p.creator ≡ option_map shown_creator row.creator }
+        ensures security { let p = port_at self.now port in let row = result.now in
+            p.security ≡ row.security }
         ensures apart { are_apart self.now.births.ports ≡ true }
-        ensures pair_stands { some_stands self.now.births.ports result.pair ≡ true }
-        ensures connection_stands { some_stands self.now.births.ports result.connection ≡ true }
+        ensures pair_stands { let row = result.now in
+            some_stands self.now.births.ports row.pair ≡ true }
+        ensures connection_stands { let row = result.now in
+            some_stands self.now.births.ports row.connection ≡ true }
     {
         match self.ports.get(port) {
-            Some(row) => *row,
+            Some(row) => row,
             None => unreachable!(),
         }
     }

@@ -75,6 +75,7 @@ impl World {
         ensures stands { stands self.new.births.sections result ≡ true }
         ensures others { KeepsNames self.old.births.sections self.new.births.sections }
         ensures ports { self.new.births.ports ≡ self.old.births.ports }
+        ensures tokens { self.new.births.tokens ≡ self.old.births.tokens }
         ensures calls { self.new.calls ≡ self.old.calls }
         ensures loose { self.new.loose ≡ self.old.loose }
         ensures made { self.new.made ≡ self.old.made + 1 }
@@ -85,17 +86,19 @@ impl World {
         self.sections.insert_reserved(section)
     }
 
-    /// A section that no handle names and no view shows goes. Its room is spare then.
+    /// A section goes that no handle names, no view shows and no connect that isn't accepted offers. Its room is spare
+    /// then.
     pub fn sections_free(&mut self, section: Key)
         requires stands { stands self.old.births.sections section ≡ true }
         requires handles { let birth = name_of self.old.births.sections section in
             has_handles self.old.rows (section_name birth) ≡ false }
-        requires views { let birth = name_of self.old.births.sections section in
+        requires holders { let birth = name_of self.old.births.sections section in
             has_holders self.old.rows (section_name birth) ≡ false }
         ensures rows { let birth = name_of self.old.births.sections section in
             self.new.rows ≡ after self.old (Frees (section_name birth)) }
         ensures others { KeepsOthers section self.old.births.sections self.new.births.sections }
         ensures ports { self.new.births.ports ≡ self.old.births.ports }
+        ensures tokens { self.new.births.tokens ≡ self.old.births.tokens }
         ensures calls { self.new.calls ≡ self.old.calls }
         ensures made { self.new.made ≡ self.old.made }
         ensures loose { self.new.loose ≡ true }
@@ -127,23 +130,23 @@ impl World {
         bytes_made_by(&self.sections, pid)
     }
 
-    /// A view of some process shows the section.
-    pub fn is_shown(&self, section: Key) -> bool
+    /// A view of some process shows the section, or a connect offers it that isn't accepted.
+    pub fn is_shown_or_offered(&self, section: Key) -> bool
         requires { stands self.now.births.sections section ≡ true }
         ensures { let birth = name_of self.now.births.sections section in
             result ≡ has_holders self.now.rows (section_name birth) }
     {
-        self.views_of_section(section) != 0
+        views::shows(&self.parts, section) || self.waits.is_section_offered(section)
     }
 
-    /// How many views of all processes show a section.
-    pub(crate) fn views_of_section(&self, section: Key) -> usize
+    /// How many views of all processes show a section, and how many connects offer it that aren't accepted.
+    pub(crate) fn holders_of_section(&self, section: Key) -> usize
         requires { stands self.now.births.sections section ≡ true }
         ensures holders { let birth = name_of self.now.births.sections section in
             result ≡ holders self.now.rows kind.Section birth }
-        ensures few { result ≤ VIEW_LIMIT * self.now.made }
+        ensures few { result ≤ (VIEW_LIMIT + 1) * self.now.made }
     {
-        views::views_to(&self.parts, section)
+        views::views_to(&self.parts, section) + self.waits.offers(section)
     }
 }
 

@@ -1,12 +1,11 @@
 use Rattle.std.proofs.Common.{[], ◌∷◌, ap, ◌∙◌}
-use Rattle.lpc_base.specs.declared.status.TheConstants.{PORT_CONNECTION_REFUSED}
+use Rattle.lpc_model.specs.Basics.{DropsOwned}
 use Rattle.lpc_model.specs.World.{World}
 use Rattle.lpc_model.specs.Entering.{end_connect}
-use Rattle.lpc_model.specs.Fields.{info}
 use Rattle.lpc_model.specs.Found.{is_connect}
 use Rattle.lpc_rows.specs.Does.{left_by}
 use Rattle.lpc_rows.specs.Ready.{waiter}
-use Rattle.lpc_steps.proofs.Endings.{same-waiter, withdrawn-first}
+use Rattle.lpc_steps.proofs.Endings.{same-waiter, withdrawn-connect}
 use Rattle.lpc_rows.proofs.Finished.{own-waiter}
 use Rattle.lpc_steps.proofs.ending.end_offered.Goals as goal
 
@@ -19,5 +18,5 @@ returns-clause-took c =
     let w = c.args.world.now.rows in
     let before = c.messages_withdraw.new.self.loose in
     c.end_connect.ensures.takes
-    ∙ ap (λ (u : World). left_by u c.args.out.now.list before (end_connect [] (waiter u c.args.tid) ∷ [])) c.messages_withdraw.ensures.step.rows
-    ∙ withdrawn-first w c.args.tid PORT_CONNECTION_REFUSED (info [] ∷ []) c.args.out.now.list before c.args.world.now.loose (own-waiter w c.args.tid c.requires.waits)
+    ∙ ap (λ (u : World). left_by u c.args.out.now.list before (let x = waiter u c.args.tid in end_connect [] x ∷ DropsOwned x.port ∷ [])) c.messages_withdraw.ensures.step.rows
+    ∙ withdrawn-connect w c.args.tid [] c.args.out.now.list before c.args.world.now.loose (own-waiter w c.args.tid c.requires.waits)

@@ -1,4 +1,4 @@
-use Rattle.lpc_model.specs.Found.{process_name, section_name, thread_name}
+use Rattle.lpc_model.specs.Found.{process_name, section_name, thread_name, token_name}
 use Rattle.lpc_rows.specs.Clauses.{birth_at}
 use Rattle.lpc_rows.specs.Names.{name_of}
 use Rattle.lpc_sweep.proofs.HeldLives.{none-handle, none-hold}
@@ -19,6 +19,10 @@ pub sections_free-requires-clause-handles : goal.sections_free-requires-clause-h
 sections_free-requires-clause-handles c =
     none-handle c.args.world.now.rows (section_name (name_of c.args.world.now.births.sections c.in-Section.section)) (rw c.in-Section.is at c.requires.unheld)
 
-pub sections_free-requires-clause-views : goal.sections_free-requires-clause-views
-sections_free-requires-clause-views c =
+pub sections_free-requires-clause-holders : goal.sections_free-requires-clause-holders
+sections_free-requires-clause-holders c =
     none-hold c.args.world.now.rows (section_name (name_of c.args.world.now.births.sections c.in-Section.section)) (rw c.in-Section.is at c.requires.unheld)
+
+pub tokens_free-requires-clause-handles : goal.tokens_free-requires-clause-handles
+tokens_free-requires-clause-handles c =
+    none-handle c.args.world.now.rows (token_name (name_of c.args.world.now.births.tokens c.in-Token.token)) (rw c.in-Token.is at c.requires.unheld)

@@ -1,13 +1,13 @@
 use Rattle.std.proofs.Common.{ap, sym, subst, ◌∙◌, ◌≡◌, length, not, arith}
 use Rattle.lpc_model.specs.Basics.{Frees, basic, world_after}
 use Rattle.lpc_model.specs.Found.{is_port, port_name}
-use Rattle.lpc_model.specs.Linked.{AreLivesHeld, HasHeldSections}
+use Rattle.lpc_model.specs.Linked.{AreLivesHeld, HasHeldSections, HasHeldTokens}
 use Rattle.lpc_model.specs.Sweep.{is_unheld, sweep}
 use Rattle.lpc_model.specs.World.{PortRow, World}
 use Rattle.lpc_model.proofs.Held.FreedPort.{free_one, lives_freed, swept_none_world, unheld_ports}
 use Rattle.lpc_sweep.specs.Sweeping.{CanSweep}
 use Rattle.lpc_rows.specs.Names.{name_of}
-use Rattle.lpc_sweep.proofs.Ahead.{ahead_same, ahead_then, sections-held}
+use Rattle.lpc_sweep.proofs.Ahead.{ahead_same, ahead_then, sections-held, tokens-held}
 use Rattle.lpc_sweep.proofs.HeldPorts.{can_freed}
 use Rattle.lpc_sweep.proofs.Places.{length_less, none_left}
 use Rattle.lpc_sweep.proofs.freeing.free_ports.Goals as goal
@@ -33,6 +33,7 @@ loop-freed-preserved c =
         can = subst CanSweep (sym went) (can_freed w (port_name b) can c.in-Some.ensures.unheld);
         leaves = ap (λ (v : World). world_after v (sweep v)) went ∙ free_one w b can.linked c.in-Some.ensures.unheld;
         sections = λ held. subst HasHeldSections (sym went) (sections-held w (port_name b) held);
+        tokens = λ held. subst HasHeldTokens (sym went) (tokens-held w (port_name b) held);
         calls = c.free.ensures.calls;
         made = c.free.ensures.made;
         room = c.free.ensures.room;
@@ -46,7 +47,7 @@ loop-freed-preserved c =
 pub returns-in-None-clause-rows : goal.returns-in-None-clause-rows
 returns-in-None-clause-rows c =
     let w = c.loop-freed.world.rows in
-    sym (swept_none_world w (unheld_ports w c.loop-freed.invariant.lives c.in-None.ensures.none (c.loop-freed.invariant.ahead.sections c.requires.sections))) ∙ c.loop-freed.invariant.ahead.leaves
+    sym (swept_none_world w (unheld_ports w c.loop-freed.invariant.lives c.in-None.ensures.none (c.loop-freed.invariant.ahead.sections c.requires.sections) (c.loop-freed.invariant.ahead.tokens c.requires.tokens))) ∙ c.loop-freed.invariant.ahead.leaves
 
 pub returns-in-None-clause-calls : goal.returns-in-None-clause-calls
 returns-in-None-clause-calls c = c.loop-freed.invariant.ahead.calls
@@ -61,7 +62,7 @@ pub returns-clause-rows : goal.returns-clause-rows
 returns-clause-rows c =
     let w = c.loop-freed.world.rows in
     let none = none_left (λ (p : PortRow). not (is_unheld w (port_name p.birth))) w.ports (omega (arith, c.loop-freed.invariant.fewer, c.loop-freed-test.false, c.port_count-freed-end.ensures)) in
-    sym (swept_none_world w (unheld_ports w c.loop-freed.invariant.lives none (c.loop-freed.invariant.ahead.sections c.requires.sections))) ∙ c.loop-freed.invariant.ahead.leaves
+    sym (swept_none_world w (unheld_ports w c.loop-freed.invariant.lives none (c.loop-freed.invariant.ahead.sections c.requires.sections) (c.loop-freed.invariant.ahead.tokens c.requires.tokens))) ∙ c.loop-freed.invariant.ahead.leaves
 
 pub returns-clause-calls : goal.returns-clause-calls
 returns-clause-calls c = c.loop-freed.invariant.ahead.calls

@@ -1,4 +1,4 @@
-use Rattle.std.proofs.Common.{refl, sym, ◌∙◌}
+use Rattle.std.proofs.Common.{sym, ◌∙◌}
 use Rattle.lpc_model.proofs.Held.FreedPort.{swept_none_world}
 use Rattle.lpc_sweep.proofs.freeing.sweep.Goals as goal
 
@@ -7,3 +7,6 @@ returns-else-is_loose-clause-rows c = sym (swept_none_world _ (c.requires.still 
 
 pub free_ports-requires-clause-sections : goal.free_ports-requires-clause-sections
 free_ports-requires-clause-sections c = c.free_processes.ensures.ahead.sections (c.free_threads.ensures.ahead.sections c.free_sections.ensures.held)
+
+pub free_ports-requires-clause-tokens : goal.free_ports-requires-clause-tokens
+free_ports-requires-clause-tokens c = c.free_processes.ensures.ahead.tokens (c.free_threads.ensures.ahead.tokens (c.free_sections.ensures.ahead.tokens c.free_tokens.ensures.held))

@@ -11,7 +11,7 @@ pub invariant_of-self : goal.invariant_of-self
 invariant_of-self c =
     let there = rw (← c.self.view_is) at c.requires in
     rw (c.add_process.ensures.table, c.push_reserved.ensures.items)
-    (steps.added_process (tables_of c.self.inside.procs c.self.inside.parts.items c.self.inside.ports c.self.inside.waits c.self.inside.names c.self.inside.sections) c.self.inside.calls c.self.inside.made c.self.invariant (record { number = c.args.pid; maker = c.args.maker; birth = c.args.birth }) (record { process = c.args.pid; handles = c.new.result; views = c.new-2.result }) (c.self.inside.procs.process_room - 1) (rw c.new.ensures refl) (rw c.new-2.ensures refl) refl there.budget there.new there.birth there.fresh)
+    (steps.added_process (tables_of c.self.inside.procs c.self.inside.parts.items c.self.inside.ports c.self.inside.waits c.self.inside.names c.self.inside.sections c.self.inside.tokens c.self.inside.token_names) c.self.inside.calls c.self.inside.made c.self.invariant (record { number = c.args.pid; maker = c.args.maker; birth = c.args.birth; token = c.args.token.now }) (record { process = c.args.pid; handles = c.new.result; views = c.new-2.result }) (c.self.inside.procs.process_room - 1) (rw c.new.ensures refl) (rw c.new-2.ensures refl) refl there.budget there.new there.birth there.fresh)
 
 pub returns-clause-room : goal.returns-clause-room
 returns-clause-room c =
@@ -26,11 +26,13 @@ returns-clause-room c =
       for_ports = omega arith;
       for_names = omega arith;
       for_sections = omega arith;
+      for_tokens = omega arith;
+      for_token_names = omega arith;
       for_handles = rooms.handles_more _ _;
       for_views = rooms.handles_more _ _;
     })
 
 pub returns-clause-made : goal.returns-clause-made
 returns-clause-made c =
-    let owed = steps.process_owed (tables_of c.self.inside.procs c.self.inside.parts.items c.self.inside.ports c.self.inside.waits c.self.inside.names c.self.inside.sections) c.self.inside.calls c.self.inside.made c.self.invariant (record { number = c.args.pid; maker = c.args.maker; birth = c.args.birth }) (record { process = c.args.pid; handles = c.new.result; views = c.new-2.result }) (c.self.inside.procs.process_room - 1) (rw c.new.ensures refl) (rw c.new-2.ensures refl) refl in
+    let owed = steps.process_owed (tables_of c.self.inside.procs c.self.inside.parts.items c.self.inside.ports c.self.inside.waits c.self.inside.names c.self.inside.sections c.self.inside.tokens c.self.inside.token_names) c.self.inside.calls c.self.inside.made c.self.invariant (record { number = c.args.pid; maker = c.args.maker; birth = c.args.birth; token = c.args.token.now }) (record { process = c.args.pid; handles = c.new.result; views = c.new-2.result }) (c.self.inside.procs.process_room - 1) (rw c.new.ensures refl) (rw c.new-2.ensures refl) refl in
     rw (← c.self.view_is, c.add_process.ensures.table, c.push_reserved.ensures.items) (omega (arith, owed))

@@ -1,0 +1,71 @@
+use Rattle.std.proofs.Common.{◌-◌, length, vec_capacity, vec_len, refl, ap, arith}
+use Rattle.lpc_model.specs.World.{World}
+use Rattle.lpc_slots.specs.Table.{Table, listed}
+use Rattle.lpc_slots.proofs.Same.{vacant}
+use Rattle.lpc_rows.specs.Kept.{owed_rows}
+use Rattle.lpc_rows.specs.Shown.{tables_of}
+use Rattle.lpc_rows.proofs.Capacities as capacities
+use Rattle.lpc_rows.proofs.Tokens as tokens
+use Rattle.lpc_tokens.specs.declared.token_row.TokenRow.{TokenRow}
+use Rattle.lpc_world.proofs.world.World.tokens_insert_reserved.Goals as goal
+
+pub insert_reserved-requires-clause-few : goal.insert_reserved-requires-clause-few
+insert_reserved-requires-clause-few c =
+    let counted = c.self.invariant.counted.tokens_made in
+    let few = c.self.invariant.lawful.few in
+    let budget = c.self.invariant.lawful.budget in
+    omega (arith, counted, few, budget)
+
+pub invariant_of-self : goal.invariant_of-self
+invariant_of-self c =
+    let there = rw (← c.self.view_is) at c.requires in
+    tokens.added_lawful (tables_of c.self.inside.procs c.self.inside.parts.items c.self.inside.ports c.self.inside.waits c.self.inside.names c.self.inside.sections c.self.inside.tokens c.self.inside.token_names) c.self.inside.calls c.self.inside.made c.self.invariant c.insert_reserved.result c.args.token c.insert_reserved.new.self c.insert_reserved.ensures.table c.insert_reserved.ensures.listed c.insert_reserved.ensures.vacant there.fresh there.drawn there.budget
+
+pub returns-clause-rows : goal.returns-clause-rows
+returns-clause-rows c = rw (← c.self.view_is) (tokens.adds (tables_of c.self.inside.procs c.self.inside.parts.items c.self.inside.ports c.self.inside.waits c.self.inside.names c.self.inside.sections c.self.inside.tokens c.self.inside.token_names) c.self.invariant.named c.insert_reserved.result c.args.token c.insert_reserved.new.self c.insert_reserved.ensures.listed (vacant c.self.inside.tokens c.insert_reserved.result c.insert_reserved.ensures.vacant))
+
+pub returns-clause-name : goal.returns-clause-name
+returns-clause-name c = tokens.name_new (tables_of c.self.inside.procs c.self.inside.parts.items c.self.inside.ports c.self.inside.waits c.self.inside.names c.self.inside.sections c.self.inside.tokens c.self.inside.token_names) c.self.invariant.named c.insert_reserved.result c.args.token c.insert_reserved.new.self c.insert_reserved.ensures.listed (vacant c.self.inside.tokens c.insert_reserved.result c.insert_reserved.ensures.vacant)
+
+pub returns-clause-stands : goal.returns-clause-stands
+returns-clause-stands c = tokens.stands_new (tables_of c.self.inside.procs c.self.inside.parts.items c.self.inside.ports c.self.inside.waits c.self.inside.names c.self.inside.sections c.self.inside.tokens c.self.inside.token_names) c.self.invariant.named c.insert_reserved.result c.args.token c.insert_reserved.new.self c.insert_reserved.ensures.listed (vacant c.self.inside.tokens c.insert_reserved.result c.insert_reserved.ensures.vacant)
+
+pub returns-clause-others : goal.returns-clause-others
+returns-clause-others c = rw (← c.self.view_is) (tokens.keeps (tables_of c.self.inside.procs c.self.inside.parts.items c.self.inside.ports c.self.inside.waits c.self.inside.names c.self.inside.sections c.self.inside.tokens c.self.inside.token_names) c.self.invariant.named c.insert_reserved.result c.args.token c.insert_reserved.new.self c.insert_reserved.ensures.listed (vacant c.self.inside.tokens c.insert_reserved.result c.insert_reserved.ensures.vacant))
+
+pub returns-clause-ports : goal.returns-clause-ports
+returns-clause-ports c = rw (← c.self.view_is) refl
+
+pub returns-clause-sections : goal.returns-clause-sections
+returns-clause-sections c = rw (← c.self.view_is) refl
+
+pub returns-clause-room : goal.returns-clause-room
+returns-clause-room c =
+    let added = tokens.adds (tables_of c.self.inside.procs c.self.inside.parts.items c.self.inside.ports c.self.inside.waits c.self.inside.names c.self.inside.sections c.self.inside.tokens c.self.inside.token_names) c.self.invariant.named c.insert_reserved.result c.args.token c.insert_reserved.new.self c.insert_reserved.ensures.listed (vacant c.self.inside.tokens c.insert_reserved.result c.insert_reserved.ensures.vacant) in
+    let spare = ap (λ (t : Table TokenRow). t.spare) c.insert_reserved.ensures.table in
+    rw (← c.self.view_is, ap (λ (v : World). v.waits) added, ap (λ (v : World). v.messages) added, ap (λ (v : World). v.ports) added) (record {
+      for_processes = omega arith;
+      for_threads = omega arith;
+      for_waits = omega arith;
+      for_messages = omega arith;
+      for_ports = omega arith;
+      for_names = omega arith;
+      for_sections = omega arith;
+      for_tokens = omega (arith, spare);
+      for_token_names = omega arith;
+      for_handles = λ pid. omega arith;
+      for_views = λ pid. omega arith;
+    })
+
+pub returns-clause-made : goal.returns-clause-made
+returns-clause-made c =
+    let owed = ap owed_rows (tokens.adds (tables_of c.self.inside.procs c.self.inside.parts.items c.self.inside.ports c.self.inside.waits c.self.inside.names c.self.inside.sections c.self.inside.tokens c.self.inside.token_names) c.self.invariant.named c.insert_reserved.result c.args.token c.insert_reserved.new.self c.insert_reserved.ensures.listed (vacant c.self.inside.tokens c.insert_reserved.result c.insert_reserved.ensures.vacant)) in
+    rw (← c.self.view_is) (omega (arith, owed))
+
+pub returns-clause-capacity : goal.returns-clause-capacity
+returns-clause-capacity c =
+    let there = rw (← c.self.view_is) at c.requires.room in
+    let spare = ap (λ (t : Table TokenRow). t.spare) c.insert_reserved.ensures.table in
+    let rows = ap length c.insert_reserved.ensures.listed in
+    let more = capacities.one_more c.self.inside.tokens.spare (listed c.self.inside.tokens) (c.insert_reserved.result, c.args.token) there in
+    rw (← c.self.view_is) (capacities.of_tokens (tables_of c.self.inside.procs c.self.inside.parts.items c.self.inside.ports c.self.inside.waits c.self.inside.names c.self.inside.sections c.self.inside.tokens c.self.inside.token_names) (vec_capacity c.self.inside.parts - vec_len c.self.inside.parts) c.insert_reserved.new.self (omega (arith, spare, rows, more)))
