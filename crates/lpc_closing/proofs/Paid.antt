@@ -10,7 +10,7 @@ use Rattle.lpc_model.specs.declared.entry.ObjectKind.{ObjectKind}
 use Rattle.lpc_model.specs.declared.entry.ObjectKind.TheVariants as kind
 use Rattle.lpc_model.specs.World.{Birth, HandleRow, HandleTable, MessageRow, ObjectName, PortRow, World}
 use Rattle.lpc_model.specs.Found.{handle_at, handle_count, handles_in, has_value, is_client_port, is_open, is_port, is_table, names_port, port_name, port_row, rows_in, same_birth}
-use Rattle.lpc_model.specs.Basics.{Basic, Completes, Cuts, DropsHandle, Frees, Joins, Makes, basic, completed, cut, is_end_of, without_handle, world_after}
+use Rattle.lpc_model.specs.Basics.{Basic, Completes, Cuts, DropsHandle, Frees, Joins, Makes, Secures, basic, completed, cut, is_end_of, secured, without_handle, world_after}
 use Rattle.lpc_model.specs.Close.{close_port, closing_post}
 use Rattle.lpc_model.specs.Tests.{handle_row}
 use Rattle.lpc_model.proofs.Steps.Closing.{cut-is, fewer-uncut, stage_five, uncut}
@@ -31,6 +31,7 @@ use Rattle.lpc_closing.proofs.FreshClosings.{client-row, count-both, counted-ope
 clients-step : (w : World) (s : Basic) (b : Birth) → is_steady s ≡ true → closing_rows (basic w s) b ≡ closing_rows w b
 clients-step w (Completes c) b is = count-change (is_client_of b) (is_port c) completed (λ p. refl) w.ports
 clients-step w (Cuts c) b is = count-change (is_client_of b) (is_end_of c) cut (λ p. refl) w.ports
+clients-step w (Secures c security) b is = count-change (is_client_of b) (is_port c) (secured security) (λ p. refl) w.ports
 clients-step w (Makes p) b is = absurd (cc)
 clients-step w (Joins client server context) b is = absurd (cc)
 clients-step w (Frees o) b is = absurd (cc)

@@ -82,7 +82,7 @@ fn empty_queue(world: &mut World, port: Key, out: &mut Entries)
 }
 
 /// A port is cut off from its other end: requests that were sent there end, receives that wait there on a client port,
-/// and the connect that was accepted and isn't completed.
+/// and the connect that was accepted and isn't completed, with which the views of its client port go.
 pub fn cut_pair(world: &mut World, port: Key, out: &mut Entries)
     requires port { stands world.old.births.ports port ≡ true }
     requires pairs { HasMutualPairs world.old.rows }
@@ -102,7 +102,7 @@ pub fn cut_pair(world: &mut World, port: Key, out: &mut Entries)
     world.ports_cut(port);
 }
 
-/// A port is closed, in six steps; its last handle still names it.
+/// A port is closed, in seven steps; its last handle still names it.
 #[tactic(auto, unfolding(lpc_model::specs::Close::close_port))]
 fn close_port(world: &mut World, port: Key, out: &mut Entries)
     requires port { stands world.old.births.ports port ≡ true }
@@ -126,6 +126,7 @@ fn close_port(world: &mut World, port: Key, out: &mut Entries)
     empty_queue(world, port, out);
     cut_pair(world, port, out);
     post_closed(world, port, out);
+    world.views_drop_owned(port);
 }
 
 /// One handle alone names the object.
@@ -191,8 +192,8 @@ pub(crate) fn close_handle(
 
 /// `NtClose`: a handle goes. With the last handle of a port the port is closed: its name goes; receives and listens
 /// made on it or waiting on its queue end; requests sent on it end; its queue is emptied, and the connects that wait on
-/// it end; it is cut off from its other end, whose requests and receives end; and that a completed client port is
-/// closed is posted to its connection port.
+/// it end; it is cut off from its other end, whose requests and receives end; that a completed client port is
+/// closed is posted to its connection port; and the views that it owns go.
 ///
 /// Refusal: INVALID_HANDLE where no handle of the caller's process has the value. It takes no memory.
 #[tactic(auto, unfolding(lpc_model::specs::Close::nt_close))]

@@ -1,5 +1,6 @@
 -- A port that is made: the steps as they are taken one by one, and the steps of the definition.
 use Rattle.std.proofs.Common.{◌≡◌, ℕ, Bool, List, [], ◌∷◌, ◌++◌, Option, Some, None, option_map, Result, Ok, Err, IfOk, IsOk, refl, ap, sym, ◌∙◌}
+use Rattle.std.proofs.lemmas.List.{append-nil}
 use Rattle.std.proofs.lemmas.Option.{same_Some}
 use Rattle.lpc_base.specs.declared.birth.Birth.{Birth}
 use Rattle.lpc_base.specs.declared.status.Status.{Status}
@@ -9,7 +10,7 @@ use Rattle.lpc_model.specs.declared.entry.Entry.{Entry}
 use Rattle.lpc_model.specs.declared.entry.Entry.TheVariants.{Answer}
 use Rattle.lpc_model.specs.declared.entry.Outcome.TheVariants.{Answered}
 use Rattle.lpc_model.specs.Basics.{AddsHandle, Basic, DrawsOrdinal, basic, entries_of, outcome_of, world_after}
-use Rattle.lpc_model.specs.Connect.{create_steps, making, named_steps, nt_create_port, unnamed_steps}
+use Rattle.lpc_model.specs.Connect.{create_steps, guard_steps, making, named_steps, nt_create_port, unnamed_steps}
 use Rattle.lpc_model.specs.Fields.{h}
 use Rattle.lpc_model.specs.Found.{free_handle, port_name}
 use Rattle.lpc_model.specs.Machine.{settled}
@@ -17,13 +18,14 @@ use Rattle.lpc_model.specs.Named.{free_name}
 use Rattle.lpc_model.specs.Sweep.{loosened}
 use Rattle.lpc_model.specs.Then.{◌>>=◌}
 use Rattle.lpc_model.specs.Tests.{PORT_ACCESS, handle_row, handles_test, next_birth}
-use Rattle.lpc_model.specs.World.{Path, ThreadRow, World}
+use Rattle.lpc_model.specs.World.{Dacl, Path, ThreadRow, World}
 use Rattle.lpc_model.proofs.Steps.InTurn.{after-append}
 use Rattle.lpc_procs.specs.declared.rows.Caller.{Caller}
 use Rattle.lpc_connect.specs.Calls.{HasCaller}
 use Rattle.lpc_rows.specs.Callers.{as_caller, shown_caller}
 use Rattle.lpc_rows.specs.Clauses.{thread_row}
 use Rattle.lpc_rows.specs.Does.{Left, left_by}
+use Rattle.lpc_steps.proofs.Composed.{left-append}
 
 -- the birth that a caller draws is its next
 pub drawn-birth : (w : World) (c : Caller) (b : Birth) → HasCaller w c → option_map next_birth (thread_row w c.number) ≡ Some b → b ≡ next_birth (shown_caller c)
@@ -80,28 +82,62 @@ module _ (w : World) (es : List Entry) (l : Bool) (t : ThreadRow) where
     pub created : (drew : World) (b : Birth) (o : Option (List ℕ)) → b ≡ next_birth t → drew ≡ drawn → IfOk (making drew b o) (λ steps. made ≡ world_after drew steps) → IfOk (making w (next_birth t) o) Leaves
     created drew b o birth draw makes = created_as o (rw (birth, draw) at makes)
 
+-- an access list tells nothing, and takes no row away
+guards-silently : (b : Birth) (o : Option (List ℕ)) (d : Option Dacl) → entries_of (guard_steps b o d) ≡ []
+guards-silently b None d = refl
+guards-silently b (Some name) None = refl
+guards-silently b (Some name) (Some dacl) = refl
+
+guards-firmly : (l : Bool) (b : Birth) (o : Option (List ℕ)) (d : Option Dacl) → loosened l (guard_steps b o d) ≡ l
+guards-firmly l b None d = refl
+guards-firmly l b (Some name) None = refl
+guards-firmly l b (Some name) (Some dacl) = refl
+
+-- the port was made with these steps, and then it got its access list
+module _ (w : World) (es : List Entry) (l : Bool) (mid : Left) (world : World) (b : Birth) (o : Option (List ℕ)) (d : Option Dacl)
+    (guard : world ≡ world_after mid.world (guard_steps b o d)) where
+  abbrev Guarded : Left
+  Guarded = record { world = world; entries = mid.entries; loose = mid.loose }
+
+  guarded_by : Guarded ≡ left_by mid.world mid.entries mid.loose (guard_steps b o d)
+  guarded_by =
+      let told : mid.entries ≡ mid.entries ++ entries_of (guard_steps b o d) =
+      sym (append-nil mid.entries) ∙ ap (λ (xs : List Entry). mid.entries ++ xs) (sym (guards-silently b o d)) in
+      let loose : mid.loose ≡ loosened mid.loose (guard_steps b o d) = sym (guards-firmly mid.loose b o d) in
+      λ i. record { world = guard i; entries = told i; loose = loose i }
+
+  guarded_behind : (steps : List Basic) → mid ≡ left_by w es l steps → Guarded ≡ left_by w es l (steps ++ guard_steps b o d)
+  guarded_behind steps made =
+      guarded_by ∙ ap (λ (x : Left). left_by x.world x.entries x.loose (guard_steps b o d)) made ∙ left-append w es l steps (guard_steps b o d)
+
+  pub guarded : (r : Result (List Basic) Status) (f : List Basic → List Basic) → IfOk r (λ made. mid ≡ left_by w es l (f made)) → IfOk r (λ made. Guarded ≡ left_by w es l (f made ++ guard_steps b o d))
+  guarded (Ok made) f does = guarded_behind (f made) does
+  guarded (Err s) f does = tt
+
 -- where the tests pass, the call's steps are those of a port that is made
-module _ (w : World) (t : ThreadRow) (es : List Entry) (l : Bool) (end : Left) where
-  abbrev Creates : List Basic → Type 0
-  Creates made = end ≡ left_by w es l (create_steps t made (free_handle w t.process))
+module _ (w : World) (t : ThreadRow) (o : Option (List ℕ)) (d : Option Dacl) where
+  abbrev steps : List Basic → List Basic
+  steps made = create_steps t made (free_handle w t.process) ++ guard_steps (next_birth t) o d
 
-  creates_by : (r : Result (List Basic) Status) (q : Result Unit Status) → IsOk r → IsOk q → IfOk r Creates
-      → end ≡ left_by w es l (settled t NtCreatePort (r >>= (λ made. q >>= (λ _. Ok (create_steps t made (free_handle w t.process))))))
-  creates_by (Ok made) (Ok u) free few creates = creates
-  creates_by (Ok made) (Err s) free few creates = absurd (cc)
-  creates_by (Err s) q free few creates = absurd (cc)
+  module _ (es : List Entry) (l : Bool) (end : Left) where
+    abbrev Creates : List Basic → Type 0
+    Creates made = end ≡ left_by w es l (steps made)
 
-  pub creates : (o : Option (List ℕ)) → IsOk (making w (next_birth t) o) → IsOk (handles_test w t.process 1) → IfOk (making w (next_birth t) o) Creates → end ≡ left_by w es l (settled t NtCreatePort (nt_create_port w t o))
+    creates_by : (r : Result (List Basic) Status) (q : Result Unit Status) → IsOk r → IsOk q → IfOk r Creates → end ≡ left_by w es l (settled t NtCreatePort (r >>= (λ made. q >>= (λ _. Ok (steps made)))))
+    creates_by (Ok made) (Ok u) free few creates = creates
+    creates_by (Ok made) (Err s) free few creates = absurd (cc)
+    creates_by (Err s) q free few creates = absurd (cc)
+
+    pub creates : IsOk (making w (next_birth t) o) → IsOk (handles_test w t.process 1) → IfOk (making w (next_birth t) o) Creates → end ≡ left_by w es l (settled t NtCreatePort (nt_create_port w t o d))
+    unfolding nt_create_port
+    creates free few does = creates_by (making w (next_birth t) o) (handles_test w t.process 1) free few does
+
+  -- and the call ends so
+  ends_by : (r : Result (List Basic) Status) (q : Result Unit Status) → IsOk r → IsOk q → Answered SUCCESS ≡ outcome_of (settled t NtCreatePort (r >>= (λ made. q >>= (λ _. Ok (steps made)))))
+  ends_by (Ok made) (Ok u) free few = refl
+  ends_by (Ok made) (Err s) free few = absurd (cc)
+  ends_by (Err s) q free few = absurd (cc)
+
+  pub creates_outcome : IsOk (making w (next_birth t) o) → IsOk (handles_test w t.process 1) → Answered SUCCESS ≡ outcome_of (settled t NtCreatePort (nt_create_port w t o d))
   unfolding nt_create_port
-  creates o free few does = creates_by (making w (next_birth t) o) (handles_test w t.process 1) free few does
-
--- and the call ends so
-pub creates_outcome : (w : World) (t : ThreadRow) (o : Option (List ℕ)) → IsOk (making w (next_birth t) o) → IsOk (handles_test w t.process 1) → Answered SUCCESS ≡ outcome_of (settled t NtCreatePort (nt_create_port w t o))
-unfolding nt_create_port
-creates_outcome w t o free few = ends_by (making w (next_birth t) o) (handles_test w t.process 1) free few
-  where
-    ends_by : (r : Result (List Basic) Status) (q : Result Unit Status) → IsOk r → IsOk q
-        → Answered SUCCESS ≡ outcome_of (settled t NtCreatePort (r >>= (λ made. q >>= (λ _. Ok (create_steps t made (free_handle w t.process))))))
-    ends_by (Ok made) (Ok u) free few = refl
-    ends_by (Ok made) (Err s) free few = absurd (cc)
-    ends_by (Err s) q free few = absurd (cc)
+  creates_outcome free few = ends_by (making w (next_birth t) o) (handles_test w t.process 1) free few

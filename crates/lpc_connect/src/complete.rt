@@ -53,7 +53,7 @@ fn complete_test(world: &World, tid: u32, handle: u32) -> Result<Connection, Sta
     })
 }
 
-/// A connection is completed: the client gets its handle, and its thread is told.
+/// A connection is completed: the client gets its handle, and its thread is told, with what the accept told of views.
 #[tactic(auto, unfolding(lpc_rows::specs::Ready::waiter))]
 fn complete(world: &mut World, by: &Caller, connection: Connection, out: &mut Entries)
     requires spare { 2 ≤ out.old.spare }
@@ -72,7 +72,7 @@ fn complete(world: &mut World, by: &Caller, connection: Connection, out: &mut En
     ensures spare { out.old.spare ≤ out.new.spare + 2 }
 {
     let call = waiting_call(world, connection.thread);
-    let reply = world.reply_bytes(connection.thread);
+    let accepted = world.acceptance(connection.thread);
     out.push(Entry::Answer {
         tid: by.number,
         call: CallName::NtCompleteConnectPort,
@@ -90,7 +90,13 @@ fn complete(world: &mut World, by: &Caller, connection: Connection, out: &mut En
         tid: connection.thread,
         call,
         status: SUCCESS,
-        fields: completion_fields(value, reply),
+        fields: completion_fields(
+            value,
+            accepted.reply,
+            accepted.target,
+            accepted.vbase,
+            accepted.vsize,
+        ),
     });
 }
 

@@ -1,9 +1,9 @@
 // The call that makes a port.
-ghost use Rattle.std.specs.Prelude.{◌≡◌, ◌≤◌, ◌<◌, ◌+◌, Ok, Err, None, Some, IfErr, IfOk, IsOk, OnOk, OnErr, is_some, option_copied, true, IsErr};
+ghost use Rattle.std.specs.Prelude.{◌≡◌, ◌≤◌, ◌<◌, ◌+◌, Ok, Err, None, Option, Some, IfErr, IfOk, IsOk, OnOk, OnErr, is_some, option_copied, true, IsErr};
 ghost use Rattle.lpc_base.specs.Rows.{has};
 ghost use Rattle.lpc_base.specs.declared.limits.TheConstants.{HANDLE_LIMIT, LINES_LIMIT};
-ghost use Rattle.lpc_connect.specs.Calls.{HasCaller, creating};
-ghost use Rattle.lpc_rows.specs.Clauses.{HasHandleRoom};
+ghost use Rattle.lpc_connect.specs.Calls.{HasCaller, creating, creating_guarded};
+ghost use Rattle.lpc_rows.specs.Clauses.{HasHandleRoom, birth_at};
 ghost use Rattle.lpc_connect.specs.Room.{KeepsHandleRoom, lacks_room_for};
 ghost use Rattle.lpc_model.specs.Basics.{world_after};
 ghost use Rattle.lpc_model.specs.Connect as connect;
@@ -20,13 +20,16 @@ ghost use Rattle.lpc_rows.specs.Lawful.{drew};
 ghost use Rattle.lpc_rows.specs.Names.{name_of, stands};
 ghost use Rattle.lpc_rows.specs.Ready.{HasRoom, caller, is_ready};
 ghost use Rattle.lpc_rows.specs.Callers.{as_caller, shown_caller};
+ghost use Rattle.lpc_sid.specs.declared.access.Dacl.{Dacl};
 
 use lpc_base::status::SUCCESS;
 use lpc_base::{Birth, OutOfMemory, PortKind, Status};
 use lpc_model::{CallName, Entries, Entry, Outcome, handle_field, refuse};
 use lpc_procs::Caller;
+use lpc_sid::Dacl;
 use lpc_slots::Key;
 use lpc_steps::{give_handle, handles_test};
+use lpc_tokens::Security;
 use lpc_world::{Object, World};
 
 /// The rights of a handle that a call makes to a port.
@@ -37,7 +40,8 @@ pub(crate) const PORT_ACCESS: u32 = 0x001F_0001;
 fn create_test(world: &World, by: &Caller, name: Option<&[u8]>) -> Result<(), Status>
     requires row { by.now ≡ as_caller (caller world.now.rows by.now.number) }
     requires table { has (is_table by.now.process) world.now.rows.handles ≡ true }
-    ensures refused { let call = create_port (option_copied name.entry) in
+    ensures refused { (dacl : Option Dacl) →
+        let call = create_port (option_copied name.entry) dacl in
         IfErr result (λ s. service world.now.rows by.now.number call ≡ Err s) }
     ensures name { let port = next_birth (shown_caller by.now) in
         OnOk result (IsOk (connect.making world.now.rows port (option_copied name.entry))) }
@@ -99,8 +103,8 @@ fn make(world: &mut World, name: Option<&[u8]>, birth: Birth) -> Key
     }
 }
 
-/// A port is made, with a handle to it.
-fn create(world: &mut World, by: &Caller, name: Option<&[u8]>, out: &mut Entries)
+/// A port is made that anyone may use, with a handle to it; its key is answered.
+fn create(world: &mut World, by: &Caller, name: Option<&[u8]>, out: &mut Entries) -> Key
     requires spare { 1 ≤ out.old.spare }
     requires ports { 0 < world.old.room.ports }
     requires names { is_some name ≡ true → 0 < world.old.room.names }
@@ -115,6 +119,8 @@ fn create(world: &mut World, by: &Caller, name: Option<&[u8]>, out: &mut Entries
         IfOk (connect.making world.old.rows port (option_copied name.entry)) (λ made.
         let steps = creating world.old.rows (shown_caller by.now) made in
         Took steps world.old world.new out.old out.new) }
+    ensures name { name_of world.new.births.ports result ≡ next_birth (shown_caller by.now) }
+    ensures stands { stands world.new.births.ports result ≡ true }
     ensures calls { world.new.calls ≡ world.old.calls }
     ensures capacity { but_names world.new.capacity ≡ but_names world.old.capacity }
     ensures spare { out.new.spare + 1 ≡ out.old.spare }
@@ -128,10 +134,63 @@ fn create(world: &mut World, by: &Caller, name: Option<&[u8]>, out: &mut Entries
         status: SUCCESS,
         fields: handle_field(value),
     });
+    port
+}
+
+/// A port that is made with a name gets its access list, where one is given.
+fn guard(world: &mut World, port: Key, name: Option<&[u8]>, dacl: Option<&Dacl>)
+    requires { stands world.old.births.ports port ≡ true }
+    ensures rows { let port = birth_at world.old port in
+        let name = option_copied name.entry in
+        let steps = connect.guard_steps port name (option_copied dacl.entry) in
+        world.new.rows ≡ world_after world.old.rows steps }
+    ensures calls { world.new.calls ≡ world.old.calls }
+    ensures capacity { world.new.capacity ≡ world.old.capacity }
+    ensures loose { world.new.loose ≡ world.old.loose }
+{
+    if name.is_none() {
+        return;
+    }
+    if let Some(dacl) = dacl {
+        world.ports_set_security(port, Security::Guarded(dacl.copy()));
+    }
+}
+
+/// A port is made, with a handle to it, and with an access list where it has a name and one is given.
+fn create_guarded(
+    world: &mut World,
+    by: &Caller,
+    name: Option<&[u8]>,
+    dacl: Option<&Dacl>,
+    out: &mut Entries,
+)
+    requires spare { 1 ≤ out.old.spare }
+    requires ports { 0 < world.old.room.ports }
+    requires names { is_some name ≡ true → 0 < world.old.room.names }
+    requires handles { HasHandleRoom world.old by.now.process }
+    requires budget { HasWholeBudget world.old }
+    requires thread { HasCaller world.old.rows by.now }
+    requires table { has (is_table by.now.process) world.old.rows.handles ≡ true }
+    requires few { tests.handle_load world.old.rows by.now.process < HANDLE_LIMIT }
+    requires free { let port = next_birth (shown_caller by.now) in
+        IsOk (connect.making world.old.rows port (option_copied name)) }
+    ensures takes { let port = next_birth (shown_caller by.now) in
+        let name = option_copied name.entry in
+        IfOk (connect.making world.old.rows port name) (λ made.
+        let by = shown_caller by.now in
+        let steps = creating_guarded world.old.rows by name (option_copied dacl.entry) made in
+        Took steps world.old world.new out.old out.new) }
+    ensures calls { world.new.calls ≡ world.old.calls }
+    ensures capacity { but_names world.new.capacity ≡ but_names world.old.capacity }
+    ensures spare { out.new.spare + 1 ≡ out.old.spare }
+{
+    let port = create(world, by, name, out);
+    guard(world, port, name, dacl);
 }
 
 /// `NtCreatePort`: makes a port, with a handle for the caller's process. With a name it is a connection port, which the
-/// path of that name leads to from then on; without one it is a port for the threads of the caller's process.
+/// path of that name leads to from then on, and to which only those may connect whom the access list grants it, if one
+/// is given; without one it is a port for the threads of the caller's process, and keeps no access list.
 ///
 /// Refusals, in this order: the fault of the name, or OBJECT_NAME_COLLISION where something stands there;
 /// QUOTA_EXCEEDED where the process has 256 handles, with those that its waiting connects are to get. OutOfMemory comes
@@ -142,16 +201,20 @@ pub fn nt_create_port(
     world: &mut World,
     by: u32,
     name: Option<&[u8]>,
+    dacl: Option<&Dacl>,
     out: &mut Entries,
 ) -> Result<Outcome, OutOfMemory>
     requires ready { is_ready world.old.rows by ≡ true }
     requires room { HasRoom world.old out.old }
     requires calls { world.old.calls < LINES_LIMIT }
-    ensures serves { let call = create_port (option_copied name.entry) in
+    ensures serves { let named = option_copied name.entry in
+        let call = create_port named (option_copied dacl.entry) in
         MayServe by call result world.old world.new out.old out.new }
-    ensures room_stays { let call = create_port (option_copied name.entry) in
+    ensures room_stays { let named = option_copied name.entry in
+        let call = create_port named (option_copied dacl.entry) in
         IsErr (service world.old.rows by call) → world.new.room ≡ world.old.room }
-    ensures unasked { let call = create_port (option_copied name.entry) in
+    ensures unasked { let named = option_copied name.entry in
+        let call = create_port named (option_copied dacl.entry) in
         IsErr (service world.old.rows by call) → world.new.capacity ≡ world.old.capacity }
     ensures spare { OnOk result (out.old.spare ≤ out.new.spare + 2) }
     ensures wanting { let named = option_copied name.entry in
@@ -174,6 +237,6 @@ pub fn nt_create_port(
     world.handles_reserve(caller.process, 1)?;
     world.names_reserve(usize::from(name.is_some()))?;
     world.begin_call();
-    create(world, &caller, name, out);
+    create_guarded(world, &caller, name, dacl, out);
     Ok(Outcome::Answered(SUCCESS))
 }

@@ -46,7 +46,7 @@ died-single code ts w single =
 -- What is told of them
 -- a thread as far as a port is told of it
 abbrev teller : Death → ThreadRow
-teller u = record { number = u.client.thread; process = u.client.process; birth = u.birth; live = false; next_identifier = 0; next_ordinal = 0; registrations = [] }
+teller u = record { number = u.client.thread; process = u.client.process; birth = u.birth; live = false; next_identifier = 0; next_ordinal = 0; registrations = []; own = None }
 
 entered-can : (m : MessageRow) (w : World) → not (is_closed_post m) ≡ true → CanCloseAll w → CanCloseAll (behind (enter m) w)
 entered-can m w other can =

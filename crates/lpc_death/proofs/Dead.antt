@@ -1,19 +1,19 @@
 -- Threads that end: what each leaves, and what is left of the live ones.
 use Rattle.std.proofs.Common.{◌≡◌, ◌∙◌, ℕ, ◌+◌, ◌≤◌, List, [], ◌∷◌, ◌++◌, Bool, true, false, cond, drop, length, Option, Some, None, option_and_then, option_map, not, refl, ap, sym, arith}
-use Rattle.std.specs.Prelude.{◌==◌}
+use Rattle.std.specs.Prelude.{◌==◌, is_some}
 use Rattle.std.proofs.lemmas.Bool.Decides.{nat_tests}
 use Rattle.std.proofs.lemmas.List.{append-nil}
-use Rattle.std.proofs.Math.Bool.{and-false}
+use Rattle.std.proofs.Math.Bool.{and-false, or-true}
 use Rattle.lpc_base.specs.declared.status.Status.{Status}
 use Rattle.lpc_base.specs.Rows.{change, count, every, first, has, which, without}
 use Rattle.lpc_base.proofs.RowMaps.{every-change_to}
 use Rattle.lpc_base.proofs.RowWords.{change-none, count-bound, first-passes, none-counted}
 use Rattle.lpc_model.specs.declared.entry.Entry.{Entry}
 use Rattle.lpc_model.specs.declared.entry.Entry.TheVariants.{Died}
-use Rattle.lpc_model.specs.Basics.{Basic, Cuts, Dies, Empties, Unbinds, Wakes, Withdraws, basic, cut, doing, ended, in_turn, is_end_of, world_after, ◌▹◌}
-use Rattle.lpc_model.specs.Close.{cut_pair}
-use Rattle.lpc_model.specs.Death.{cut_accepted, die, dying}
-use Rattle.lpc_model.specs.Found.{is_accepted, is_live_thread, is_thread, lives_in, live_threads, waits_as}
+use Rattle.lpc_model.specs.Basics.{Basic, Cuts, Dies, DropsOwned, Empties, Steps, Unbinds, Wakes, Withdraws, basic, cut, doing, ended, in_turn, is_end_of, world_after, ◌▹◌}
+use Rattle.lpc_model.specs.Close.{cut_pair, drop_owned}
+use Rattle.lpc_model.specs.Death.{die, dying, end_client}
+use Rattle.lpc_model.specs.Found.{is_accepted, is_connect, is_live_thread, is_offered, wait_of, is_thread, lives_in, live_threads, waits_as}
 use Rattle.lpc_model.specs.Linked.{is_mutual}
 use Rattle.lpc_model.specs.Listed.{Listed}
 use Rattle.lpc_model.specs.World.{Birth, ThreadRow, WaitRow, World}
@@ -30,7 +30,9 @@ use Rattle.lpc_rows.specs.Registered.{accepted_port_in}
 use Rattle.lpc_steps.proofs.Composed.{left-then, left_further}
 use Rattle.lpc_rows.proofs.Dying.{fewer-alive}
 use Rattle.lpc_steps.proofs.Endings.{pairs-kept, which-none}
-use Rattle.lpc_death.specs.Dying.{dying_all, ending_entries}
+use Rattle.lpc_rows.specs.Ready.{waiter}
+use Rattle.lpc_rows.proofs.Finished.{found-waiter}
+use Rattle.lpc_death.specs.Dying.{dying_all, ending_entries, offered_port, offered_port_in}
 use Rattle.lpc_model.specs.Lawful.{HasThreadsOnce}
 
 -- A thread that ends
@@ -41,36 +43,72 @@ pub took-end : (tid : ℕ) (code : Status) (old new : Kept) (before after : List
     → after.list ≡ before.list ++ Died tid code ∷ [] → Took (Dies tid code ∷ Withdraws tid ∷ []) old new before after
 took-end tid code old new before after rows loose list = rw (rows, loose, list) refl
 
--- the client port of its accepted connect is cut off, where it has one
-accepted-cut : (o : Option WaitRow) (b : Birth) (v : World) → option_and_then accepted_port_in o ≡ Some b → cut_accepted o v ≡ cut_pair b v
-accepted-cut None b v some = absurd (cc)
-accepted-cut (Some x) b v some = at (is_accepted x) refl
+-- the client port of its accepted connect is cut off, and the views that it owns go
+accepted-ends : (o : Option WaitRow) (b : Birth) (v : World) → option_and_then accepted_port_in o ≡ Some b → end_client o v ≡ (cut_pair b ▹ drop_owned b) v
+accepted-ends None b v some = absurd (cc)
+accepted-ends (Some x) b v some = at (is_accepted x) refl
   where
-    at : (c : Bool) → is_accepted x ≡ c → cut_accepted (Some x) v ≡ cut_pair b v
-    at true is = let same : x.port ≡ b = let one : Some x.port ≡ Some b = rw is at some in cc in rw (is, same) refl
+    at : (c : Bool) → is_accepted x ≡ c → end_client (Some x) v ≡ (cut_pair b ▹ drop_owned b) v
+    at true is =
+        let same : x.port ≡ b = let one : Some x.port ≡ Some b = rw is at some in cc in
+        let connect : is_connect x ≡ true = rw (is, or-true (is_offered x)) refl in
+        rw (is, or-true (is_offered x), same) refl
     at false off = let never : None ≡ Some b = rw off at some in absurd (cc)
 
-unaccepted : (o : Option WaitRow) (v : World) → option_and_then accepted_port_in o ≡ None → cut_accepted o v ≡ []
-unaccepted None v none = refl
-unaccepted (Some x) v none = at (is_accepted x) refl
+-- those of another connect go alone
+offered-ends : (o : Option WaitRow) (b : Birth) (v : World) → option_and_then accepted_port_in o ≡ None → option_and_then offered_port_in o ≡ Some b → end_client o v ≡ drop_owned b v
+offered-ends None b v none some = absurd (cc)
+offered-ends (Some x) b v none some = at (is_accepted x) (is_offered x) refl refl
   where
-    at : (c : Bool) → is_accepted x ≡ c → cut_accepted (Some x) v ≡ []
-    at true is = let never : Some x.port ≡ None = rw is at none in absurd (cc)
-    at false off = rw off refl
+    at : (c d : Bool) → is_accepted x ≡ c → is_offered x ≡ d → end_client (Some x) v ≡ drop_owned b v
+    at true d is offered = let never : Some x.port ≡ None = rw is at none in absurd (cc)
+    at false true off is = let same : x.port ≡ b = let one : Some x.port ≡ Some b = rw is at some in cc in rw (off, is, same) refl
+    at false false off other = let never : None ≡ Some b = rw other at some in absurd (cc)
 
-pub took-cut : (o : Option WaitRow) (b : Birth) (mid new : Kept) (between after : Listed) → option_and_then accepted_port_in o ≡ Some b → Took (cut_pair b mid.rows) mid new between after → Took (cut_accepted o mid.rows) mid new between after
-took-cut o b mid new between after some took = took ∙ ap (λ (bs : List Basic). left_by mid.rows between.list mid.loose bs) (sym (accepted-cut o b mid.rows some))
+nothing-ends : (o : Option WaitRow) (v : World) → option_and_then accepted_port_in o ≡ None → option_and_then offered_port_in o ≡ None → end_client o v ≡ []
+nothing-ends None v none other = refl
+nothing-ends (Some x) v none other = at (is_accepted x) (is_offered x) refl refl
+  where
+    at : (c d : Bool) → is_accepted x ≡ c → is_offered x ≡ d → end_client (Some x) v ≡ []
+    at true d is offered = let never : Some x.port ≡ None = rw is at none in absurd (cc)
+    at false true off is = let never : Some x.port ≡ None = rw is at other in absurd (cc)
+    at false false off is = rw (off, is) refl
 
-pub took-uncut : (o : Option WaitRow) (tid : ℕ) (code : Status) (old new : Kept) (before after : Listed) → option_and_then accepted_port_in o ≡ None → Took (Dies tid code ∷ Withdraws tid ∷ []) old new before after
-    → Took ((doing (Dies tid code ∷ Withdraws tid ∷ []) ▹ cut_accepted o) old.rows) old new before after
-took-uncut o tid code old new before after none took =
+-- what follows its end, where that is what ends with its client port
+pub took-rest : (o : Option WaitRow) (rest : Steps) (mid new : Kept) (between after : Listed) → end_client o mid.rows ≡ rest mid.rows → Took (rest mid.rows) mid new between after → Took (end_client o mid.rows) mid new between after
+took-rest o rest mid new between after same took = took ∙ ap (λ (bs : List Basic). left_by mid.rows between.list mid.loose bs) (sym same)
+
+pub took-accepted : (o : Option WaitRow) (b : Birth) (mid new : Kept) (between after : Listed) → option_and_then accepted_port_in o ≡ Some b → Took ((cut_pair b ▹ drop_owned b) mid.rows) mid new between after → Took (end_client o mid.rows) mid new between after
+took-accepted o b mid new between after some took = took-rest o (cut_pair b ▹ drop_owned b) mid new between after (accepted-ends o b mid.rows some) took
+
+pub took-offered : (o : Option WaitRow) (b : Birth) (mid new : Kept) (between after : Listed) → option_and_then accepted_port_in o ≡ None → option_and_then offered_port_in o ≡ Some b → Took (drop_owned b mid.rows) mid new between after
+    → Took (end_client o mid.rows) mid new between after
+took-offered o b mid new between after none some took = took-rest o (drop_owned b) mid new between after (offered-ends o b mid.rows none some) took
+
+pub took-alone : (o : Option WaitRow) (tid : ℕ) (code : Status) (old new : Kept) (before after : Listed) → option_and_then accepted_port_in o ≡ None → option_and_then offered_port_in o ≡ None → Took (Dies tid code ∷ Withdraws tid ∷ []) old new before after
+    → Took ((doing (Dies tid code ∷ Withdraws tid ∷ []) ▹ end_client o) old.rows) old new before after
+took-alone o tid code old new before after none other took =
     let first = Dies tid code ∷ Withdraws tid ∷ [] in
-    took ∙ ap (λ (bs : List Basic). left_by old.rows before.list old.loose (first ++ bs)) (sym (unaccepted o (world_after old.rows first) none))
+    took ∙ ap (λ (bs : List Basic). left_by old.rows before.list old.loose (first ++ bs)) (sym (nothing-ends o (world_after old.rows first) none other))
+
+-- the client port of a connect that isn't accepted is that of the thread's wait
+pub none-offered : (w : World) (tid : ℕ) → has (waits_as tid) w.waits ≡ false → offered_port w tid ≡ None
+none-offered w tid none = ap (option_and_then offered_port_in) (nothing (wait_of w tid) none)
+  where
+    nothing : (o : Option WaitRow) → is_some o ≡ false → o ≡ None
+    nothing None none = refl
+    nothing (Some x) none = absurd (cc)
+
+pub not-offered : (w : World) (tid : ℕ) → has (waits_as tid) w.waits ≡ true → is_offered (waiter w tid) ≡ false → offered_port w tid ≡ None
+not-offered w tid there off = ap (option_and_then offered_port_in) (found-waiter w tid there) ∙ ap (λ c. cond c (Some (let x = waiter w tid in x.port)) None) off
+
+pub its-offered : (w : World) (tid : ℕ) → has (waits_as tid) w.waits ≡ true → is_offered (waiter w tid) ≡ true → offered_port w tid ≡ Some (let x = waiter w tid in x.port)
+its-offered w tid there is = ap (option_and_then offered_port_in) (found-waiter w tid there) ∙ ap (λ c. cond c (Some (let x = waiter w tid in x.port)) None) is
 
 -- Threads behind it
 -- whatever else stands in the row of the number
 numbered : ℕ → ThreadRow
-numbered tid = record { number = tid; process = 0; birth = record { maker = 0; ordinal = 0; process = 0 }; live = true; next_identifier = 0; next_ordinal = 0; registrations = [] }
+numbered tid = record { number = tid; process = 0; birth = record { maker = 0; ordinal = 0; process = 0 }; live = true; next_identifier = 0; next_ordinal = 0; registrations = []; own = None }
 
 pub dead-threads : (code : Status) (tid : ℕ) (w : World) → (behind (dying code tid) w).threads ≡ change (is_thread tid) ended w.threads
 unfolding numbered
@@ -105,6 +143,7 @@ keeps_pairs (Withdraws who) = true
 keeps_pairs (Empties q) = true
 keeps_pairs (Unbinds b) = true
 keeps_pairs (Cuts b) = true
+keeps_pairs (DropsOwned b) = true
 keeps_pairs b = false
 
 away-pairs : (x : Basic) → takes_away x ≡ true → keeps_pairs x ≡ true
@@ -112,6 +151,7 @@ away-pairs (Wakes who call status fields) is = refl
 away-pairs (Withdraws who) is = refl
 away-pairs (Empties q) is = refl
 away-pairs (Unbinds b) is = refl
+away-pairs (DropsOwned b) is = refl
 away-pairs x is = absurd (cc)
 
 pairs-step : (w : World) (x : Basic) → keeps_pairs x ≡ true → HasMutualPairs w → HasMutualPairs (basic w x)
@@ -121,6 +161,7 @@ pairs-step w (Withdraws who) is all = pairs-kept w (basic w (Withdraws who)) ref
 pairs-step w (Empties q) is all = pairs-kept w (basic w (Empties q)) refl all
 pairs-step w (Unbinds b) is all = pairs-kept w (basic w (Unbinds b)) refl all
 pairs-step w (Cuts b) is all = cut-pairs w b all
+pairs-step w (DropsOwned b) is all = pairs-kept w (basic w (DropsOwned b)) refl all
 pairs-step w x is all = absurd (cc)
 
 pairs-all : (w : World) (bs : List Basic) → every keeps_pairs bs ≡ true → HasMutualPairs w → HasMutualPairs (world_after w bs)

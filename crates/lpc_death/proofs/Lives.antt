@@ -2,7 +2,7 @@
 use Rattle.std.proofs.Common.{◌≡◌, ℕ, ◌≤◌, List, [], ◌∷◌, true, Option, Some, None, refl, ap, subst, sym, arith}
 use Rattle.lpc_base.specs.Rows.{count, every, given}
 use Rattle.lpc_base.proofs.RowWords.{every-append}
-use Rattle.lpc_model.specs.Basics.{Accepts, AddsHandle, AddsProcess, AddsThread, Awaits, Basic, Binds, Completes, Dies, DrawsIdentifier, DrawsOrdinal, Frees, Joins, Makes, Registers, Unregisters, basic, in_turn, unregistering, world_after}
+use Rattle.lpc_model.specs.Basics.{Accepts, Acts, AddsHandle, AddsProcess, AddsThread, Awaits, Basic, Binds, Completes, Dies, DrawsIdentifier, DrawsOrdinal, Frees, Joins, Makes, Registers, Unregisters, basic, in_turn, unregistering, world_after}
 use Rattle.lpc_model.specs.Close.{close_handle}
 use Rattle.lpc_model.specs.Death.{end_process}
 use Rattle.lpc_model.specs.Entering.{enter}
@@ -34,6 +34,7 @@ step-lives w (Completes b) is = absurd (cc)
 step-lives w (Frees o) is = absurd (cc)
 step-lives w (Binds path node) is = absurd (cc)
 step-lives w (AddsHandle pid h) is = absurd (cc)
+step-lives w (Acts who own) is = absurd (cc)
 step-lives w b is = omega arith
 
 steps-lives : (w : World) (bs : List Basic) → AreEnding bs → count is_alive (world_after w bs).threads ≤ count is_alive w.threads

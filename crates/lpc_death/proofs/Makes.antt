@@ -6,10 +6,10 @@ use Rattle.lpc_base.specs.Rows.{change, count, first, has, which}
 use Rattle.lpc_base.proofs.RowWords.{first-behind, has-change}
 use Rattle.lpc_model.specs.Basics.{AddsHandle, AddsProcess, AddsThread, DrawsOrdinal, basic, no_handles, past_ordinal, put_handle, with_handle}
 use Rattle.lpc_model.specs.Creation.{create_process_steps, gives_life, making_process, new_process, new_thread, second_birth, second_handle}
-use Rattle.lpc_model.specs.Found.{free_handle, handles_of, is_table, is_thread, process_name, rows_in, thread_name}
+use Rattle.lpc_model.specs.Found.{free_handle, handles_of, is_table, is_thread, process_name, rows_in, thread_name, token_of}
 use Rattle.lpc_model.specs.Targets.{LIFE_ACCESS}
 use Rattle.lpc_model.specs.Tests.{handle_load, handle_row, is_connect_of, next_birth}
-use Rattle.lpc_model.specs.World.{Birth, HandleRow, HandleTable, ObjectName, ThreadRow, World}
+use Rattle.lpc_model.specs.World.{Birth, HandleRow, HandleTable, ObjectName, ThreadRow, Token, World}
 use Rattle.lpc_model.proofs.Steps.Rows.{first-change}
 use Rattle.lpc_model.proofs.Calls.Creating.{rows-behind}
 use Rattle.lpc_rows.specs.Clauses.{birth_next, thread_row}
@@ -105,23 +105,23 @@ pub free-same : (w : World) (pid n : ℕ) → has (is_table pid) w.handles ≡ t
 free-same w pid n home = rw (first-behind (is_table pid) w.handles (no_handles n ∷ []) home) refl
 
 -- the world in which the caller has what it made, and no handle to it yet
-abbrev pub booted_by : World → ThreadRow → ℕ → ℕ → World
-booted_by w by pid tid =
-    basic (basic (basic (basic w (DrawsOrdinal by.number)) (DrawsOrdinal by.number)) (AddsProcess (new_process pid (Some by.process) (next_birth by)))) (AddsThread (new_thread tid pid (second_birth by)))
+abbrev pub booted_by : World → ThreadRow → Token → ℕ → ℕ → World
+booted_by w by token pid tid =
+    basic (basic (basic (basic w (DrawsOrdinal by.number)) (DrawsOrdinal by.number)) (AddsProcess (new_process pid (Some by.process) (next_birth by) token))) (AddsThread (new_thread tid pid (second_birth by)))
 
 -- the least free handles, one after the other, are those of the definition
-pub two-handles : (w : World) (by : ThreadRow) (pid tid value second : ℕ) → has (is_table by.process) w.handles ≡ true → value ≡ free_handle (booted_by w by pid tid) by.process
-    → second ≡ free_handle (basic (booted_by w by pid tid) (gives_life by value (process_name (next_birth by)))) by.process
+pub two-handles : (w : World) (by : ThreadRow) (token : Token) (pid tid value second : ℕ) → has (is_table by.process) w.handles ≡ true → value ≡ free_handle (booted_by w by token pid tid) by.process
+    → second ≡ free_handle (basic (booted_by w by token pid tid) (gives_life by value (process_name (next_birth by)))) by.process
     → (value ≡ free_handle w by.process) × (second ≡ second_handle w by)
-two-handles w by pid tid value second home first_is second_is =
+two-handles w by token pid tid value second home first_is second_is =
     let one : value ≡ free_handle w by.process = first_is ∙ free-same w by.process pid home in
     let h = handle_row (free_handle w by.process) (process_name (next_birth by)) LIFE_ACCESS in
-    let two : free_handle (basic (booted_by w by pid tid) (gives_life by (free_handle w by.process) (process_name (next_birth by)))) by.process ≡ second_handle w by = rw (rows-behind w.handles by.process pid h home) refl in
-    (one, second_is ∙ (ap (λ n. free_handle (basic (booted_by w by pid tid) (gives_life by n (process_name (next_birth by)))) by.process) one ∙ two))
+    let two : free_handle (basic (booted_by w by token pid tid) (gives_life by (free_handle w by.process) (process_name (next_birth by)))) by.process ≡ second_handle w by = rw (rows-behind w.handles by.process pid h home) refl in
+    (one, second_is ∙ (ap (λ n. free_handle (basic (booted_by w by token pid tid) (gives_life by n (process_name (next_birth by)))) by.process) one ∙ two))
 
-pub alike : (w : World) (by : ThreadRow) (who maker pid tid : ℕ) (one two : Birth) → by.number ≡ who → maker ≡ by.process → one ≡ next_birth by → two ≡ second_birth by
-    → basic (basic (basic (basic w (DrawsOrdinal who)) (DrawsOrdinal who)) (AddsProcess (new_process pid (Some maker) one))) (AddsThread (new_thread tid pid two)) ≡ booted_by w by pid tid
-alike w by who maker pid tid one two own process first second = rw (← own, process, first, second) refl
+pub alike : (w : World) (by : ThreadRow) (token copied : Token) (who maker pid tid : ℕ) (one two : Birth) → by.number ≡ who → maker ≡ by.process → one ≡ next_birth by → two ≡ second_birth by → copied ≡ token
+    → basic (basic (basic (basic w (DrawsOrdinal who)) (DrawsOrdinal who)) (AddsProcess (new_process pid (Some maker) one copied))) (AddsThread (new_thread tid pid two)) ≡ booted_by w by token pid tid
+alike w by token copied who maker pid tid one two own process first second same = rw (← own, process, first, second, same) refl
 
 pub given-alike : (v base : World) (by : ThreadRow) (maker value : ℕ) (name : Birth → ObjectName) (b c : Birth) → v ≡ base → maker ≡ by.process → b ≡ c
     → basic v (AddsHandle maker (handle_row value (name b) LIFE_ACCESS)) ≡ basic base (gives_life by value (name c))
@@ -130,12 +130,12 @@ given-alike v base by maker value name b c same process birth = rw (same, proces
 -- the call that makes a process was served
 pub served-made : (who pid tid value second : ℕ) (by : ThreadRow) (old new : Kept) (before after : Listed) → caller old.rows who ≡ by → service old.rows who (create_process pid tid) ≡ Ok (making_process old.rows (caller old.rows who) pid tid)
     → value ≡ free_handle old.rows by.process → second ≡ second_handle old.rows by
-    → new.rows ≡ basic (basic (booted_by old.rows by pid tid) (gives_life by value (process_name (next_birth by)))) (gives_life by second (thread_name (second_birth by)))
+    → new.rows ≡ basic (basic (booted_by old.rows by (token_of old.rows by.process) pid tid) (gives_life by value (process_name (next_birth by)))) (gives_life by second (thread_name (second_birth by)))
     → after.list ≡ before.list ++ Answer by.number NtCreateProcess SUCCESS (h value ∷ first_thread second ∷ []) ∷ [] → new.loose ≡ old.loose → new.calls ≡ old.calls + 1
     → Served who (create_process pid tid) (Answered SUCCESS) old new before after
 served-made who pid tid value second by old new before after mine found one two rows told loose calls =
-    let found' : service old.rows who (create_process pid tid) ≡ Ok (create_process_steps by pid tid value second) = found ∙ rw (mine, one, two) refl in
-    let steps : called old.rows who (create_process pid tid) ≡ create_process_steps by pid tid value second = ap (settled (caller old.rows who) NtCreateProcess) found' in
+    let found' : service old.rows who (create_process pid tid) ≡ Ok (create_process_steps by (token_of old.rows by.process) pid tid value second) = found ∙ rw (mine, one, two) refl in
+    let steps : called old.rows who (create_process pid tid) ≡ create_process_steps by (token_of old.rows by.process) pid tid value second = ap (settled (caller old.rows who) NtCreateProcess) found' in
     record {
       takes = rw (steps, rows, told, loose) refl;
       outcome = rw steps refl;

@@ -7,7 +7,7 @@ use Rattle.lpc_base.proofs.RowWords.{every-append}
 use Rattle.lpc_base.proofs.Bools.{second-true}
 use Rattle.lpc_model.specs.declared.entry.Outcome.TheVariants as outcome
 use Rattle.lpc_model.specs.World.{Birth, HandleRow, MessageRow, PortRow, ThreadRow, WaitRow, World}
-use Rattle.lpc_model.specs.Basics.{Basic, DropsHandle, Empties, Receives, Tells, Unbinds, Unregisters, Wakes, Withdraws, basic, in_turn, outcome_of}
+use Rattle.lpc_model.specs.Basics.{Basic, DropsHandle, DropsOwned, Empties, Receives, Tells, Unbinds, Unregisters, Wakes, Withdraws, basic, in_turn, outcome_of}
 use Rattle.lpc_model.specs.Close.{close_handle, close_port, is_last, post_closed, closing_post}
 use Rattle.lpc_model.specs.Death.{die, end_process, end_threads, post_death, post_deaths, death_post}
 use Rattle.lpc_model.specs.Entering.{enter, given_steps, received_steps, shown, takes, woken}
@@ -35,6 +35,7 @@ mute-away (Wakes who call status fields) is = refl
 mute-away (Withdraws who) is = refl
 mute-away (Empties q) is = refl
 mute-away (Unbinds b) is = refl
+mute-away (DropsOwned b) is = refl
 mute-away x is = absurd (cc)
 
 -- a message enters
@@ -51,7 +52,7 @@ mute-given m x =
     (λ x r. every-append is_mute (received_steps m) _ (mute-receipt m) refl)
     (λ x. every-append is_mute (received_steps m) _ (mute-receipt m) refl)
     (λ x. every-append is_mute (received_steps m) _ (mute-receipt m) refl)
-    (λ x r. every-append is_mute (received_steps m) _ (mute-receipt m) refl)
+    (λ x r offer. every-append is_mute (received_steps m) _ (mute-receipt m) refl)
     (λ x r reply. every-append is_mute (received_steps m) _ (mute-receipt m) refl) x
 
 mute-enter : (m : MessageRow) (w : World) → AreMute (enter m w)

@@ -71,7 +71,7 @@ entered-threads m w = at (first (takes m) w.waits)
         by_kind (λ x. (world_after (basic w (Enters m)) (given_steps x m ++ woken SUCCESS (shown x m) x ∷ [])).threads ≡ w.threads)
         (λ x r. received (asks m.message) took (record x { kind = Request r }) refl) (λ x. received (asks m.message) took (record x { kind = Receive }) refl)
         (λ x. received (asks m.message) (basic (basic w (Enters m)) (TakesConnect m.queue)) (record x { kind = Listen }) refl)
-        (λ x r. received (asks m.message) took (record x { kind = Connect r }) refl) (λ x r reply. received (asks m.message) took (record x { kind = Accepted r reply }) refl) x
+        (λ x r offer. received (asks m.message) took (record x { kind = Connect r offer }) refl) (λ x r reply. received (asks m.message) took (record x { kind = Accepted r reply }) refl) x
 
     at : (o : Option WaitRow) → (world_after w (Enters m ∷ given o (λ x. given_steps x m ++ woken SUCCESS (shown x m) x ∷ []))).threads ≡ w.threads
     at None = refl

@@ -48,8 +48,8 @@ fn process_test(world: &World, by: u32, pid: u32, tid: u32) -> Result<(), Status
     handles_test(world, maker, 2)
 }
 
-/// `NtCreateProcess`: the caller makes a process and then its first thread, and its process gets a handle to each, in
-/// this order.
+/// `NtCreateProcess`: the caller makes a process, which gets a copy of the token of the caller's process, and then its
+/// first thread, and the caller's process gets a handle to each, in this order.
 ///
 /// Refusals, in this order: OBJECT_NAME_COLLISION where a number was ever used; QUOTA_EXCEEDED where the caller's
 /// process has 64 live children; QUOTA_EXCEEDED where two more handles, with those that its waiting connects are to
@@ -97,13 +97,14 @@ pub fn nt_create_process(
         world.begin_call();
         return Ok(refuse(caller.number, CallName::NtCreateProcess, status, out));
     }
+    let token = world.process_token(caller.process).copy();
     thread_reserve(world)?;
     world.procs_reserve(1, 1)?;
     world.handles_reserve(caller.process, 2)?;
     world.begin_call();
     let process = world.procs_draw_birth(by);
     let thread = world.procs_draw_birth(by);
-    world.procs_add_process(pid, Some(caller.process), process);
+    world.procs_add_process(pid, Some(caller.process), process, &token);
     world.procs_add_thread(tid, pid, thread);
     let value = give_handle(world, caller.process, Object::Process(process), LIFE_ACCESS);
     let second = give_handle(world, caller.process, Object::Thread(thread), LIFE_ACCESS);

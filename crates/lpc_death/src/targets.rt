@@ -37,7 +37,9 @@ pub(crate) fn process_target(world: &World, by: u32, target: ProcArg) -> Result<
     };
     match object_at(world, by, handle, ObjectKind::Process, LIFE_RIGHT)? {
         Object::Process(birth) => world.process_born(birth).ok_or(INVALID_HANDLE),
-        Object::Port(_) | Object::Thread(_) | Object::Section(_) => unreachable!(),
+        Object::Port(_) | Object::Thread(_) | Object::Section(_) | Object::Token(_) => {
+            unreachable!()
+        },
     }
 }
 
@@ -66,7 +68,9 @@ fn named_thread(world: &World, by: u32, handle: u32) -> Result<BornThread, Statu
 {
     match object_at(world, by, handle, ObjectKind::Thread, LIFE_RIGHT)? {
         Object::Thread(birth) => world.thread_born(birth).ok_or(INVALID_HANDLE),
-        Object::Port(_) | Object::Process(_) | Object::Section(_) => unreachable!(),
+        Object::Port(_) | Object::Process(_) | Object::Section(_) | Object::Token(_) => {
+            unreachable!()
+        },
     }
 }
 

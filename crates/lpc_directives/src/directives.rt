@@ -1,17 +1,22 @@
-// The directives that make processes, threads, directories and links: refusals in their order, else the steps.
-ghost use Rattle.std.specs.Prelude.{◌≡◌, ◌<◌, ◌≤◌, OnErr, true, IsErr};
+// The directives that make processes, threads, directories and links, and give tokens names: refusals in their order,
+// else the steps.
+ghost use Rattle.std.specs.Prelude.{◌≡◌, ◌<◌, ◌≤◌, Err, false, IsErr, length, MatchResult, Ok, OnErr, OnOk, option_copied, true};
+ghost use Rattle.lpc_model.specs.Found.{was_process, was_thread};
 ghost use Rattle.lpc_model.specs.Machine as model;
-ghost use Rattle.lpc_model.specs.Machine.{boot_line, dir_line, link_line, thread_line};
+ghost use Rattle.lpc_model.specs.Machine.{boot_line, dir_line, link_line, thread_line, token_line};
 ghost use Rattle.lpc_rows.specs.Bound.{status_of_binding};
 ghost use Rattle.lpc_procs.specs.Procs.{IsNumber};
 ghost use Rattle.lpc_rows.specs.Does.{Directs};
 ghost use Rattle.lpc_rows.specs.Capacity.{KeepsPlaces, but_names};
 ghost use Rattle.lpc_rows.specs.Kept.{grown_messages, grown_processes, grown_threads, grown_waits, lacks_name_room, lacks_process_room, lacks_thread_room};
+ghost use Rattle.lpc_directives.specs.Room.{lacks_token_name_room};
 ghost use Rattle.lpc_base.specs.declared.limits.TheConstants.{LINES_LIMIT};
+ghost use Rattle.lpc_tokens.specs.declared.names.TheConstants.{TOKEN_NAME_LIMIT};
 
-use lpc_base::status::{OBJECT_NAME_COLLISION, SUCCESS};
+use lpc_base::status::{OBJECT_NAME_COLLISION, OBJECT_NAME_NOT_FOUND, SUCCESS};
 use lpc_base::{Birth, OutOfMemory, Status};
 use lpc_names::{BindFault, status_of};
+use lpc_sid::Token;
 use lpc_steps::{thread_reserve, thread_test};
 use lpc_world::World;
 
@@ -37,20 +42,57 @@ fn bound_status(bound: Result<(), BindFault>) -> Result<Status, OutOfMemory>
     }
 }
 
-/// `boot`: makes a process without a maker, and its first thread.
-///
-/// Refusal: OBJECT_NAME_COLLISION where the number was ever used for a process, or the other for a thread. It wants for
-/// memory only where there is no room for a process with a thread; then nothing has changed but the room.
+/// The token that a `boot` names, and where it names none the local system's: OBJECT_NAME_NOT_FOUND where no token has
+/// the name.
+fn boot_token(world: &World, name: Option<&[u8]>) -> Result<Token, Status>
+    ensures { result ≡ model.boot_token world.now.rows (option_copied name.entry) }
+{
+    let Some(name) = name else {
+        return Ok(Token::system());
+    };
+    match world.named_token(name) {
+        Some(token) => Ok(token.copy()),
+        None => Err(OBJECT_NAME_NOT_FOUND),
+    }
+}
+
+/// The token of a process that a `boot` makes, or why it makes none.
 #[tactic(auto, unfolding(lpc_model::specs::Machine::boot_line))]
-pub fn boot(world: &mut World, pid: u32, tid: u32) -> Result<Status, OutOfMemory>
+fn boot_test(world: &World, pid: u32, tid: u32, token: Option<&[u8]>) -> Result<Token, Status>
+    ensures line { let line = boot_line world.now.rows pid tid (option_copied token.entry) in
+        MatchResult result (λ content. line ≡ Ok (model.boot_steps pid tid content))
+        (λ s. line ≡ Err s) }
+    ensures process { OnOk result (was_process world.now.rows pid ≡ false) }
+    ensures thread { OnOk result (was_thread world.now.rows tid ≡ false) }
+{
+    let content = boot_token(world, token)?;
+    if world.was_process(pid) || world.was_thread(tid) {
+        return Err(OBJECT_NAME_COLLISION);
+    }
+    Ok(content)
+}
+
+/// `boot`: makes a process without a maker, and its first thread. The process has the token of a name, and where none is
+/// given that of the local system.
+///
+/// Refusals, in this order: OBJECT_NAME_NOT_FOUND where no token has the name that is given; OBJECT_NAME_COLLISION where
+/// the number was ever used for a process, or the other for a thread. It wants for memory only where there is no room for
+/// a process with a thread; then nothing has changed but the room.
+pub fn boot(
+    world: &mut World,
+    pid: u32,
+    tid: u32,
+    token: Option<&[u8]>,
+) -> Result<Status, OutOfMemory>
     requires calls { world.old.calls < LINES_LIMIT }
     requires process { IsNumber pid }
     requires thread { IsNumber tid }
-    ensures directs { Directs result (boot_line world.old.rows pid tid) world.old world.new }
-    ensures room_stays { IsErr (boot_line world.old.rows pid tid) →
-        world.new.room ≡ world.old.room }
-    ensures unasked { IsErr (boot_line world.old.rows pid tid) →
-        world.new.capacity ≡ world.old.capacity }
+    ensures directs { let line = boot_line world.old.rows pid tid (option_copied token.entry) in
+        Directs result line world.old world.new }
+    ensures room_stays { let line = boot_line world.old.rows pid tid (option_copied token.entry) in
+        IsErr line → world.new.room ≡ world.old.room }
+    ensures unasked { let line = boot_line world.old.rows pid tid (option_copied token.entry) in
+        IsErr line → world.new.capacity ≡ world.old.capacity }
     ensures wanting { OnErr result (lacks_process_room world.old ≡ true) }
     ensures ports { let new = world.new.capacity in
         let old = world.old.capacity in new.ports ≡ old.ports }
@@ -65,15 +107,46 @@ pub fn boot(world: &mut World, pid: u32, tid: u32) -> Result<Status, OutOfMemory
     ensures asked_messages { let new = world.new.capacity in
         new.messages ≤ grown_messages world.old 1 }
 {
-    if world.was_process(pid) || world.was_thread(tid) {
-        world.begin_call();
-        return Ok(OBJECT_NAME_COLLISION);
-    }
+    let content = match boot_test(world, pid, tid, token) {
+        Ok(content) => content,
+        Err(status) => {
+            world.begin_call();
+            return Ok(status);
+        }
+    };
     thread_reserve(world)?;
     world.procs_reserve(1, 1)?;
     world.begin_call();
-    world.procs_add_process(pid, None, directive_birth(pid, pid));
+    world.procs_add_process(pid, None, directive_birth(pid, pid), &content);
     world.procs_add_thread(tid, pid, directive_birth(tid, pid));
+    Ok(SUCCESS)
+}
+
+/// `token`: gives a token a name, of at most 32 bytes, by which `boot` finds it from then on.
+///
+/// Refusal: OBJECT_NAME_COLLISION where a token has the name. It wants for memory only where there is no room for the
+/// name of a token; then nothing has changed but the room.
+#[tactic(auto, unfolding(lpc_model::specs::Machine::token_line))]
+pub fn token(world: &mut World, name: &[u8], content: &Token) -> Result<Status, OutOfMemory>
+    requires calls { world.old.calls < LINES_LIMIT }
+    requires short { length name.now ≤ TOKEN_NAME_LIMIT }
+    ensures directs { let line = token_line world.old.rows name.now content.now in
+        Directs result line world.old world.new }
+    ensures room_stays { IsErr (token_line world.old.rows name.now content.now) →
+        world.new.room ≡ world.old.room }
+    ensures unasked { IsErr (token_line world.old.rows name.now content.now) →
+        world.new.capacity ≡ world.old.capacity }
+    ensures wanting { OnErr result (lacks_token_name_room world.old ≡ true) }
+    ensures births { world.new.births ≡ world.old.births }
+    ensures capacity { world.new.capacity ≡ world.old.capacity }
+{
+    if world.named_token(name).is_some() {
+        world.begin_call();
+        return Ok(OBJECT_NAME_COLLISION);
+    }
+    world.token_names_reserve(1)?;
+    world.begin_call();
+    world.names_token(name, content.copy());
     Ok(SUCCESS)
 }
 

@@ -1,6 +1,6 @@
-//! The directives that make processes, threads, directories and links.
+//! The directives that make processes, threads, directories and links, and give tokens names.
 #![tactic(auto)]
 
 mod directives;
 
-pub use directives::{boot, directory, link, thread};
+pub use directives::{boot, directory, link, thread, token};

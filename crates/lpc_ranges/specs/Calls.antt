@@ -1,7 +1,6 @@
 -- What the calls on sections, views and memory find and do, and the room that they need.
 use Rattle.std.specs.Prelude.{◌≡◌, ℕ, Bool, List, [], ◌∷◌, ◌==◌, length, option_map, Some}
-use Rattle.lpc_base.specs.declared.status.Status.{Status}
-use Rattle.lpc_base.specs.declared.status.TheConstants.{INVALID_VIEW_SIZE, QUOTA_EXCEEDED, SECTION_PROTECTION, SUCCESS}
+use Rattle.lpc_base.specs.declared.status.TheConstants.{SUCCESS}
 use Rattle.lpc_model.specs.declared.entry.CallName.TheVariants.{NtReadVirtualMemory}
 use Rattle.lpc_model.specs.declared.entry.Entry.TheVariants.{Answer}
 use Rattle.lpc_model.specs.Basics.{Basic, Tells}
@@ -13,8 +12,6 @@ use Rattle.lpc_model.specs.World.{ThreadRow, World}
 use Rattle.lpc_procs.specs.declared.rows.Caller.{Caller}
 use Rattle.lpc_sections.specs.Sections.{SectionRow}
 use Rattle.lpc_slots.specs.declared.Key.{Key}
-use Rattle.lpc_views.specs.declared.view.MapFault.{MapFault}
-use Rattle.lpc_views.specs.declared.view.MapFault.TheVariants.{InvalidViewSize, Quota, SectionProtection}
 use Rattle.lpc_views.specs.declared.view.View.{View}
 use Rattle.lpc_rows.specs.Callers.{as_caller}
 use Rattle.lpc_rows.specs.Clauses.{thread_row, view_shown}
@@ -39,12 +36,6 @@ abbrev pub making : World → ThreadRow → ℕ → ℕ → List Basic
 making w by size prot = section_steps by size prot (free_handle w by.process)
 
 -- Views
--- why no view is mapped, as a status
-abbrev pub mapping_status : MapFault → Status
-mapping_status SectionProtection = SECTION_PROTECTION
-mapping_status InvalidViewSize = INVALID_VIEW_SIZE
-mapping_status Quota = QUOTA_EXCEEDED
-
 -- a thread's process maps a view
 abbrev pub mapping : Kept → ThreadRow → View Key → List Basic
 mapping w by view = map_steps by (view_shown w view)

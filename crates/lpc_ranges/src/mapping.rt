@@ -1,9 +1,9 @@
 // The calls that map a view of a section, and take one away.
-ghost use Rattle.std.specs.Prelude.{◌≡◌, ◌==◌, ◌%◌, ◌<◌, ◌+◌, ◌≤◌, Err, IfOk, IsErr, MatchResult, Ok, OnErr, OnOk, true};
+ghost use Rattle.std.specs.Prelude.{◌≡◌, ◌==◌, ◌%◌, ◌<◌, ◌+◌, ◌≤◌, Err, IfOk, IsErr, MatchResult, None, Ok, OnErr, OnOk, true};
 ghost use Rattle.lpc_base.specs.declared.limits.TheConstants.{LINES_LIMIT, PAGE_SIZE};
 ghost use Rattle.lpc_model.specs.Lines.{map_view_of_section, unmap_view_of_section};
 ghost use Rattle.lpc_model.specs.Memory as memory;
-ghost use Rattle.lpc_ranges.specs.Calls.{lacks_view_room, mapping, mapping_status};
+ghost use Rattle.lpc_ranges.specs.Calls.{lacks_view_room, mapping};
 ghost use Rattle.lpc_rows.specs.Called.{MayServe, Served, service};
 ghost use Rattle.lpc_rows.specs.Capacity.{KeepsOtherViewPlaces, view_places};
 ghost use Rattle.lpc_rows.specs.Clauses.{HasFewViews, MapsAs};
@@ -13,15 +13,12 @@ ghost use Rattle.lpc_rows.specs.Ready.{HasRoom, caller, is_ready};
 
 use crate::sections::{PAGE_READWRITE, protection_test};
 use lpc_base::limits::PAGE_SIZE;
-use lpc_base::status::{
-    INVALID_VIEW_SIZE, MAPPED_ALIGNMENT, NOT_MAPPED_VIEW, QUOTA_EXCEEDED, SECTION_PROTECTION,
-    SUCCESS,
-};
+use lpc_base::status::{MAPPED_ALIGNMENT, NOT_MAPPED_VIEW, SUCCESS};
 use lpc_base::{OutOfMemory, Status};
 use lpc_model::{CallName, Entries, Entry, Fields, Outcome, refuse, view_fields};
 use lpc_slots::Key;
-use lpc_steps::section_at;
-use lpc_views::{MapFault, View};
+use lpc_steps::{mapping_status, section_at};
+use lpc_views::View;
 use lpc_world::World;
 
 /// The right to a section that a view wants which may be written, and the one that another view wants.
@@ -37,17 +34,6 @@ fn mapping_right(protection: u32) -> u32
         SECTION_MAP_WRITE
     } else {
         SECTION_MAP_READ
-    }
-}
-
-/// Why no view is mapped, as a status.
-fn mapping_status(fault: MapFault) -> Status
-    ensures { result ≡ mapping_status fault }
-{
-    match fault {
-        MapFault::SectionProtection => SECTION_PROTECTION,
-        MapFault::InvalidViewSize => INVALID_VIEW_SIZE,
-        MapFault::Quota => QUOTA_EXCEEDED,
     }
 }
 
@@ -72,7 +58,7 @@ fn map_test(
     ensures aligned { OnOk result (offset % PAGE_SIZE ≡ 0) }
     ensures view { let by = caller world.now.rows tid in
         let writable = protection == memory.PAGE_READWRITE in
-        IfOk result (λ it. MapsAs world.now by.process it.0 offset size writable (Ok it.1)) }
+        IfOk result (λ it. MapsAs world.now by.process it.0 offset size writable None (Ok it.1)) }
 {
     let section = section_at(world, tid, handle, mapping_right(protection))?;
     if offset % PAGE_SIZE != 0 {
@@ -136,7 +122,7 @@ pub fn nt_map_view_of_section(
     world.views_reserve(caller.process, 1)?;
     world.begin_call();
     let writable = protection == PAGE_READWRITE;
-    match world.views_map(caller.process, section, offset, size, writable) {
+    match world.views_map(caller.process, section, offset, size, writable, None) {
         Ok(_) => {}
         Err(_) => unreachable!(),
     }

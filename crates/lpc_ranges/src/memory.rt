@@ -39,7 +39,7 @@ fn read_test(world: &World, tid: u32, address: u32, len: u32) -> Result<&[u8], S
     ensures few { IfOk result (λ bytes. length bytes.now ≤ MEMORY_LIMIT) }
 {
     transfer_test(len as usize)?;
-    match world.view_bytes(world.caller(tid).process, address, len) {
+    match world.memory(world.caller(tid).process, address, len) {
         Ok(bytes) => Ok(bytes),
         Err(_) => Err(ACCESS_VIOLATION),
     }

@@ -109,7 +109,7 @@ fn read_test<'a>(
 {
     let thread = asked_test(world, tid, handle, message)?;
     let range = range_test(world, thread, index, len as usize)?;
-    match world.view_bytes(world.waiting(thread).process, range.base, len) {
+    match world.memory(world.waiting(thread).process, range.base, len) {
         Ok(bytes) => Ok(bytes),
         Err(_) => Err(ACCESS_VIOLATION),
     }

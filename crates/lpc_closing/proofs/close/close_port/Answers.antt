@@ -1,6 +1,6 @@
 use Rattle.std.proofs.Common.{◌≡◌, [], ◌∷◌, ap, arith, refl, ◌∙◌}
-use Rattle.lpc_model.specs.Basics.{Steps, Unbinds, doing, ◌▹◌}
-use Rattle.lpc_model.specs.Close.{close_port, cut_pair, empty_queue, end_receives, end_requests, post_closed}
+use Rattle.lpc_model.specs.Basics.{DropsOwned, Steps, Unbinds, doing, ◌▹◌}
+use Rattle.lpc_model.specs.Close.{close_port, cut_pair, drop_owned, empty_queue, end_receives, end_requests, post_closed}
 use Rattle.lpc_model.proofs.Steps.Closing.{behind}
 use Rattle.lpc_steps.specs.Closing.{end_all}
 use Rattle.lpc_rows.specs.Does.{Left}
@@ -44,7 +44,7 @@ returns-clause-made c =
     let five = five-is w.rows c.names_unbind.new.self.rows c.end_all.new.world.rows c.end_all-2.new.world.rows c.empty_queue.new.world.rows c.cut_pair.new.world.rows b c.names_unbind.ensures.step.rows received requested emptied cut in
     let posts = rw (c.cut_pair.ensures.births ∙ four, five) at c.post_closed.ensures.made in
     let clients = five-clients w.rows b in
-    omega (arith, posts, clients, c.cut_pair.ensures.made, c.empty_queue.ensures.made, c.end_all-2.ensures.made, c.end_all.ensures.made, c.names_unbind.ensures.step.made)
+    omega (arith, posts, clients, c.views_drop_owned.ensures.step.made, c.cut_pair.ensures.made, c.empty_queue.ensures.made, c.end_all-2.ensures.made, c.end_all.ensures.made, c.names_unbind.ensures.step.made)
 
 pub returns-clause-takes : goal.returns-clause-takes
 unfolding close_port
@@ -55,7 +55,8 @@ returns-clause-takes c =
     let three = c.end_all-2.new.world in
     let four = c.empty_queue.new.world in
     let five = c.cut_pair.new.world in
-    let end = c.post_closed.new.world in
+    let six = c.post_closed.new.world in
+    let end = c.views_drop_owned.new.self in
     let out = c.args.out.now in
     let last = c.post_closed.new.out in
     let b = name_of w.births.ports c.args.port in
@@ -68,11 +69,16 @@ returns-clause-takes c =
     let emptied = rw (c.end_all-2.ensures.births, c.end_all.ensures.births, c.names_unbind.ensures.step.births) at c.empty_queue.ensures.takes in
     let cut = rw (c.empty_queue.ensures.births, c.end_all-2.ensures.births, c.end_all.ensures.births, c.names_unbind.ensures.step.births) at c.cut_pair.ensures.takes in
     let posted = rw (c.cut_pair.ensures.births, c.empty_queue.ensures.births, c.end_all-2.ensures.births, c.end_all.ensures.births, c.names_unbind.ensures.step.births) at c.post_closed.ensures.takes in
-    took-then names (receives ▹ (requests ▹ (empty_queue b ▹ (cut_pair b ▹ post_closed b)))) w one end out out last unbound
-    (took-then receives (requests ▹ (empty_queue b ▹ (cut_pair b ▹ post_closed b))) one two end out c.end_all.new.out last received
-    (took-then requests (empty_queue b ▹ (cut_pair b ▹ post_closed b)) two three end c.end_all.new.out c.end_all-2.new.out last requested
-    (took-then (empty_queue b) (cut_pair b ▹ post_closed b) three four end c.end_all-2.new.out c.empty_queue.new.out last emptied
-    (took-then (cut_pair b) (post_closed b) four five end c.empty_queue.new.out c.cut_pair.new.out last cut posted))))
+    let dropped =
+    took-one (DropsOwned b) six end last refl
+    (rw (c.post_closed.ensures.births, c.cut_pair.ensures.births, c.empty_queue.ensures.births, c.end_all-2.ensures.births, c.end_all.ensures.births, c.names_unbind.ensures.step.births) at c.views_drop_owned.ensures.step.rows)
+    c.views_drop_owned.ensures.loose in
+    took-then names (receives ▹ (requests ▹ (empty_queue b ▹ (cut_pair b ▹ (post_closed b ▹ drop_owned b))))) w one end out out last unbound
+    (took-then receives (requests ▹ (empty_queue b ▹ (cut_pair b ▹ (post_closed b ▹ drop_owned b)))) one two end out c.end_all.new.out last received
+    (took-then requests (empty_queue b ▹ (cut_pair b ▹ (post_closed b ▹ drop_owned b))) two three end c.end_all.new.out c.end_all-2.new.out last requested
+    (took-then (empty_queue b) (cut_pair b ▹ (post_closed b ▹ drop_owned b)) three four end c.end_all-2.new.out c.empty_queue.new.out last emptied
+    (took-then (cut_pair b) (post_closed b ▹ drop_owned b) four five end c.empty_queue.new.out c.cut_pair.new.out last cut
+    (took-then (post_closed b) (drop_owned b) five six end c.cut_pair.new.out last last posted dropped)))))
 
 pub returns-clause-handles : goal.returns-clause-handles
 returns-clause-handles c =

@@ -1,4 +1,5 @@
-use Rattle.std.proofs.Common.{refl}
+use Rattle.std.proofs.Common.{ap, refl, ◌∙◌}
+use Rattle.lpc_model.specs.Fields.{completion_fields}
 use Rattle.lpc_rows.specs.Names.{name_of}
 use Rattle.lpc_rows.specs.Callers.{shown_caller}
 use Rattle.lpc_connect.proofs.Completed.{completed}
@@ -12,4 +13,4 @@ returns-clause-takes c =
     c.ports_set_completed.ensures.step.rows c.ports_set_completed-2.ensures.step.rows
     (rw (c.ports_set_completed.ensures.step.births) refl) (rw (c.ports_set_completed-2.ensures.step.births, c.ports_set_completed.ensures.step.births) refl)
     c.connects_finish-value.ensures.value c.connects_finish-value.ensures.rows
-    c.waiting_call-call.ensures.call c.requires.thread (rw (← c.reply_bytes-reply.ensures) c.completion_fields.ensures) (rw (← c.none.ensures) c.push.ensures.list) c.push-2.ensures.list c.connects_finish-value.ensures.loose
+    c.waiting_call-call.ensures.call c.requires.thread (c.completion_fields.ensures ∙ ap (completion_fields c.connects_finish-value.result) c.acceptance-accepted.ensures) (rw (← c.none.ensures) c.push.ensures.list) c.push-2.ensures.list c.connects_finish-value.ensures.loose

@@ -5,7 +5,7 @@ use Rattle.lpc_base.proofs.RowWords.{has-change, has-kept, has-push}
 use Rattle.lpc_base.proofs.Bools.{same-number}
 use Rattle.lpc_model.specs.Basics.{AddsProcess, AddsThread, DrawsOrdinal, basic, no_handles}
 use Rattle.lpc_model.specs.Creation.{new_process, new_thread, second_birth}
-use Rattle.lpc_model.specs.Found.{free_handle, is_process, is_table, is_thread, process_name, thread_name}
+use Rattle.lpc_model.specs.Found.{free_handle, is_process, is_table, is_thread, process_name, thread_name, token_of}
 use Rattle.lpc_model.specs.Tests.{handle_load, next_birth}
 use Rattle.lpc_model.specs.World.{World}
 use Rattle.lpc_rows.specs.Clauses.{thread_row, birth_next}
@@ -106,14 +106,17 @@ returns-clause-serves c =
     let two = next-birth w tid by c.procs_draw_birth-thread.result row (rw own (same-number tid)) (subst (λ v. birth_next v tid ≡ Some c.procs_draw_birth-thread.result) (c.procs_draw_birth-process.ensures.step.rows ∙ ap (λ v. basic v (DrawsOrdinal tid)) rows) c.procs_draw_birth-thread.ensures.birth) in
     let u1 = c.procs_draw_birth-process.ensures.step.rows ∙ ap (λ v. basic v (DrawsOrdinal tid)) rows in
     let u2 = c.procs_draw_birth-thread.ensures.step.rows ∙ ap (λ v. basic v (DrawsOrdinal tid)) u1 in
-    let u3 = c.procs_add_process.ensures.rows ∙ ap (λ v. basic v (AddsProcess (new_process c.args.pid (Some pid) c.procs_draw_birth-process.result))) u2 in
+    let token = token_of w by.process in
+    let copied = c.copy-token.result in
+    let same : copied ≡ token = c.copy-token.ensures ∙ sym c.process_token.ensures ∙ ap (token_of w) process in
+    let u3 = c.procs_add_process.ensures.rows ∙ ap (λ v. basic v (AddsProcess (new_process c.args.pid (Some pid) c.procs_draw_birth-process.result copied))) u2 in
     let u4 = c.procs_add_thread.ensures.rows ∙ ap (λ v. basic v (AddsThread (new_thread c.args.tid c.args.pid c.procs_draw_birth-thread.result))) u3 in
-    let booted : c.procs_add_thread.new.self.rows ≡ booted_by w by c.args.pid c.args.tid = u4 ∙ alike w by tid pid c.args.pid c.args.tid c.procs_draw_birth-process.result c.procs_draw_birth-thread.result own process one two in
+    let booted : c.procs_add_thread.new.self.rows ≡ booted_by w by token c.args.pid c.args.tid = u4 ∙ alike w by token copied tid pid c.args.pid c.args.tid c.procs_draw_birth-process.result c.procs_draw_birth-thread.result own process one two same in
     let value = c.give_handle-value.result in
     let second = c.give_handle-second.result in
     let b1 = c.procs_draw_birth-process.result in
     let b2 = c.procs_draw_birth-thread.result in
-    let base : World = booted_by w by c.args.pid c.args.tid in
+    let base : World = booted_by w by token c.args.pid c.args.tid in
     let first_is : value ≡ free_handle base by.process = subst (λ p. value ≡ free_handle base p) process (subst (λ v. value ≡ free_handle v pid) booted c.give_handle-value.ensures.value) in
     let g1 : c.give_handle-value.new.world.rows ≡ basic base (gives_life by value (process_name (next_birth by))) =
     c.give_handle-value.ensures.rows ∙ given-alike c.procs_add_thread.new.self.rows base by pid value process_name b1 (next_birth by) booted process one in
@@ -121,7 +124,7 @@ returns-clause-serves c =
     subst (λ p. second ≡ free_handle (basic base (gives_life by value (process_name (next_birth by)))) p) process (subst (λ v. second ≡ free_handle v pid) g1 c.give_handle-second.ensures.value) in
     let g2 : c.give_handle-second.new.world.rows ≡ basic (basic base (gives_life by value (process_name (next_birth by)))) (gives_life by second (thread_name (second_birth by))) =
     c.give_handle-second.ensures.rows ∙ given-alike c.give_handle-value.new.world.rows (basic base (gives_life by value (process_name (next_birth by)))) by pid second thread_name b2 (second_birth by) g1 process two in
-    let both = two-handles w by c.args.pid c.args.tid value second (rw process at c.caller-caller.ensures.table) first_is second_is in
+    let both = two-handles w by token c.args.pid c.args.tid value second (rw process at c.caller-caller.ensures.table) first_is second_is in
     let loose : c.give_handle-second.new.world.loose ≡ old.loose =
     c.give_handle-second.ensures.loose ∙ (c.give_handle-value.ensures.loose ∙ (c.procs_add_thread.ensures.loose ∙ (c.procs_add_process.ensures.loose ∙ (c.procs_draw_birth-thread.ensures.loose ∙ (c.procs_draw_birth-process.ensures.loose ∙ (c.begin_call-2.ensures.loose
     ∙ (c.in_ok-handles_reserve.ensures.same.loose ∙ (c.in_ok-procs_reserve.ensures.same.loose ∙ c.in_ok-thread_reserve.ensures.same.loose)))))))) in

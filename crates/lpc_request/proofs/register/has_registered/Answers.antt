@@ -17,5 +17,5 @@ returns c =
     let w = c.args.world.now.rows in
     let whole = subst (λ n. thread_row w n ≡ Some (caller w c.args.tid)) (sym c.caller-by.ensures.number) c.caller-by.ensures.whole in
     let birth = sym c.port.ensures.own ∙ c.port.ensures.birth in
-    registered_is w.threads c.procs.result.now.threads c.procs.ensures.threads c.caller-by.result.number (caller w c.args.tid) whole c.port.result.birth c.is_registered.result c.is_registered.ensures.registered
+    registered_is w.threads c.procs.result.now.threads c.procs.ensures.threads c.caller-by.result.number (caller w c.args.tid) whole c.port.result.now.birth c.is_registered.result c.is_registered.ensures.registered
     ∙ ap (λ b. is_registered b (caller w c.args.tid)) birth

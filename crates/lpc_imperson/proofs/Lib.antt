@@ -1,0 +1,4 @@
+pub mod Allowed
+pub mod Impersonated
+pub mod Opened
+pub mod ServedClients
