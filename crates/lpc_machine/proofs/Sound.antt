@@ -38,7 +38,7 @@ module _ (old taken : Kept) (before list : List Entry) (line : ScriptLine) (s : 
         sound = line-sound old.rows line t.sound shut.connects;
         linked = line_linked old.rows line t.sound t.linked;
         queues = queues_line old.rows line t.sound shut.connects t.linked t.queues;
-        standing = names_line old.rows line t.sound shut.connects t.linked t.names;
+        standing = names_line old.rows line t.sound shut.connects t.linked t.sound_offers t.names;
         registrations = line-living old.rows line t.sound t.threads t.registrations;
       })
 

@@ -1,3 +1,4 @@
 pub mod Condition
 pub mod Memory
 pub mod Settled
+pub mod Short

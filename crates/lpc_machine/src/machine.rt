@@ -15,11 +15,13 @@ ghost use Rattle.lpc_model.specs.Left.{LeavesNothing};
 ghost use Rattle.lpc_model.specs.SingleClosings.{HasSingleClosings};
 ghost use Rattle.lpc_base.specs.declared.limits.TheConstants.{LINES_LIMIT};
 ghost use Rattle.lpc_model.specs.Machine.{bare_steps, step, thread_steps};
+ghost use Rattle.lpc_model.specs.SoundViews.{HasSoundOffers, HasSoundViews};
 ghost use Rattle.lpc_model.specs.SoundWaits.{HasSoundWaits};
 ghost use Rattle.lpc_model.specs.declared.entry.Entry.TheVariants as entry;
 ghost use Rattle.lpc_closing.specs.Closing.{CanClose};
 ghost use Rattle.lpc_death.specs.Ends.{CanEnd};
 ghost use Rattle.lpc_machine.specs.Settled.{IsSettled};
+ghost use Rattle.lpc_machine.specs.Short.{has_short_name};
 ghost use Rattle.lpc_machine.specs.Memory.{GoesOn, Halts, call_takes_memory, lacks_call_room, lacks_room, makes_call, takes_memory};
 ghost use Rattle.lpc_rows.specs.Called.{MayServe, service};
 ghost use Rattle.lpc_rows.specs.Does.{Took};
@@ -36,7 +38,11 @@ use lpc_connect::{
     nt_listen_port,
 };
 use lpc_death::{nt_create_process, nt_create_thread, nt_terminate_process, nt_terminate_thread};
-use lpc_directives::{boot, directory, link, thread};
+use lpc_directives::{boot, directory, link, thread, token};
+use lpc_imperson::{
+    nt_impersonate_client_of_port, nt_open_process_token, nt_open_thread_token,
+    nt_query_information_token, nt_set_information_thread,
+};
 use lpc_model::{Call, Entries, Entry, Line, Outcome, Word};
 use lpc_ranges::{
     nt_create_section, nt_map_view_of_section, nt_read_request_data, nt_read_virtual_memory,
@@ -93,6 +99,8 @@ fn serve(
     requires calls { world.old.calls < LINES_LIMIT }
     requires can { CanClose world.old.rows }
     requires ends { CanEnd world.old.rows }
+    requires views { HasSoundViews world.old.rows }
+    requires offers { HasSoundOffers world.old.rows }
     requires ids { has_call_ids (call_of call.now) ≡ true }
     requires unread { out.old.reads ≡ false }
     ensures serves { MayServe by (call_of call.now) result world.old world.new out.old out.new }
@@ -114,14 +122,20 @@ fn serve(
         handle_places world.new.capacity pid ≤ grown_handles world.old pid 2 }
 {
     match call {
-        Call::CreatePort { name } => nt_create_port(world, by, *name, out),
-        Call::ConnectPort { name, info } => nt_connect_port(world, by, name, info, out),
+        Call::CreatePort { name, dacl } => nt_create_port(world, by, *name, dacl.as_ref(), out),
+        Call::ConnectPort {
+            name,
+            quality,
+            view,
+            info,
+        } => nt_connect_port(world, by, name, *quality, *view, info, out),
         Call::ListenPort { handle } => Ok(nt_listen_port(world, by, *handle, out)),
         Call::AcceptConnectPort {
             context,
             message,
             accept,
-        } => nt_accept_connect_port(world, by, *context, message, *accept, out),
+            view,
+        } => nt_accept_connect_port(world, by, *context, message, *accept, *view, out),
         Call::CompleteConnectPort { handle } => {
             Ok(nt_complete_connect_port(world, by, *handle, out))
         }
@@ -185,6 +199,17 @@ fn serve(
             let outcome = nt_write_request_data(world, by, *handle, message, *index, bytes, out);
             Ok(outcome)
         }
+        Call::ImpersonateClientOfPort { handle, message } => {
+            Ok(nt_impersonate_client_of_port(world, by, *handle, message, out))
+        }
+        Call::SetInformationThread { class } => {
+            Ok(nt_set_information_thread(world, by, *class, out))
+        }
+        Call::OpenThreadToken => nt_open_thread_token(world, by, out),
+        Call::OpenProcessToken => nt_open_process_token(world, by, out),
+        Call::QueryInformationToken { handle, class } => {
+            Ok(nt_query_information_token(world, by, *handle, *class, out))
+        }
     }
 }
 
@@ -241,6 +266,7 @@ fn take(world: &mut World, line: &Line<'_>, out: &mut Entries) -> Result<(), Out
     requires room { HasRoom world.old out.old }
     requires few { world.old.calls < LINES_LIMIT }
     requires ids { has_ids (line_of line.now) ≡ true }
+    requires named { has_short_name (line_of line.now) ≡ true }
     requires settled { IsSettled world.old }
     ensures takes { let steps = bare_steps (line_of line.now) world.old.rows in
         OnOk result (Took steps world.old world.new out.old out.new) }
@@ -269,14 +295,26 @@ fn take(world: &mut World, line: &Line<'_>, out: &mut Entries) -> Result<(), Out
         handle_places world.new.capacity pid ≤ grown_handles world.old pid 2 }
 {
     match line {
-        Line::Boot { pid, tid } => {
-            let status = boot(world, *pid, *tid)?;
+        Line::Boot {
+            pid,
+            tid,
+            token: name,
+        } => {
+            let status = boot(world, *pid, *tid, *name)?;
             tell(Word::Boot, status, out);
             Ok(())
         }
         Line::Thread { tid, pid } => {
             let status = thread(world, *tid, *pid)?;
             tell(Word::Thread, status, out);
+            Ok(())
+        }
+        Line::Token {
+            name,
+            token: content,
+        } => {
+            let status = token(world, name, content)?;
+            tell(Word::Token, status, out);
             Ok(())
         }
         Line::Dir(path) => {
@@ -321,7 +359,7 @@ impl Machine {
         room_needed(&self.world)
     }
 
-    /// How many objects there are: sections, processes, threads and ports.
+    /// How many objects there are: tokens, sections, processes, threads and ports.
     pub fn objects(&self) -> usize
         ensures { result ≡ found.objects self.now.rows }
     {
@@ -330,23 +368,25 @@ impl Machine {
 
     /// One line's step: its call or directive, and then the objects go that no row counts for. Its entries are added to
     /// `out`, which is empty and has room for [`Machine::room_needed`] more. The line's process and thread numbers are
-    /// from 1 to 2147483647, and fewer than 1,000,000 directives and service calls were made before it.
+    /// from 1 to 2147483647, the name that it gives a token has at most 32 bytes, and fewer than 1,000,000 directives
+    /// and service calls were made before it.
     ///
     /// A line that is refused, or that no thread can run, leaves every row as it was. After want of memory nothing has
     /// changed but the room. Only directives, `NtCreatePort`, `NtConnectPort`, `NtAcceptConnectPort` to accept,
     /// `NtRequestPort`, `NtRegisterThreadTerminatePort`, `NtDuplicateObject`, `NtCreateProcess`, `NtCreateThread`,
-    /// `NtCreateSection` and `NtMapViewOfSection` take memory, only where they aren't refused, and they want for it only
-    /// where the room for what they make wasn't there, which the bytes of a section never have; every other line is
-    /// answered. Of ports, messages and waits no line leaves more memory than there was, than the rows before it need
-    /// with one more and what was owed, or than twice these rows do; how far that of processes, threads, handles,
-    /// sections and views may grow is said of each call alone, and of names nowhere. A directive, and a call of a thread
-    /// that lives and doesn't wait, counts as a call, refused or not.
+    /// `NtCreateSection`, `NtMapViewOfSection`, `NtOpenThreadToken` and `NtOpenProcessToken` take memory, only where they
+    /// aren't refused, and they want for it only where the room for what they make wasn't there, which the bytes of a
+    /// section never have; every other line is answered. Of ports, messages and waits no line leaves more memory than
+    /// there was, than the rows before it need with one more and what was owed, or than twice these rows do; how far that
+    /// of processes, threads, handles, sections, views and tokens may grow is said of each call alone, and of names
+    /// nowhere. A directive, and a call of a thread that lives and doesn't wait, counts as a call, refused or not.
     pub fn step(&mut self, line: &Line<'_>, out: &mut Entries) -> Result<(), OutOfMemory>
         requires empty { out.old.list ≡ [] }
         requires unread { out.old.reads ≡ false }
         requires room { HasRoom self.old out.old }
         requires few { self.old.calls < LINES_LIMIT }
         requires ids { has_ids (line_of line.now) ≡ true }
+        requires named { has_short_name (line_of line.now) ≡ true }
         ensures rows { OnOk result (let s = step self.old.rows (line_of line.now) in
             self.new.rows ≡ s.world) }
         ensures told { OnOk result (let s = step self.old.rows (line_of line.now) in

@@ -40,10 +40,14 @@ pub fn room_needed(world: &World) -> usize
     3 * world.procs().alive() + 1
 }
 
-/// How many objects there are: sections, processes, threads and ports.
+/// How many objects there are: tokens, sections, processes, threads and ports.
 pub fn objects(world: &World) -> usize
     ensures { result ≡ found.objects world.now.rows }
 {
     let procs = world.procs();
-    world.sections().count() + procs.processes() + procs.threads() + world.ports().count()
+    world.tokens().count()
+        + world.sections().count()
+        + procs.processes()
+        + procs.threads()
+        + world.ports().count()
 }

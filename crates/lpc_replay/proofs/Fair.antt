@@ -13,9 +13,10 @@ use Rattle.lpc_model.specs.Entering.{enter, given_steps, received_steps, shown, 
 use Rattle.lpc_model.specs.Found.{is_accepted, is_listen, is_receive, is_request, same_birth}
 use Rattle.lpc_model.specs.Lines.{ScriptLine}
 use Rattle.lpc_model.specs.Message.{asks, is_connection_request}
+use Rattle.lpc_model.specs.Offers.{mapped}
 use Rattle.lpc_model.specs.Replies.{HasReply, IsReturnedBy}
 use Rattle.lpc_model.specs.Sweep.{free_unheld, sweep, unheld}
-use Rattle.lpc_model.specs.World.{Accepted, Connect, Listen, MessageRow, ObjectName, Receive, Request, WaitKind, WaitRow, World}
+use Rattle.lpc_model.specs.World.{Acceptance, Accepted, Connect, Listen, MessageRow, ObjectName, Receive, Request, ViewRow, WaitKind, WaitRow, World}
 use Rattle.lpc_model.specs.declared.entry.CallName.TheVariants as call
 use Rattle.lpc_model.specs.declared.entry.CallName.TheVariants.{NtReplyWaitReceivePort}
 use Rattle.lpc_model.specs.declared.entry.CallName.{CallName}
@@ -32,8 +33,8 @@ abbrev pub call_of_kind : WaitKind → CallName
 call_of_kind (Request m) = call.NtRequestWaitReplyPort
 call_of_kind Receive = call.NtReplyWaitReceivePort
 call_of_kind Listen = call.NtListenPort
-call_of_kind (Connect m) = call.NtConnectPort
-call_of_kind (Accepted m answer) = call.NtConnectPort
+call_of_kind (Connect m offer) = call.NtConnectPort
+call_of_kind (Accepted m a) = call.NtConnectPort
 
 abbrev pub HasItsCall : WaitRow → Type 0
 HasItsCall x = x.call ≡ call_of_kind x.kind
@@ -70,15 +71,15 @@ changed_call true x y h k = k
 changed_call false x y h k = h
 
 -- a connect that is accepted stays in its call
-same_call : (answer : List ℕ) (kind : WaitKind) → call_of_kind (accepted_as answer kind) ≡ call_of_kind kind
-same_call answer (Request m) = refl
-same_call answer Receive = refl
-same_call answer Listen = refl
-same_call answer (Connect m) = refl
-same_call answer (Accepted m before) = refl
+same_call : (a : Acceptance) (kind : WaitKind) → call_of_kind (accepted_as a kind) ≡ call_of_kind kind
+same_call a (Request m) = refl
+same_call a Receive = refl
+same_call a Listen = refl
+same_call a (Connect m offer) = refl
+same_call a (Accepted m before) = refl
 
-accepted_call : (answer : List ℕ) (x : WaitRow) → HasItsCall x → HasItsCall (accepted answer x)
-accepted_call answer x h = rw (same_call answer x.kind) h
+accepted_call : (a : Acceptance) (x : WaitRow) → HasItsCall x → HasItsCall (accepted a x)
+accepted_call a x h = rw (same_call a x.kind) h
 
 -- a row that goes is no wait
 pub freed_waits : (w : World) (kind : ObjectKind) (b : Birth) → (freed w kind b).waits ≡ w.waits
@@ -93,7 +94,7 @@ basic_keeps w line v (Wakes who name status fields) f h = all_filter HasItsCall 
 basic_keeps w line v (Dies who status) f h = all_filter HasItsCall _ v.waits h
 basic_keeps w line v (Awaits x) f h = all_append HasItsCall v.waits (x ∷ []) h (f, tt)
 basic_keeps w line v (Receives who queue) f h = all_map HasItsCall _ v.waits (λ x k. changed_call _ x _ k k) h
-basic_keeps w line v (Accepts who answer) f h = all_map HasItsCall _ v.waits (λ x k. changed_call _ x _ k (accepted_call answer x k)) h
+basic_keeps w line v (Accepts who a) f h = all_map HasItsCall _ v.waits (λ x k. changed_call _ x _ k (accepted_call a x k)) h
 basic_keeps w line v (Frees o) f h = rw (freed_waits v o.kind o.birth) h
 basic_keeps w line v b f h = h
 
@@ -111,7 +112,7 @@ pub waiter_wakes : (w : World) (line : ScriptLine) (x : WaitRow) (status : Statu
 waiter_wakes w line x status fields is h = rw h (waiter_call w line x.thread x.kind status fields is)
 
 -- an accepted connect is no request, and a request no connect
-accepted_call_right : (w : World) (line : ScriptLine) (tid : ℕ) (kind : WaitKind) (status : Status) (fields : List Field) → elim kind [ Accepted m answer ↦ true | _ ↦ false ] ≡ true → HasReply w line (entry.Wakes tid (call_of_kind kind) status fields)
+accepted_call_right : (w : World) (line : ScriptLine) (tid : ℕ) (kind : WaitKind) (status : Status) (fields : List Field) → elim kind [ Accepted m a ↦ true | _ ↦ false ] ≡ true → HasReply w line (entry.Wakes tid (call_of_kind kind) status fields)
 accepted_call_right w line tid (Request m) status fields is = absurd (cc)
 accepted_call_right w line tid b status fields is = tt
 
@@ -119,8 +120,8 @@ pub accepted_wakes : (w : World) (line : ScriptLine) (x : WaitRow) (status : Sta
 accepted_wakes w line x status fields is h = rw h (accepted_call_right w line x.thread x.kind status fields is)
 
 request_call_right : (w : World) (line : ScriptLine) (tid : ℕ) (kind : WaitKind) (status : Status) (fields : List Field) → elim kind [ Request m ↦ true | _ ↦ false ] ≡ true → HasAnswer w line (entry.Wakes tid (call_of_kind kind) status fields)
-request_call_right w line tid (Connect m) status fields is = absurd (cc)
-request_call_right w line tid (Accepted m answer) status fields is = absurd (cc)
+request_call_right w line tid (Connect m offer) status fields is = absurd (cc)
+request_call_right w line tid (Accepted m a) status fields is = absurd (cc)
 request_call_right w line tid b status fields is = tt
 
 pub request_wakes : (w : World) (line : ScriptLine) (x : WaitRow) (status : Status) (fields : List Field) → is_request x ≡ true → HasItsCall x → HasAnswer w line (entry.Wakes x.thread x.call status fields)
@@ -183,6 +184,11 @@ pub sent_fair : (w : World) (line : ScriptLine) (m : MessageRow) (start : List B
 sent_fair w line m start h fair =
     all_append (IsFair w line) start (enter m (world_after w start)) fair
     (enter_fair w line m (world_after w start) (steps_keep w line w start fair h))
+
+-- a view that a process gets tells nothing
+pub mapped_fair : (w : World) (line : ScriptLine) (pid : ℕ) (view : Option ViewRow) → AreFair w line (mapped pid view)
+mapped_fair w line pid None = tt
+mapped_fair w line pid (Some v) = (tt, tt)
 
 -- rows that go at the end of a line tell nothing
 free_fair : (w : World) (line : ScriptLine) (os : List ObjectName) → AreFair w line (map Frees os)

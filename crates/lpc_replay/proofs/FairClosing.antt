@@ -9,8 +9,8 @@ use Rattle.lpc_base.proofs.Bools.{first-true}
 use Rattle.lpc_base.specs.declared.birth.Birth.{Birth}
 use Rattle.lpc_base.specs.declared.status.Status.{Status}
 use Rattle.lpc_base.specs.declared.status.TheConstants.{LPC_REPLY_LOST, PORT_CONNECTION_REFUSED, PORT_DISCONNECTED, SUCCESS}
-use Rattle.lpc_model.specs.Basics.{Basic, Cuts, Dies, Empties, Enters, Steps, Takes, TakesConnect, Tells, Unbinds, Unregisters, Wakes, Withdraws, basic, cut, doing, end_each, is_end_of, world_after, ◌▹◌}
-use Rattle.lpc_model.specs.Close.{close_port, closed_row, cut_pair, drop_name, empty_queue, end_accepted, end_offered, end_receives, end_request, end_requests, is_accepted_across, is_offered_to, is_queued_request, is_receive_across, is_receiver, is_request_across, is_request_on, post_closed, server_of, closing_post, wake}
+use Rattle.lpc_model.specs.Basics.{Basic, Cuts, Dies, DropsOwned, Empties, Enters, Steps, Takes, TakesConnect, Tells, Unbinds, Unregisters, Wakes, Withdraws, basic, cut, doing, end_each, is_end_of, world_after, ◌▹◌}
+use Rattle.lpc_model.specs.Close.{close_port, closed_row, cut_pair, drop_name, drop_owned, empty_queue, end_accepted, end_offered, end_receives, end_request, end_requests, is_accepted_across, is_offered_to, is_queued_request, is_receive_across, is_receiver, is_request_across, is_request_on, post_closed, server_of, closing_post, wake}
 use Rattle.lpc_model.specs.Entering.{enter, given_steps, received_steps, shown, takes, woken}
 use Rattle.lpc_model.specs.Fields.{info}
 use Rattle.lpc_model.specs.Found.{is_accepted, is_listen, is_made_on, is_port, is_receive, is_request, is_the, pair_of, port_row}
@@ -53,6 +53,7 @@ keeps_known (Empties q) = true
 keeps_known (Unregisters who b) = true
 keeps_known (Cuts b) = true
 keeps_known (Unbinds b) = true
+keeps_known (DropsOwned b) = true
 keeps_known b = false
 
 abbrev pub KeepKnown : List Basic → Type 0
@@ -63,6 +64,7 @@ away-keeps (Wakes who call status fields) is = refl
 away-keeps (Withdraws who) is = refl
 away-keeps (Empties q) is = refl
 away-keeps (Unbinds b) is = refl
+away-keeps (DropsOwned b) is = refl
 away-keeps x is = absurd (cc)
 
 -- of a world behind some of the steps something is known of each wait, and no port has another end than it had
@@ -94,6 +96,7 @@ module _ (P : WaitRow → Type 0) (w : World) where
   knows-step v (Empties q) is k = record { waits = k.waits; pairs = k.pairs }
   knows-step v (Unregisters who b) is k = record { waits = k.waits; pairs = k.pairs }
   knows-step v (Unbinds b) is k = record { waits = k.waits; pairs = k.pairs }
+  knows-step v (DropsOwned b) is k = record { waits = k.waits; pairs = k.pairs }
   knows-step v x is k = absurd (cc)
 
   pub knows-all : (v : World) (bs : List Basic) → KeepKnown bs → Knows P w v → Knows P w (world_after v bs)
@@ -123,6 +126,7 @@ handles-all v (x ∷ bs) all =
     step (Empties q) is = refl
     step (Unregisters who b) is = refl
     step (Unbinds b) is = refl
+    step (DropsOwned b) is = refl
     step x is = absurd (cc)
 
 -- a message that doesn't ask is taken without a receipt
@@ -138,7 +142,7 @@ enter-keeps m v quiet = at (first (takes m) v.waits)
         (λ x r. every-append keeps_known (received_steps m) _ receipt refl)
         (λ x. every-append keeps_known (received_steps m) _ receipt refl)
         (λ x. every-append keeps_known (received_steps m) _ receipt refl)
-        (λ x r. every-append keeps_known (received_steps m) _ receipt refl)
+        (λ x r offer. every-append keeps_known (received_steps m) _ receipt refl)
         (λ x r reply. every-append keeps_known (received_steps m) _ receipt refl) x
 
     at : (o : Option WaitRow) → KeepKnown (given o (λ x. given_steps x m ++ woken SUCCESS (shown x m) x ∷ []))
@@ -217,7 +221,7 @@ module _ (w : World) (line : ScriptLine) (o : World) (P : WaitRow → Type 0) (c
         by_pair false m c d more is = absurd (cc)
 
     accepted_on : AreFairOn (end_each (is_accepted_across b) end_accepted)
-    accepted_on = ends_on (is_accepted_across b) end_accepted (λ v x k q is. (accepted x q (across_as v x k is), tt))
+    accepted_on = ends_on (is_accepted_across b) end_accepted (λ v x k q is. (accepted x q (across_as v x k is), (tt, tt)))
 
     across_on : AreFairOn (end_each (is_request_across b) (end_request LPC_REPLY_LOST))
     across_on = ends_on (is_request_across b) (end_request LPC_REPLY_LOST) (λ v x k q is. request_right LPC_REPLY_LOST x refl q (first-true _ _ is))
@@ -243,7 +247,7 @@ module _ (w : World) (line : ScriptLine) (o : World) (P : WaitRow → Type 0) (c
       queued_on = ends_on (λ w. is_queued_request b) (end_request LPC_REPLY_LOST) (λ v x k q is. request_right LPC_REPLY_LOST x refl q (first-true _ _ is))
 
       offers_on : AreFairOn (end_each (λ w. is_offered_to b) end_offered)
-      offers_on = ends_on (λ w. is_offered_to b) end_offered (λ v x k q is. (offered x q is, (tt, tt)))
+      offers_on = ends_on (λ w. is_offered_to b) end_offered (λ v x k q is. (offered x q is, (tt, (tt, tt))))
 
       queue_on : AreFairOn (empty_queue b)
       queue_on = then_fair (end_each (λ w. is_queued_request b) (end_request LPC_REPLY_LOST)) (end_each (λ w. is_offered_to b) end_offered ▹ doing (Empties b ∷ [])) (ends_keep (λ w. is_queued_request b) (end_request LPC_REPLY_LOST) (λ x. refl)) queued_on
@@ -268,8 +272,9 @@ module _ (w : World) (line : ScriptLine) (o : World) (P : WaitRow → Type 0) (c
       pub port_on : AreFairOn (close_port b)
       unfolding close_port
       port_on =
-          then_fair (drop_name b) (end_receives b ▹ (end_requests b ▹ (empty_queue b ▹ (cut_pair b ▹ post_closed b)))) (λ v. refl) (idle_on (Unbinds b) tt)
-          (then_fair (end_receives b) (end_requests b ▹ (empty_queue b ▹ (cut_pair b ▹ post_closed b))) (ends_keep (λ w. is_receiver b) (wake PORT_DISCONNECTED) (λ x. refl)) receives_on
-          (then_fair (end_requests b) (empty_queue b ▹ (cut_pair b ▹ post_closed b)) (ends_keep (λ w. is_request_on b) (end_request PORT_DISCONNECTED) (λ x. refl)) requests_on
-          (then_fair (empty_queue b) (cut_pair b ▹ post_closed b) (queue-pass keeps_known away-keeps b) queue_on
-          (then_fair (cut_pair b) (post_closed b) (pair-keeps b) pair_on posted_on))))
+          then_fair (drop_name b) (end_receives b ▹ (end_requests b ▹ (empty_queue b ▹ (cut_pair b ▹ (post_closed b ▹ drop_owned b))))) (λ v. refl) (idle_on (Unbinds b) tt)
+          (then_fair (end_receives b) (end_requests b ▹ (empty_queue b ▹ (cut_pair b ▹ (post_closed b ▹ drop_owned b)))) (ends_keep (λ w. is_receiver b) (wake PORT_DISCONNECTED) (λ x. refl)) receives_on
+          (then_fair (end_requests b) (empty_queue b ▹ (cut_pair b ▹ (post_closed b ▹ drop_owned b))) (ends_keep (λ w. is_request_on b) (end_request PORT_DISCONNECTED) (λ x. refl)) requests_on
+          (then_fair (empty_queue b) (cut_pair b ▹ (post_closed b ▹ drop_owned b)) (queue-pass keeps_known away-keeps b) queue_on
+          (then_fair (cut_pair b) (post_closed b ▹ drop_owned b) (pair-keeps b) pair_on
+          (then_fair (post_closed b) (drop_owned b) (posted-keeps b) posted_on (idle_on (DropsOwned b) tt))))))

@@ -1,13 +1,12 @@
 -- What NtCompleteConnectPort tells is right: an accepted connect wakes by its completion.
-use Rattle.std.proofs.Common.{[], refl, true, ℕ, ◌∷◌, ◌≡◌}
+use Rattle.std.proofs.Common.{refl, true, ℕ, ◌≡◌}
 use Rattle.std.specs.Prelude.{Some, not}
 use Rattle.lpc_base.proofs.RowWords.{first-passes}
 use Rattle.lpc_base.proofs.Bools.{first-true}
 use Rattle.lpc_base.specs.Rows.{first}
-use Rattle.lpc_base.specs.declared.limits.TheConstants.{MESSAGE_LIMIT}
 use Rattle.lpc_base.specs.declared.status.TheConstants.{INVALID_PARAMETER, INVALID_PORT_HANDLE, PORT_DISCONNECTED, SUCCESS}
-use Rattle.lpc_model.specs.Connect.{Completable, answer_of, complete_test, is_accepted_on, nt_complete_connect_port}
-use Rattle.lpc_model.specs.Fields.{h as told_handle, info, max}
+use Rattle.lpc_model.specs.Connect.{Completable, acceptance_of, complete_test, is_accepted_on, nt_complete_connect_port}
+use Rattle.lpc_model.specs.Fields.{completion_fields}
 use Rattle.lpc_model.specs.Found.{free_handle, is_accepted, is_server_port, live_thread}
 use Rattle.lpc_model.specs.Lines.{complete_connect_port, run}
 use Rattle.lpc_model.specs.Refusal.{found_or, refuse_if}
@@ -37,7 +36,7 @@ complete_fair w tid by handle live h =
     let line = run tid (complete_connect_port handle) in
     bind_holds (complete_test w by handle) _ (AreFair w line) (λ c at.
     let known = holds_ok _ (complete_test w by handle) c (completable_holds w by handle h) at in
-    let fields = told_handle (free_handle w c.wait.process) ∷ max MESSAGE_LIMIT ∷ info (answer_of c.wait) ∷ [] in
+    let fields = completion_fields (free_handle w c.wait.process) (acceptance_of c.wait) in
     let answered : IsCompletedBy w tid handle c.wait.thread SUCCESS fields = record { caller = by; found = c; calls = live; completable = at; its_wait = refl; succeeds = refl; shows = refl } in
     let end : IsRight w line (entry.Wakes c.wait.thread c.wait.call SUCCESS fields) = (accepted_wakes w line c.wait SUCCESS fields known.0 known.1, answer_wakes w line c.wait.thread c.wait.call SUCCESS fields answered) in
     ((tt, tt), (tt, (tt, (tt, (end, tt))))))

@@ -1,20 +1,29 @@
 -- What a directive tells is right.
 use Rattle.std.proofs.Common.{List, ℕ, ◌∷◌}
-use Rattle.lpc_base.specs.declared.status.TheConstants.{SUCCESS}
+use Rattle.std.specs.Prelude.{Option, is_some}
+use Rattle.lpc_base.specs.declared.status.TheConstants.{OBJECT_NAME_COLLISION, SUCCESS}
 use Rattle.lpc_model.specs.Basics.{Tells}
+use Rattle.lpc_model.specs.Found.{named_token}
 use Rattle.lpc_model.specs.Lines.{ScriptLine}
-use Rattle.lpc_model.specs.Machine.{boot_line, dir_line, link_line, thread_line, thread_test, unused_test}
+use Rattle.lpc_model.specs.Machine.{boot_line, boot_token, dir_line, link_line, thread_line, thread_test, token_line, unused_test}
 use Rattle.lpc_model.specs.Named.{free_name, spelled_name}
-use Rattle.lpc_model.specs.World.{World}
+use Rattle.lpc_model.specs.Refusal.{refuse_if}
+use Rattle.lpc_model.specs.World.{Token, World}
 use Rattle.lpc_model.specs.declared.entry.Entry.TheVariants as entry
 use Rattle.lpc_model.specs.declared.entry.Word.TheVariants as word
 use Rattle.lpc_model.proofs.Calls.Holding.{Holds, bind_holds}
 use Rattle.lpc_replay.proofs.Fair.{AreFair}
 
-pub boot_fair : (w : World) (line : ScriptLine) (pid tid : ℕ) → Holds (λ bs. AreFair w line (Tells (entry.Directive word.Boot SUCCESS) ∷ bs)) (boot_line w pid tid)
+pub boot_fair : (w : World) (line : ScriptLine) (pid tid : ℕ) (name : Option (List ℕ)) → Holds (λ bs. AreFair w line (Tells (entry.Directive word.Boot SUCCESS) ∷ bs)) (boot_line w pid tid name)
 unfolding boot_line
-boot_fair w line pid tid =
-    bind_holds (unused_test w pid tid) _ (λ bs. AreFair w line (Tells (entry.Directive word.Boot SUCCESS) ∷ bs)) (λ _ _. ((tt, tt), (tt, (tt, tt))))
+boot_fair w line pid tid name =
+    bind_holds (boot_token w name) _ (λ bs. AreFair w line (Tells (entry.Directive word.Boot SUCCESS) ∷ bs)) (λ _ _.
+    bind_holds (unused_test w pid tid) _ (λ bs. AreFair w line (Tells (entry.Directive word.Boot SUCCESS) ∷ bs)) (λ _ _. ((tt, tt), (tt, (tt, tt)))))
+
+pub token_fair : (w : World) (line : ScriptLine) (name : List ℕ) (content : Token) → Holds (λ bs. AreFair w line (Tells (entry.Directive word.Token SUCCESS) ∷ bs)) (token_line w name content)
+unfolding token_line
+token_fair w line name content =
+    bind_holds (refuse_if (is_some (named_token w name)) OBJECT_NAME_COLLISION) _ (λ bs. AreFair w line (Tells (entry.Directive word.Token SUCCESS) ∷ bs)) (λ _ _. ((tt, tt), (tt, tt)))
 
 pub further_fair : (w : World) (line : ScriptLine) (tid pid : ℕ) → Holds (λ bs. AreFair w line (Tells (entry.Directive word.Thread SUCCESS) ∷ bs)) (thread_line w tid pid)
 unfolding thread_line

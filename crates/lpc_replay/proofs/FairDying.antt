@@ -12,9 +12,9 @@ use Rattle.lpc_base.proofs.Bools.{apart-second}
 use Rattle.lpc_base.specs.declared.birth.Birth.{Birth}
 use Rattle.lpc_base.specs.declared.status.Status.{Status}
 use Rattle.lpc_message.specs.declared.kind.TheConstants.{CLIENT_DIED}
-use Rattle.lpc_model.specs.Basics.{Basic, Cuts, Dies, Empties, Enters, Steps, Takes, TakesConnect, Tells, Unbinds, Unregisters, Wakes, Withdraws, basic, ended, in_turn, unregistering, world_after}
+use Rattle.lpc_model.specs.Basics.{Basic, Cuts, Dies, DropsOwned, Empties, Enters, Steps, Takes, TakesConnect, Tells, Unbinds, Unregisters, Wakes, Withdraws, basic, ended, in_turn, unregistering, world_after}
 use Rattle.lpc_model.specs.Close.{cut_pair, is_accepted_across}
-use Rattle.lpc_model.specs.Death.{cut_accepted, die, post_death, post_deaths, death_post}
+use Rattle.lpc_model.specs.Death.{die, end_client, post_death, post_deaths, death_post}
 use Rattle.lpc_model.specs.Deaths.{is_died_post}
 use Rattle.lpc_model.specs.Entering.{enter}
 use Rattle.lpc_model.specs.Found.{is_accepted, is_connect, is_open, is_port, is_the, is_thread, pair_of, same_birth, wait_of, waits_as}
@@ -31,7 +31,7 @@ use Rattle.lpc_model.proofs.Sound.Worlds.{by_kind, is_sure, sure-waits}
 use Rattle.lpc_model.proofs.Closings.SingleLines.{its-maker}
 use Rattle.lpc_model.proofs.Steps.InTurn.{after-append}
 use Rattle.lpc_replay.specs.Connects.{lives_beside}
-use Rattle.lpc_replay.proofs.Fair.{AreFair, HasItsCall, IsFair}
+use Rattle.lpc_replay.proofs.Fair.{AreFair, HasItsCall, IsFair, when_fair}
 use Rattle.lpc_replay.proofs.FairClosing.{AreFairOn, KeepKnown, Knows, keeps_known, away-keeps, enter-keeps, enter_on, knows-all, pair_on, then_fair}
 use Rattle.lpc_replay.proofs.Holding.{all_append}
 
@@ -44,7 +44,7 @@ is_elsewhere w n b z = waits_as n z || not (is_accepted_across b w z)
 elsewhere : (w : World) (n : ℕ) (b : Birth) → is_open w b ≡ false → (b.maker == n) ≡ true → (z : WaitRow) → is_sure w z ≡ true → is_elsewhere w n b z ≡ true
 elsewhere w n b shut made =
     by_kind (λ z. is_sure w z ≡ true → is_elsewhere w n b z ≡ true)
-    (λ z m is. or_right (waits_as n z) true refl) (λ z is. or_right (waits_as n z) true refl) (λ z is. or_right (waits_as n z) true refl) (λ z m is. or_right (waits_as n z) true refl)
+    (λ z m is. or_right (waits_as n z) true refl) (λ z is. or_right (waits_as n z) true refl) (λ z is. or_right (waits_as n z) true refl) (λ z m offer is. or_right (waits_as n z) true refl)
     (λ z m reply is. none (waits_as n z) (same_birth z.port b) (is_the b (pair_of w z.port)) (own z (maker-part z is)) (unpaired (pair_of w z.port) (opens-part z is)))
   where
     two-true : (a o s m : Bool) → ((a && o) && (s && m)) ≡ true → o ≡ true
@@ -132,7 +132,7 @@ module _ (w : World) (line : ScriptLine) (P : WaitRow → Type 0) (calls : (x : 
       at false is rest = ((all.0, not-true (is_accepted_across b v x) is), rest)
 
   die_fair : (code : Status) (t : ThreadRow) (v : World) → IsSafe v → Knows P w v → AreFair w line (die code t v)
-  die_fair code t v safe k = all_append (IsFair w line) (dead t.number code) (cut_accepted (wait_of v t.number) (left t.number code v)) (tt, (tt, tt)) (at (wait_of v t.number) refl)
+  die_fair code t v safe k = all_append (IsFair w line) (dead t.number code) (end_client (wait_of v t.number) (left t.number code v)) (tt, (tt, tt)) (at (wait_of v t.number) refl)
     where
       by_accept : (x : WaitRow) → wait_of v t.number ≡ Some x → (a : Bool) → is_accepted x ≡ a → AreFair w line (when a (cut_pair x.port (left t.number code v)))
       by_accept x found false off = tt
@@ -142,9 +142,12 @@ module _ (w : World) (line : ScriptLine) (P : WaitRow → Type 0) (calls : (x : 
           pair_on w line v (IsOther v b) (λ x q. calls x q.0) b (λ x q across. absurd (cc)) (left t.number code v)
           (record { waits = others_left v t.number b v.waits k.waits off; pairs = λ q c same. same })
 
-      at : (o : Option WaitRow) → wait_of v t.number ≡ o → AreFair w line (cut_accepted o (left t.number code v))
+      at : (o : Option WaitRow) → wait_of v t.number ≡ o → AreFair w line (end_client o (left t.number code v))
       at None none = tt
-      at (Some x) found = by_accept x found (is_accepted x) refl
+      at (Some x) found =
+          let cuts = when (is_accepted x) (cut_pair x.port (left t.number code v)) in
+          let drops = DropsOwned x.port ∷ [] in
+          all_append (IsFair w line) cuts (when (is_connect x) drops) (by_accept x found (is_accepted x) refl) (when_fair w line (is_connect x) drops (tt, tt))
 
   pub dies_fair : (code : Status) (ts : List ThreadRow) (v : World) → IsSafe v → Knows P w v → AreFair w line (in_turn (die code) ts v)
   dies_fair code [] v safe k = tt
@@ -182,6 +185,7 @@ beside_step t v (Empties q) known still = refl
 beside_step t v (Unregisters who b) known still = has-change (lives_beside t) (is_thread who) (unregistering b) (λ u. refl) v.threads
 beside_step t v (Cuts b) known still = refl
 beside_step t v (Unbinds b) known still = refl
+beside_step t v (DropsOwned b) known still = refl
 beside_step t v x known still = absurd (cc)
 
 beside_all : (t : ThreadRow) (v : World) (bs : List Basic) → KeepKnown bs → every is_still bs ≡ true → has (lives_beside t) (world_after v bs).threads ≡ has (lives_beside t) v.threads

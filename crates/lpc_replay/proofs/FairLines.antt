@@ -5,8 +5,8 @@ use Rattle.lpc_base.specs.declared.status.Status.{Status}
 use Rattle.lpc_model.specs.Basics.{Tells}
 use Rattle.lpc_model.specs.Connect.{nt_connect_port}
 use Rattle.lpc_model.specs.Found.{live_thread, wait_of}
-use Rattle.lpc_model.specs.Lines.{ScriptCall, ScriptLine, accept_connect_port, boot, close, complete_connect_port, connect_port, create_port, create_process, create_thread, dir, duplicate_object, link, listen_port, query_object, register_thread_terminate_port, reply_port, reply_wait_receive_port, request_port, request_wait_reply_port, run, terminate_process, terminate_thread, thread, create_section, map_view_of_section, read_virtual_memory, unmap_view_of_section, write_virtual_memory, read_request_data, write_request_data}
-use Rattle.lpc_model.specs.Machine.{bare_steps, boot_line, dir_line, link_line, name_of_call, ready_steps, service_of, steps, thread_line, thread_steps}
+use Rattle.lpc_model.specs.Lines.{ScriptCall, ScriptLine, accept_connect_port, boot, close, complete_connect_port, connect_port, create_port, create_process, create_thread, dir, duplicate_object, link, listen_port, query_object, register_thread_terminate_port, reply_port, reply_wait_receive_port, request_port, request_wait_reply_port, run, terminate_process, terminate_thread, thread, token, create_section, map_view_of_section, read_virtual_memory, unmap_view_of_section, write_virtual_memory, read_request_data, write_request_data, impersonate_client_of_port, open_process_token, open_thread_token, query_information_token, set_information_thread}
+use Rattle.lpc_model.specs.Machine.{bare_steps, boot_line, dir_line, link_line, name_of_call, ready_steps, service_of, steps, thread_line, thread_steps, token_line}
 use Rattle.lpc_model.specs.Request.{nt_request_wait_reply_port}
 use Rattle.lpc_model.specs.World.{ThreadRow, WaitRow, World}
 use Rattle.lpc_model.specs.declared.entry.Entry.TheVariants as entry
@@ -24,7 +24,7 @@ use Rattle.lpc_replay.proofs.FairConnect.{connect_fails, connect_fair}
 use Rattle.lpc_replay.proofs.FairCounts.{create_process_fair, create_thread_fair, duplicate_fair, query_fair}
 use Rattle.lpc_replay.proofs.FairCreate.{create_fair}
 use Rattle.lpc_replay.proofs.FairDatagram.{datagram_fair}
-use Rattle.lpc_replay.proofs.FairDirectives.{boot_fair, dir_fair, further_fair, link_fair}
+use Rattle.lpc_replay.proofs.FairDirectives.{boot_fair, dir_fair, further_fair, link_fair, token_fair}
 use Rattle.lpc_replay.proofs.FairListen.{listen_fair}
 use Rattle.lpc_replay.proofs.FairMemories.{create_section_fair, map_fair, read_fair, unmap_fair, write_fair}
 use Rattle.lpc_replay.proofs.FairRanges.{read_range_fair, write_range_fair}
@@ -33,13 +33,14 @@ use Rattle.lpc_replay.proofs.FairRegister.{register_fair}
 use Rattle.lpc_replay.proofs.FairReply.{reply_fair}
 use Rattle.lpc_replay.proofs.FairRequest.{request_fails, request_fair}
 use Rattle.lpc_replay.proofs.FairTerminate.{terminate_process_fair, terminate_thread_fair}
+use Rattle.lpc_replay.proofs.FairTokens.{impersonate_fair, open_process_token_fair, open_thread_token_fair, query_information_fair, set_information_fair}
 
 -- a call that is served
 service_fair : (w : World) (tid : ℕ) (by : ThreadRow) (name : ScriptCall) → HasBytes name → live_thread w tid ≡ Some by → IsSafe w → HaveTheirCalls w → Holds (AreFair w (run tid name)) (service_of w by name)
-service_fair w tid by (create_port text) are live safe h = create_fair w _ by text
-service_fair w tid by (connect_port text bytes) are live safe h = connect_fair w _ by text bytes h
+service_fair w tid by (create_port text dacl) are live safe h = create_fair w _ by text dacl
+service_fair w tid by (connect_port text quality view bytes) are live safe h = connect_fair w _ by text quality view bytes h
 service_fair w tid by (listen_port handle) are live safe h = listen_fair w _ by handle
-service_fair w tid by (accept_connect_port context bytes accept) are live safe h = accept_fair w tid by context bytes accept live
+service_fair w tid by (accept_connect_port context bytes accept view) are live safe h = accept_fair w tid by context bytes accept view live
 service_fair w tid by (complete_connect_port handle) are live safe h = complete_fair w tid by handle live h
 service_fair w tid by (request_port handle bytes) are live safe h = datagram_fair w _ by handle bytes h
 service_fair w tid by (request_wait_reply_port handle bytes) are live safe h = request_fair w _ by handle bytes h
@@ -60,13 +61,18 @@ service_fair w tid by (read_virtual_memory address n) are live safe h = read_fai
 service_fair w tid by (write_virtual_memory address new) are live safe h = write_fair w _ by address new
 service_fair w tid by (read_request_data handle bytes index n) are live safe h = read_range_fair w _ by handle bytes index n
 service_fair w tid by (write_request_data handle bytes index new) are live safe h = write_range_fair w _ by handle bytes index new
+service_fair w tid by (impersonate_client_of_port handle bytes) are live safe h = impersonate_fair w _ by handle bytes
+service_fair w tid by (set_information_thread class) are live safe h = set_information_fair w _ by class
+service_fair w tid by open_thread_token are live safe h = open_thread_token_fair w _ by
+service_fair w tid by open_process_token are live safe h = open_process_token_fair w _ by
+service_fair w tid by (query_information_token handle class) are live safe h = query_information_fair w _ by handle class
 
 -- a call that is refused
 refused_fair : (w : World) (line : ScriptLine) (by : ThreadRow) (name : ScriptCall) (s : Status) → service_of w by name ≡ Err s → IsFair w line (Tells (entry.Answer by.number (name_of_call name) s []))
-refused_fair w line by (create_port text) s is = (tt, tt)
-refused_fair w line by (connect_port text bytes) s is = (tt, fails_with (nt_connect_port w by text bytes) s (connect_fails w by text bytes) is)
+refused_fair w line by (create_port text dacl) s is = (tt, tt)
+refused_fair w line by (connect_port text quality view bytes) s is = (tt, fails_with (nt_connect_port w by text quality view bytes) s (connect_fails w by text quality view bytes) is)
 refused_fair w line by (listen_port handle) s is = (tt, tt)
-refused_fair w line by (accept_connect_port context bytes accept) s is = (tt, tt)
+refused_fair w line by (accept_connect_port context bytes accept view) s is = (tt, tt)
 refused_fair w line by (complete_connect_port handle) s is = (tt, tt)
 refused_fair w line by (request_port handle bytes) s is = (tt, tt)
 refused_fair w line by (request_wait_reply_port handle bytes) s is = (fails_with (nt_request_wait_reply_port w by handle bytes) s (request_fails w by handle bytes) is, tt)
@@ -87,6 +93,11 @@ refused_fair w line by (read_virtual_memory address n) s is = (tt, tt)
 refused_fair w line by (write_virtual_memory address new) s is = (tt, tt)
 refused_fair w line by (read_request_data handle bytes index n) s is = (tt, tt)
 refused_fair w line by (write_request_data handle bytes index new) s is = (tt, tt)
+refused_fair w line by (impersonate_client_of_port handle bytes) s is = (tt, tt)
+refused_fair w line by (set_information_thread class) s is = (tt, tt)
+refused_fair w line by open_thread_token s is = (tt, tt)
+refused_fair w line by open_process_token s is = (tt, tt)
+refused_fair w line by (query_information_token handle class) s is = (tt, tt)
 
 -- the lines
 ready_fair : (w : World) (tid : ℕ) (by : ThreadRow) (name : ScriptCall) (o : Option WaitRow) → HasBytes name → live_thread w tid ≡ Some by → IsSafe w → HaveTheirCalls w → AreFair w (run tid name) (ready_steps by name o w)
@@ -100,8 +111,9 @@ thread_fair w tid name (Some by) are live safe h = ready_fair w tid by name (wai
 
 bare_fair : (w : World) (line : ScriptLine) → GivesBytes line → IsSafe w → HaveTheirCalls w → AreFair w line (bare_steps line w)
 unfolding bare_steps
-bare_fair w (boot pid tid) are safe h = directed_holds (AreFair w (boot pid tid)) word.Boot (boot_line w pid tid) (boot_fair w _ pid tid) (λ s. ((tt, tt), tt))
+bare_fair w (boot pid tid name) are safe h = directed_holds (AreFair w (boot pid tid name)) word.Boot (boot_line w pid tid name) (boot_fair w _ pid tid name) (λ s. ((tt, tt), tt))
 bare_fair w (thread tid pid) are safe h = directed_holds (AreFair w (thread tid pid)) word.Thread (thread_line w tid pid) (further_fair w _ tid pid) (λ s. ((tt, tt), tt))
+bare_fair w (token name content) are safe h = directed_holds (AreFair w (token name content)) word.Token (token_line w name content) (token_fair w _ name content) (λ s. ((tt, tt), tt))
 bare_fair w (dir path) are safe h = directed_holds (AreFair w (dir path)) word.Dir (dir_line w path) (dir_fair w _ path) (λ s. ((tt, tt), tt))
 bare_fair w (link path target) are safe h = directed_holds (AreFair w (link path target)) word.Link (link_line w path target) (link_fair w _ path target) (λ s. ((tt, tt), tt))
 bare_fair w (run tid name) are safe h = thread_fair w tid name (live_thread w tid) are refl safe h

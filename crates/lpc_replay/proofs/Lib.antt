@@ -21,6 +21,7 @@ pub mod FairTerminate
 pub mod FairRegister
 pub mod FairMemories
 pub mod FairRanges
+pub mod FairTokens
 pub mod FairLines
 pub mod Waiting
 pub mod Returning
@@ -44,3 +45,4 @@ pub mod Storming
 pub mod Stopping
 pub mod Resting
 pub mod Coming
+pub mod ShortNames

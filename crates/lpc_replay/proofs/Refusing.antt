@@ -7,7 +7,7 @@ use Rattle.lpc_base.specs.declared.status.Status.{Status}
 use Rattle.lpc_model.specs.Basics.{Basic, Tells, entries_of, going_on, posts_of, world_after}
 use Rattle.lpc_model.specs.Fields.{info}
 use Rattle.lpc_model.specs.Found.{is_live_thread, live_thread, wait_of}
-use Rattle.lpc_model.specs.Lines.{ScriptCall, ScriptLine, accept_connect_port, boot, close, complete_connect_port, connect_port, create_port, create_process, create_thread, dir, duplicate_object, link, listen_port, query_object, register_thread_terminate_port, reply_port, reply_wait_receive_port, request_port, request_wait_reply_port, run, terminate_process, terminate_thread, thread, create_section, map_view_of_section, read_virtual_memory, unmap_view_of_section, write_virtual_memory, read_request_data, write_request_data}
+use Rattle.lpc_model.specs.Lines.{ScriptCall, ScriptLine, accept_connect_port, boot, close, complete_connect_port, connect_port, create_port, create_process, create_thread, dir, duplicate_object, link, listen_port, query_object, register_thread_terminate_port, reply_port, reply_wait_receive_port, request_port, request_wait_reply_port, run, terminate_process, terminate_thread, thread, token, create_section, map_view_of_section, read_virtual_memory, unmap_view_of_section, write_virtual_memory, read_request_data, write_request_data, impersonate_client_of_port, open_process_token, open_thread_token, query_information_token, set_information_thread}
 use Rattle.lpc_model.specs.Linked.{HasHeldRows}
 use Rattle.lpc_model.specs.Machine.{bare_steps, name_of_call, ready_steps, service_of, settled, step, thread_steps}
 use Rattle.lpc_model.specs.Replies.{ChangesNothing, IsRefused, MisfitsAreRefused, RefusedRepliesChangeNothing, Reply, fitted_wait, reply_of}
@@ -65,10 +65,10 @@ each_reply P h (run tid (reply_wait_receive_port handle (Some bytes))) r is =
     let same : q ≡ r = cc in
     subst (P (run tid (reply_wait_receive_port handle (Some bytes)))) same (h q true)
 each_reply P h (run tid (reply_wait_receive_port handle None)) r is = absurd (cc)
-each_reply P h (run tid (create_port name)) r is = absurd (cc)
-each_reply P h (run tid (connect_port name info)) r is = absurd (cc)
+each_reply P h (run tid (create_port name dacl)) r is = absurd (cc)
+each_reply P h (run tid (connect_port name quality view info)) r is = absurd (cc)
 each_reply P h (run tid (listen_port handle)) r is = absurd (cc)
-each_reply P h (run tid (accept_connect_port context bytes accept)) r is = absurd (cc)
+each_reply P h (run tid (accept_connect_port context bytes accept view)) r is = absurd (cc)
 each_reply P h (run tid (complete_connect_port handle)) r is = absurd (cc)
 each_reply P h (run tid (request_port handle bytes)) r is = absurd (cc)
 each_reply P h (run tid (request_wait_reply_port handle bytes)) r is = absurd (cc)
@@ -87,8 +87,14 @@ each_reply P h (run tid (read_virtual_memory address n)) r is = absurd (cc)
 each_reply P h (run tid (write_virtual_memory address new)) r is = absurd (cc)
 each_reply P h (run tid (read_request_data handle bytes index n)) r is = absurd (cc)
 each_reply P h (run tid (write_request_data handle bytes index new)) r is = absurd (cc)
-each_reply P h (boot pid tid) r is = absurd (cc)
+each_reply P h (run tid (impersonate_client_of_port handle bytes)) r is = absurd (cc)
+each_reply P h (run tid (set_information_thread class)) r is = absurd (cc)
+each_reply P h (run tid open_thread_token) r is = absurd (cc)
+each_reply P h (run tid open_process_token) r is = absurd (cc)
+each_reply P h (run tid (query_information_token handle class)) r is = absurd (cc)
+each_reply P h (boot pid tid name) r is = absurd (cc)
 each_reply P h (thread tid pid) r is = absurd (cc)
+each_reply P h (token name content) r is = absurd (cc)
 each_reply P h (dir path) r is = absurd (cc)
 each_reply P h (link path target) r is = absurd (cc)
 

@@ -4,7 +4,6 @@ use Rattle.std.specs.Prelude.{◌≡◌, ℕ, ◌==◌, ◌&&◌, ◌||◌, Bool
 use Rattle.std.specs.List.{AllByRecursion}
 use Rattle.lpc_base.specs.Rows.{every, has}
 use Rattle.lpc_base.specs.declared.birth.Birth.{Birth}
-use Rattle.lpc_base.specs.declared.limits.TheConstants.{MESSAGE_LIMIT}
 use Rattle.lpc_base.specs.declared.status.Status.{Status}
 use Rattle.lpc_base.specs.declared.status.TheConstants.{PORT_CONNECTION_REFUSED, SUCCESS}
 use Rattle.lpc_model.specs.declared.entry.CallName.TheVariants.{NtConnectPort}
@@ -14,17 +13,19 @@ use Rattle.lpc_model.specs.declared.entry.Field.{Field}
 use Rattle.lpc_model.specs.declared.line.ProcArg.{ProcArg}
 use Rattle.lpc_model.specs.World.{HandleRow, ThreadRow, WaitRow, World}
 use Rattle.lpc_model.specs.Found.{free_handle, has_handle_to, is_open, is_table, is_thread, live_thread, lives_in}
-use Rattle.lpc_model.specs.Fields.{h, info, max}
+use Rattle.lpc_model.specs.Fields.{completion_fields, info}
 use Rattle.lpc_model.specs.Lines.{ScriptCall, ScriptLine, accept_connect_port, close, complete_connect_port, run, terminate_process, terminate_thread}
 use Rattle.lpc_model.specs.Close.{is_accepted_across, is_last, is_offered_to}
 use Rattle.lpc_model.specs.Tests.{own_handle}
-use Rattle.lpc_model.specs.Connect.{Completable, ConnectAnswer, answer_of, answer_test, complete_test}
+use Rattle.lpc_model.specs.Connect.{Completable, ConnectAnswer, acceptance_of, answer_test, complete_test}
 use Rattle.lpc_model.specs.Targets.{process_target, thread_target}
 use Rattle.lpc_model.specs.Machine.{step}
 
 -- A completion wakes the thread: the call's handle names a server port that can be completed, on whose other end the
 -- thread's accepted connect waits. The thread is told its handle, the least that is free in its process, the most bytes
--- of a message, and the bytes of the answer that accepted it.
+-- of a message, and what its acceptance has: the bytes of the answer that accepted it; where its own view lies in the
+-- server's process, if it offered one; and where the server's view lies in its process, and that view's size, if the
+-- server offered one.
 pub record IsCompletedBy (w : World) (by handle tid : ℕ) (status : Status) (fields : List Field) : Type 0 where
   pub caller : ThreadRow
   pub found : Completable
@@ -32,7 +33,7 @@ pub record IsCompletedBy (w : World) (by handle tid : ℕ) (status : Status) (fi
   pub completable : complete_test w caller handle ≡ Ok found
   pub its_wait : found.wait.thread ≡ tid
   pub succeeds : status ≡ SUCCESS
-  pub shows : fields ≡ h (free_handle w found.wait.process) ∷ max MESSAGE_LIMIT ∷ info (answer_of found.wait) ∷ []
+  pub shows : fields ≡ completion_fields (free_handle w found.wait.process) (acceptance_of found.wait)
 
 -- A refusal wakes the thread: the call's message names the thread's connect, which was received and isn't accepted, to
 -- a connection port that the caller's process reaches. The thread is told the message's data.
@@ -106,7 +107,7 @@ pub record IsEndedBy (w : World) (by : ℕ) (call : ScriptCall) (tid : ℕ) (sta
 -- the line ends the thread's connect so: no other line does
 abbrev pub IsAnsweredBy : World → ScriptLine → ℕ → Status → List Field → Type 0
 IsAnsweredBy w (run by (complete_connect_port handle)) tid status fields = IsCompletedBy w by handle tid status fields
-IsAnsweredBy w (run by (accept_connect_port context bytes false)) tid status fields = IsRefusedBy w by bytes tid status fields
+IsAnsweredBy w (run by (accept_connect_port context bytes false view)) tid status fields = IsRefusedBy w by bytes tid status fields
 IsAnsweredBy w (run by (close handle)) tid status fields = IsClosedBy w by handle tid status fields
 IsAnsweredBy w (run by (terminate_thread target code)) tid status fields =
     IsEndedBy w by (terminate_thread target code) tid status fields

@@ -6,7 +6,9 @@ ghost use Rattle.lpc_model.specs.WorkedClosings.{WorkedClosings};
 ghost use Rattle.lpc_model.specs.WorkedCreations.{WorkedCreations};
 ghost use Rattle.lpc_model.specs.WorkedEndings.{WorkedEndings};
 ghost use Rattle.lpc_model.specs.WorkedNeighbours.{WorkedNeighbours};
+ghost use Rattle.lpc_model.specs.WorkedOffers.{WorkedOffers};
 ghost use Rattle.lpc_model.specs.WorkedRanges.{WorkedRanges};
+ghost use Rattle.lpc_model.specs.WorkedTokens.{WorkedTokens};
 ghost use Rattle.lpc_model.specs.WorkedViews.{WorkedViews};
 ghost use Rattle.lpc_replay.specs.Laws.{ConnectsReturn, MisfitsRefused, RefusalsIdle, RefusalsStay, RequestsReturn, WaitsEnd};
 
@@ -23,8 +25,9 @@ ghost use Rattle.lpc_replay.specs.Laws.{ConnectsReturn, MisfitsRefused, Refusals
 /// its connection, with success; or in the step of the call that refuses it and whose message names it, with
 /// PORT_CONNECTION_REFUSED; or with the same status in the step that closes the last handle of the port that it is to,
 /// or, once it is accepted, of an end of its connection; or in the step that ends another process, with its last
-/// thread, where that process alone has handles to such a port. It is told what that call gives it, which is no data
-/// where a port is closed. Its own call never answers success.
+/// thread, where that process alone has handles to such a port. It is told what that call gives it: by a completion also
+/// where the view of what it offered lies in the server's process, and where that of what the server offered lies in
+/// its own; and no data where a port is closed. Its own call never answers success.
 ///
 /// A thread that waits before a line and doesn't behind it is woken in that line, or ends in it.
 pub fn law_completion()
@@ -45,6 +48,8 @@ pub fn law_worked_transcripts()
     ensures endings { WorkedEndings }
     ensures creations { WorkedCreations }
     ensures views { WorkedViews }
+    ensures offers { WorkedOffers }
     ensures ranges { WorkedRanges }
+    ensures tokens { WorkedTokens }
     ensures neighbours { WorkedNeighbours }
 {}

@@ -1,6 +1,7 @@
 // A script is run and printed line by line.
 ghost use Rattle.std.specs.Prelude.{◌≡◌, ◌<◌, ◌≤◌, ◌+◌, ◌++◌, [], length, nat_le, true, IfOk, OnOk};
 ghost use Rattle.lpc_base.specs.declared.limits.TheConstants.{LINES_LIMIT};
+ghost use Rattle.lpc_machine.specs.Short.{has_short_name};
 ghost use Rattle.lpc_model.specs.Grammar.{has_ids};
 ghost use Rattle.lpc_model.specs.Lines.{line_of};
 ghost use Rattle.lpc_model.specs.Machine as model;
@@ -173,6 +174,7 @@ fn tell(
 ) -> Result<usize, OutOfMemory>
     requires few { machine.old.calls < LINES_LIMIT }
     requires ids { has_ids (line_of said.now) ≡ true }
+    requires named { has_short_name (line_of said.now) ≡ true }
     ensures rows { OnOk result (machine.new.rows ≡
         (model.step machine.old.rows (line_of said.now)).world) }
     ensures text { OnOk result (text.new.items ≡ text.old.items

@@ -17,6 +17,12 @@ serve-requires-clause-ends c = let t = c.requires.settled.lawful in record {
   single = t.single;
 }
 
+pub serve-requires-clause-views : goal.serve-requires-clause-views
+serve-requires-clause-views c = c.requires.settled.lawful.sound_views
+
+pub serve-requires-clause-offers : goal.serve-requires-clause-offers
+serve-requires-clause-offers c = c.requires.settled.lawful.sound_offers
+
 pub returns-in-Waits-clause-takes : goal.returns-in-Waits-clause-takes
 returns-in-Waits-clause-takes c =
     let w : World = c.args.world.now.rows in

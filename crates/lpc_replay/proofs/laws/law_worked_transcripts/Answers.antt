@@ -3,7 +3,9 @@ use Rattle.lpc_model.proofs.Worked.Connections.{worked_connections}
 use Rattle.lpc_model.proofs.Worked.Creations.{worked_creations}
 use Rattle.lpc_model.proofs.Worked.Endings.{worked_endings}
 use Rattle.lpc_model.proofs.Worked.Neighbours.{worked_neighbours}
+use Rattle.lpc_model.proofs.Worked.Offers.{worked_offers}
 use Rattle.lpc_model.proofs.Worked.Ranges.{worked_ranges}
+use Rattle.lpc_model.proofs.Worked.Tokens.{worked_tokens}
 use Rattle.lpc_model.proofs.Worked.Transcripts.{worked_transcripts}
 use Rattle.lpc_model.proofs.Worked.Views.{worked_views}
 use Rattle.lpc_replay.proofs.laws.law_worked_transcripts.Goals as goal
@@ -26,8 +28,14 @@ returns-clause-creations c = worked_creations
 pub returns-clause-views : goal.returns-clause-views
 returns-clause-views c = worked_views
 
+pub returns-clause-offers : goal.returns-clause-offers
+returns-clause-offers c = worked_offers
+
 pub returns-clause-ranges : goal.returns-clause-ranges
 returns-clause-ranges c = worked_ranges
+
+pub returns-clause-tokens : goal.returns-clause-tokens
+returns-clause-tokens c = worked_tokens
 
 pub returns-clause-neighbours : goal.returns-clause-neighbours
 returns-clause-neighbours c = worked_neighbours

@@ -2,8 +2,14 @@ use Rattle.std.proofs.Common.{arith, refl, ◌∙◌}
 use Rattle.std.specs.Prelude.{Some, None}
 use Rattle.lpc_model.specs.Lines.{line_of}
 use Rattle.lpc_replay.specs.Playing.{Progress}
+use Rattle.lpc_replay.proofs.ShortNames.{short_named}
 use Rattle.lpc_replay.proofs.Turns.{runs_nothing, runs_said, tells_said}
 use Rattle.lpc_replay.proofs.playback.Playback.run_line.Goals as goal
+
+pub tell-requires-clause-named : goal.tell-requires-clause-named
+tell-requires-clause-named c =
+    let read = c.in-Ok.ensures.value in
+    short_named c.args.line.now (line_of c.in-Some.said) (rw c.in-Some.is at read)
 
 pub returns-in_ok-told-clause-runs : goal.returns-in_ok-told-clause-runs
 returns-in_ok-told-clause-runs c =
