@@ -104,6 +104,49 @@ fn a_reply_through_another_connection_fits_nothing(rt: HostRuntime) -> Result<()
     )
 }
 
+// Each end maps what it offers and what the other offers. What goes with a port goes at its close, and what the other
+// end maps stays.
+#[test]
+fn both_ends_of_a_connection_show_what_they_offer(rt: HostRuntime) -> Result<(), Fail> {
+    replayed(
+        &rt,
+        rt.alloc(),
+        "dir \\Windows\n\
+         boot 20 24\n\
+         boot 32 36\n\
+         24 NtCreatePort \\Windows\\ApiPort\n\
+         36 NtCreateSection 8192 4\n\
+         24 NtCreateSection 4096 4\n\
+         36 NtConnectPort \\Windows\\ApiPort - w:4:4096:0 -\n\
+         24 NtListenPort 4\n\
+         24 NtAcceptConnectPort 7 r:32.36.1: accept w:8:0:4096\n\
+         24 NtCompleteConnectPort 12\n\
+         36 NtWriteVirtualMemory 0x10000 6869\n\
+         24 NtReadVirtualMemory 0x20000 2\n\
+         24 NtClose 12\n\
+         24 NtReadVirtualMemory 0x20000 1\n\
+         36 NtReadVirtualMemory 0x20000 1\n",
+        0,
+        "1 - dir 00000000\n\
+         2 - boot 00000000\n\
+         3 - boot 00000000\n\
+         4 24 NtCreatePort 00000000 h=4\n\
+         5 36 NtCreateSection 00000000 h=4\n\
+         6 24 NtCreateSection 00000000 h=8\n\
+         7 36 NtConnectPort wait id=1 base=00010000\n\
+         8 24 NtListenPort 00000000 msg=000018000a00000020000000240000000100000000100000\n\
+         9 24 NtAcceptConnectPort 00000000 h=12 base=00010000 target=00020000 vbase=00020000 vsize=4096\n\
+         10 24 NtCompleteConnectPort 00000000\n\
+         10 *36 NtConnectPort 00000000 h=8 max=256 info= target=00020000 vbase=00020000 vsize=4096\n\
+         11 36 NtWriteVirtualMemory 00000000\n\
+         12 24 NtReadVirtualMemory 00000000 data=6869\n\
+         13 24 NtClose 00000000\n\
+         14 24 NtReadVirtualMemory c0000005\n\
+         15 36 NtReadVirtualMemory 00000000 data=00\n\
+         end 15 16 8\n",
+    )
+}
+
 // The client is told the data of the refusal, and its port goes.
 #[test]
 fn a_refused_connect_shows_the_data_of_its_answer(rt: HostRuntime) -> Result<(), Fail> {

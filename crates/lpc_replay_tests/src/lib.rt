@@ -22,3 +22,5 @@ mod memory;
 mod replay;
 #[cfg(test)]
 mod storms;
+#[cfg(test)]
+mod tokens;

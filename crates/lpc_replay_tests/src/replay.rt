@@ -422,7 +422,7 @@ fn stop_at_words(rt: &impl Abort, alloc: Global) -> Result<(), Fail> {
     stop(rt, alloc, &lines, "stop 1 4\n")
 }
 
-// Faults of numbers, of digits and of messages.
+// Faults of numbers, of digits, of messages and of SIDs.
 fn stop_at_forms(rt: &impl Abort, alloc: Global) -> Result<(), Fail> {
     let lines = ["24 NtReplyPort 08 d:", "boot 020 24"];
     stop(rt, alloc, &lines, "stop 1 5\n")?;
@@ -433,7 +433,8 @@ fn stop_at_forms(rt: &impl Abort, alloc: Global) -> Result<(), Fail> {
         "24 NtRequestPort 4 x:41",
         "24 NtReplyWaitReceivePort 4 x:41",
     ];
-    stop(rt, alloc, &lines, "stop 1 7\n")
+    stop(rt, alloc, &lines, "stop 1 7\n")?;
+    stop(rt, alloc, &["token t S-1"], "stop 1 8\n")
 }
 
 // A line with a tabulator, and one of 16,385 bytes.

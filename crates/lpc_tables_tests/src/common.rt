@@ -3,6 +3,7 @@ ghost use Rattle.std.specs.Prelude.{IfOk, IsSome};
 ghost use Rattle.lpc_slots.specs.Table.{at};
 
 use lpc_sections::Section;
+use lpc_sid::{Sid, Token};
 use lpc_slots::{Key, Slots};
 use std::alloc::Global;
 use std::fmt::Display;
@@ -14,6 +15,14 @@ pub fn says(rt: &impl Abort, alloc: Global, value: &impl Display, text: &str) ->
     let said = format!(in alloc; "{value}")?;
     assert!(rt; said.as_str() == text);
     Ok(())
+}
+
+/// A token that isn't the default one.
+pub fn guest() -> Token {
+    Token {
+        user: Sid::read(b"S-1-5-21-1").unwrap_or_default(),
+        ..Token::default()
+    }
 }
 
 /// A table with this section alone, and its key.

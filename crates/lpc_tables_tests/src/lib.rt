@@ -15,6 +15,10 @@ mod message;
 #[cfg(test)]
 mod names;
 #[cfg(test)]
+mod offers;
+#[cfg(test)]
+mod owned;
+#[cfg(test)]
 mod ports;
 #[cfg(test)]
 mod procs;

@@ -2,11 +2,15 @@
 ghost use Rattle.std.specs.Prelude.{◌≡◌, ◌<◌, ◌+◌, IsSome};
 ghost use Rattle.lpc_ports.specs.Table.{row_at};
 
+use crate::common::guest;
 use lpc_base::Birth;
 use lpc_message::ClientId;
 use lpc_message::kind::{CONNECTION_REQUEST, DATAGRAM, PORT_CLOSED, REPLY, REQUEST};
 use lpc_ports::{Creator, Message, PortKind, Ports};
+use lpc_sid::Dacl;
 use lpc_slots::Key;
+use lpc_tokens::level::IMPERSONATION;
+use lpc_tokens::{Effective, Qos, Security, Tracking};
 use std::process::Abort;
 use std::test::Fail;
 
@@ -114,6 +118,46 @@ fn port_is_read_and_freed(rt: HostRuntime) -> Result<(), Fail> {
     is_set(&rt, &ports, port, true);
     ports.free(port);
     assert!(rt; ports.get(port).is_none());
+    Ok(())
+}
+
+// Who may use the port, and what it allows.
+fn is_secured(rt: &impl Abort, ports: &Ports, port: Key, security: &Security)
+    requires { IsSome (row_at ports.now.ports port) }
+{
+    assert!(rt; ports.security(port).copy() == *security);
+}
+
+// An access list that lets nobody connect.
+fn guard() -> Security {
+    Security::Guarded(Dacl::default())
+}
+
+// What a client allows that asked for the level of impersonation, with the token that it has when the server asks.
+fn allowance() -> Security {
+    Security::Allows {
+        quality: Qos {
+            level: IMPERSONATION,
+            tracking: Tracking::Dynamic,
+        },
+        kept: Effective {
+            token: guest(),
+            level: None,
+        },
+    }
+}
+
+#[test]
+#[tactic(auto, using(lpc_slots::proofs::Keys::key_itself))]
+fn port_is_unsecured_until_it_is_secured(rt: HostRuntime) -> Result<(), Fail> {
+    let mut ports = Ports::new(rt.alloc());
+    ports.reserve(1, 0)?;
+    let port = ports.add(PortKind::Client, birth(1), None);
+    is_secured(&rt, &ports, port, &Security::Unsecured);
+    ports.set_security(port, guard());
+    is_secured(&rt, &ports, port, &guard());
+    ports.set_security(port, allowance());
+    is_secured(&rt, &ports, port, &allowance());
     Ok(())
 }
 

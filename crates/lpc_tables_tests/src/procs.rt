@@ -3,10 +3,14 @@ ghost use Rattle.std.specs.Prelude.{◌≡◌, ◌<◌, IsSomeAnd, is_some, leng
 ghost use Rattle.lpc_procs.specs.Procs.{HasOrdinalLeft, birth_of, process_at, thread_at};
 ghost use Rattle.lpc_procs.specs.declared.rows.Number.TheVariants as number;
 
+use crate::common::guest;
 use lpc_base::Birth;
 use lpc_message::ClientId;
 use lpc_procs::{Number, Procs};
+use lpc_sid::Token;
 use lpc_slots::Key;
+use lpc_tokens::Impersonation;
+use lpc_tokens::level::IDENTIFICATION;
 use std::process::Abort;
 use std::test::Fail;
 
@@ -64,7 +68,7 @@ fn draws_a_birth(rt: &impl Abort, procs: &mut Procs)
 fn thread_of_a_directive_draws_from_one(rt: HostRuntime) -> Result<(), Fail> {
     let mut procs = Procs::new(rt.alloc());
     procs.reserve(1, 1)?;
-    procs.add_process(20, None, made(20));
+    procs.add_process(20, None, made(20), &guest());
     shows_a_process_alone(&rt, &procs);
     procs.add_thread(20, 20, made(20));
     let first = procs.draw_identifier(20);
@@ -104,7 +108,7 @@ fn shows_its_row(rt: &impl Abort, procs: &Procs) {
 fn thread_lives_until_it_ends(rt: HostRuntime) -> Result<(), Fail> {
     let mut procs = Procs::new(rt.alloc());
     procs.reserve(1, 2)?;
-    procs.add_process(20, Some(16), made(20));
+    procs.add_process(20, Some(16), made(20), &guest());
     procs.add_thread(24, 20, made(24));
     procs.add_thread(28, 20, made(28));
     shows_its_row(&rt, &procs);
@@ -131,7 +135,7 @@ fn shows_births(rt: &impl Abort, procs: &Procs)
 fn number_of_a_row_that_goes_stays_used(rt: HostRuntime) -> Result<(), Fail> {
     let mut procs = Procs::new(rt.alloc());
     procs.reserve(1, 1)?;
-    procs.add_process(20, Some(16), made(20));
+    procs.add_process(20, Some(16), made(20), &guest());
     procs.add_thread(24, 20, made(24));
     shows_births(&rt, &procs);
     procs.end_thread(24);
@@ -165,7 +169,7 @@ fn counts_registered(rt: &impl Abort, procs: &Procs, all: usize, first: usize) {
 fn thread_registers_ports_until_they_are_taken_away(rt: HostRuntime) -> Result<(), Fail> {
     let mut procs = Procs::new(rt.alloc());
     procs.reserve(1, 1)?;
-    procs.add_process(20, None, made(20));
+    procs.add_process(20, None, made(20), &guest());
     procs.add_thread(24, 20, made(24));
     procs.register(24, key(1), made(4));
     procs.register(24, key(2), made(8));
@@ -190,7 +194,7 @@ fn tells(rt: &impl Abort, procs: &Procs, port: Key, birth: Birth) {
 fn ended_thread_tells_its_ports_in_their_order(rt: HostRuntime) -> Result<(), Fail> {
     let mut procs = Procs::new(rt.alloc());
     procs.reserve(1, 1)?;
-    procs.add_process(20, None, made(20));
+    procs.add_process(20, None, made(20), &guest());
     procs.add_thread(24, 20, made(24));
     procs.register(24, key(1), made(4));
     procs.register(24, key(2), made(8));
@@ -214,7 +218,7 @@ fn finds(rt: &impl Abort, procs: &Procs, live: Option<u32>) {
 fn what_lives_is_found_in_the_order_of_making(rt: HostRuntime) -> Result<(), Fail> {
     let mut procs = Procs::new(rt.alloc());
     procs.reserve(1, 2)?;
-    procs.add_process(20, None, made(20));
+    procs.add_process(20, None, made(20), &guest());
     finds(&rt, &procs, None);
     procs.add_thread(28, 20, made(28));
     procs.add_thread(24, 20, made(24));
@@ -255,7 +259,7 @@ fn counts_children(rt: &impl Abort, procs: &Procs, live: usize) {
 fn what_has_ended_is_found_and_told_as_not_live(rt: HostRuntime) -> Result<(), Fail> {
     let mut procs = Procs::new(rt.alloc());
     procs.reserve(1, 1)?;
-    procs.add_process(20, Some(16), made(20));
+    procs.add_process(20, Some(16), made(20), &guest());
     procs.add_thread(24, 20, made(24));
     finds_by_name(&rt, &procs, true);
     tells_lives(&rt, &procs, true);
@@ -264,5 +268,42 @@ fn what_has_ended_is_found_and_told_as_not_live(rt: HostRuntime) -> Result<(), F
     finds_by_name(&rt, &procs, false);
     tells_lives(&rt, &procs, false);
     counts_children(&rt, &procs, 0);
+    Ok(())
+}
+
+// Process 20 is who it was made as; its thread 24 acts as the local system, or with the token of the process.
+fn shows_tokens(rt: &impl Abort, procs: &Procs, acts: bool)
+    requires process { is_some (process_at procs.now 20) ≡ true }
+    requires thread { is_some (thread_at procs.now 24) ≡ true }
+{
+    assert!(rt; *procs.token(20) == guest());
+    match procs.own(24) {
+        Some(own) => {
+            assert!(rt; acts && own.token == Token::system());
+            assert!(rt; own.level == IDENTIFICATION);
+        }
+        None => assert!(rt; !acts),
+    }
+}
+
+// The local system as a client.
+fn client() -> Impersonation {
+    Impersonation {
+        token: Token::system(),
+        level: IDENTIFICATION,
+    }
+}
+
+#[test]
+fn thread_acts_with_a_token_of_its_own_until_it_is_taken_away(rt: HostRuntime) -> Result<(), Fail> {
+    let mut procs = Procs::new(rt.alloc());
+    procs.reserve(1, 1)?;
+    procs.add_process(20, None, made(20), &guest());
+    procs.add_thread(24, 20, made(24));
+    shows_tokens(&rt, &procs, false);
+    procs.set_own(24, Some(client()));
+    shows_tokens(&rt, &procs, true);
+    procs.set_own(24, None);
+    shows_tokens(&rt, &procs, false);
     Ok(())
 }

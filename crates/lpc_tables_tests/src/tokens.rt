@@ -1,16 +1,15 @@
-// Effective tokens and what of them is passed on, against answers that the rules give.
-use lpc_sid::{Sid, Token};
-use lpc_tokens::level::{ANONYMOUS, DELEGATION, IDENTIFICATION, IMPERSONATION};
-use lpc_tokens::{Effective, Impersonation, Level, Qos, Tracking, effective_token, pass_on};
-use std::process::Abort;
+// Effective tokens, what of them is passed on, and the names of tokens, against answers that the rules give.
+ghost use Rattle.std.specs.Prelude.{◌≤◌, length};
+ghost use Rattle.lpc_tokens.specs.declared.names.TheConstants.{TOKEN_NAME_LIMIT};
 
-// A token that isn't the default one.
-fn guest() -> Token {
-    Token {
-        user: Sid::read(b"S-1-5-21-1").unwrap_or_default(),
-        ..Token::default()
-    }
-}
+use crate::common::guest;
+use lpc_sid::Token;
+use lpc_tokens::level::{ANONYMOUS, DELEGATION, IDENTIFICATION, IMPERSONATION};
+use lpc_tokens::{
+    Effective, Impersonation, Level, Qos, TokenNames, Tracking, effective_token, pass_on,
+};
+use std::process::Abort;
+use std::test::Fail;
 
 #[test]
 fn thread_acts_with_its_own_token_first(rt: HostRuntime) {
@@ -56,4 +55,51 @@ fn lesser_level_is_passed_on(rt: HostRuntime) {
     passes_on(&rt, IDENTIFICATION, Some(DELEGATION), 1);
     passes_on(&rt, IMPERSONATION, Some(IMPERSONATION), 2);
     passes_on(&rt, IMPERSONATION, Some(ANONYMOUS), 0);
+}
+
+// A token gets a name, which no token has.
+fn names_token(
+    rt: &impl Abort,
+    names: &mut TokenNames,
+    name: &[u8],
+    token: Token,
+) -> Result<(), Fail>
+    requires { length name.now ≤ TOKEN_NAME_LIMIT }
+{
+    names.reserve(1)?;
+    if let Some(_) = names.find(name) {
+        assert!(rt; false);
+        return Ok(());
+    }
+    names.add(name, token);
+    Ok(())
+}
+
+// The token of a name is this one.
+fn finds(rt: &impl Abort, names: &TokenNames, name: &[u8], token: &Token) {
+    match names.find(name) {
+        Some(found) => assert!(rt; *found == *token),
+        None => assert!(rt; false),
+    }
+}
+
+// Two names that differ in case, of which the later doesn't hide the earlier.
+fn names_two(rt: &impl Abort, names: &mut TokenNames) -> Result<(), Fail> {
+    names_token(rt, names, b"guest", guest())?;
+    names_token(rt, names, b"Guest", Token::system())?;
+    finds(rt, names, b"guest", &guest());
+    finds(rt, names, b"Guest", &Token::system());
+    assert!(rt; names.find(b"gues").is_none());
+    assert!(rt;
+        names
+            .find(b"guest of this system, and of no other")
+            .is_none()
+    );
+    Ok(())
+}
+
+#[test]
+fn token_is_found_by_its_name(rt: HostRuntime) -> Result<(), Fail> {
+    let mut names = TokenNames::new(rt.alloc());
+    names_two(&rt, &mut names)
 }

@@ -66,7 +66,7 @@ fn request_keeps_its_message_and_is_received(rt: HostRuntime) -> Result<(), Fail
 fn receive_ends(rt: &impl Abort, waits: &mut Waits) {
     takes(rt, waits, false, Some(6));
     is_wait(rt, waits.of(4).copied(), WaitKind::Request, 7, false);
-    assert!(rt; waits.of(7).is_none() && waits.count() == 3);
+    assert!(rt; waits.of(7).is_none() && waits.count() == 2);
     is_wait(rt, waits.end(6), WaitKind::Receive, 0, false);
     assert!(rt; waits.end(6).is_none());
     takes(rt, waits, true, None);
@@ -80,7 +80,7 @@ fn waits_begin_change_and_end(rt: HostRuntime) -> Result<(), Fail> {
     waits.add(5, wait(WaitKind::Receive, 0));
     waits.add(6, wait(WaitKind::Receive, 0));
     takes(&rt, &waits, false, Some(5));
-    waits.set_queue(5, key(3));
+    is_wait(&rt, waits.end(5), WaitKind::Receive, 0, false);
     receive_ends(&rt, &mut waits);
     Ok(())
 }
@@ -124,13 +124,27 @@ fn accepted_is_found_by_pair(rt: &impl Abort, waits: &Waits, accepted: bool) {
     assert!(rt; waits.offered_to(key(1)).is_none());
 }
 
+// What a connect is accepted with: one byte, and a place where the server sees what it offered.
+fn accepted() -> Accepted {
+    let mut reply = ArrayVec::new();
+    reply.push(65);
+    Accepted {
+        reply,
+        target: Some(0x10000),
+        vbase: None,
+        vsize: None,
+    }
+}
+
 // The connect of thread 4 is accepted with one byte or isn't, and that of thread 5 isn't.
 fn fourth_is_accepted(rt: &impl Abort, waits: &Waits, accepted: bool)
     requires fourth { IsSome (row_of waits.now 4) }
     requires fifth { IsSome (row_of waits.now 5) }
 {
     match waits.accepted(4) {
-        Some(with) => assert!(rt; accepted && with.reply.len() == 1),
+        Some(with) => assert!(rt;
+            accepted && with.reply.len() == 1 && with.target == Some(0x10000)
+        ),
         None => assert!(rt; !accepted),
     }
     assert!(rt; waits.accepted(5).is_none());
@@ -145,9 +159,7 @@ fn connects_keep_what_they_are_accepted_with(rt: HostRuntime) -> Result<(), Fail
     waits.add(4, wait(WaitKind::Connect, 7));
     waits.add(5, wait(WaitKind::Connect, 1));
     fourth_is_accepted(&rt, &waits, false);
-    let mut reply = ArrayVec::new();
-    reply.push(65);
-    waits.set_accepted(4, Some(Accepted { reply }));
+    waits.set_accepted(4, Some(accepted()));
     fourth_is_accepted(&rt, &waits, true);
     waits.set_accepted(4, None);
     fourth_is_accepted(&rt, &waits, false);

@@ -13,4 +13,6 @@ mod ranges;
 #[cfg(test)]
 mod script;
 #[cfg(test)]
+mod tokens;
+#[cfg(test)]
 mod transcript;

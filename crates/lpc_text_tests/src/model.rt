@@ -91,6 +91,7 @@ fn faults_of_lines_have_their_texts(rt: HostRuntime) -> Result<(), Fail> {
             LineFault::Message,
             "a message, or the bytes of a connect, have none of their forms",
         ),
+        (LineFault::Sid, "a SID is not spelled as one"),
         (LineFault::Long, "the line is too long"),
         (LineFault::Lines, "the script has too many lines"),
     ];

@@ -75,7 +75,7 @@ fn has_faults_of_words(rt: &impl Abort, scratch: &mut Scratch) {
         b"24 NtFoo\n24 NtFoo 1 2 3",
         Some(LineFault::Call),
     );
-    let lines = b"24 NtReplyPort\n24\n24 NtReplyPort 08 x:41 4\n24 NtCreatePort - -\nboot 20";
+    let lines = b"24 NtReplyPort\n24\n24 NtReplyPort 08 x:41 4\n24 NtCreatePort - - -\nboot 20";
     have_fault(rt, scratch, lines, Some(LineFault::Count));
     let lines = b"24 NtReplyPort 08 d:\nboot 020 24\n0 NtFoo\n2x\nboot 0 024";
     have_fault(rt, scratch, lines, Some(LineFault::Number));
@@ -252,7 +252,7 @@ fn a_datagram_has_a_message_and_a_receive_may_have_one(rt: HostRuntime) -> Resul
 // Too few and too many words, and words that are no directive or no call.
 fn has_faults_of_paths(rt: &impl Abort, scratch: &mut Scratch) {
     let lines =
-        b"24 NtCreatePort\n24 NtCreatePort \\A \\B\ndir\ndir \\A \\B\nlink \\A\nlink \\A \\B \\C";
+        b"24 NtCreatePort\n24 NtCreatePort \\A \\B \\C\ndir\ndir \\A \\B\nlink \\A\nlink \\A \\B \\C";
     have_fault(rt, scratch, lines, Some(LineFault::Count));
     have_fault(rt, scratch, b"dirs \\A", Some(LineFault::Word));
     have_fault(rt, scratch, b"24 dir \\A", Some(LineFault::Call));
@@ -260,7 +260,7 @@ fn has_faults_of_paths(rt: &impl Abort, scratch: &mut Scratch) {
 
 // It makes a port of this name.
 fn creates(rt: &impl Abort, run: (u32, Call<'_>), named: Option<&[u8]>) {
-    let Call::CreatePort { name } = run.1 else {
+    let Call::CreatePort { name, .. } = run.1 else {
         return assert!(rt; false, "no port");
     };
     assert!(rt; name == named);
@@ -304,9 +304,10 @@ fn names_and_paths_are_words_as_they_stand(rt: HostRuntime) -> Result<(), Fail> 
 }
 
 // Words that may not stand where a connect has none or `-`.
-const NO_WORDS_OF_CONNECTS: &[u8] = b"36 NtConnectPort \\P q:2:d - -\n\
+const NO_WORDS_OF_CONNECTS: &[u8] = b"36 NtConnectPort \\P q:2:x - -\n\
     36 NtConnectPort \\P -- - -\n\
-    36 NtConnectPort \\P - w:4:0:0 x\n\
+    36 NtConnectPort \\P - w:4:0 x\n\
+    36 NtConnectPort \\P - w:4:0:0:0 -\n\
     36 NtConnectPort \\P - 0 -";
 
 // Bytes in a form that a connect has not.
@@ -326,11 +327,17 @@ fn has_faults_of_connects(rt: &impl Abort, scratch: &mut Scratch) {
 
 // It connects to this name, with these bytes.
 fn connects(rt: &impl Abort, run: (u32, Call<'_>), given: &[u8], bytes: &[u8]) {
-    let Call::ConnectPort { name, info } = run.1 else {
+    let Call::ConnectPort {
+        name,
+        view,
+        info,
+        ..
+    } = run.1
+    else {
         return assert!(rt; false, "no connect");
     };
     assert!(rt; name == given);
-    assert!(rt; info == bytes);
+    assert!(rt; view.is_none() && info == bytes);
 }
 
 // Three connects.
@@ -388,7 +395,7 @@ fn the_bytes_of_a_connect_may_be_too_many_for_the_call(rt: HostRuntime) -> Resul
 const NO_WORDS_OF_ACCEPTS: &[u8] = b"24 NtAcceptConnectPort 7 d: Accept -\n\
     24 NtAcceptConnectPort 7 d: refused -\n\
     24 NtAcceptConnectPort 7 d: accept 0\n\
-    24 NtAcceptConnectPort 7 d: refuse w:4:0:0";
+    24 NtAcceptConnectPort 7 d: refuse w:4:0";
 
 fn has_faults_of_accepts(rt: &impl Abort, scratch: &mut Scratch) {
     let lines = b"24 NtAcceptConnectPort 7 d: accept\n24 NtAcceptConnectPort x x x x x";
@@ -420,11 +427,12 @@ fn is_accept(rt: &impl Abort, run: (u32, Call<'_>), accepted: bool) {
         context,
         message,
         accept,
+        view,
     } = run.1
     else {
         return assert!(rt; false, "no accept");
     };
-    assert!(rt; context == 16 && accept == accepted);
+    assert!(rt; context == 16 && accept == accepted && view.is_none());
     assert!(rt; message == b"AB".as_slice());
 }
 
@@ -444,6 +452,36 @@ fn an_accept_has_a_context_and_a_message(rt: HostRuntime) -> Result<(), Fail> {
         b"24 NtAcceptConnectPort 16 m:4142 refuse -",
     );
     is_accept(&rt, run, false);
+    Ok(())
+}
+
+// It connects, or accepts, with this view.
+fn offers(rt: &impl Abort, run: (u32, Call<'_>), handle: u32, offset: u32, size: u32) {
+    let view = match run.1 {
+        Call::ConnectPort { view, .. } | Call::AcceptConnectPort { view, .. } => view,
+        _ => None,
+    };
+    let Some(view) = view else {
+        return assert!(rt; false, "no view");
+    };
+    assert!(rt; view.handle == handle && view.offset == offset && view.size == size);
+}
+
+#[test]
+fn a_connect_and_its_answer_may_offer_a_view(rt: HostRuntime) -> Result<(), Fail> {
+    let mut scratch = Scratch::new(rt.alloc())?;
+    let line = b"36 NtConnectPort \\P - w:8:0x1000:0 x";
+    have_fault(&rt, &mut scratch, line, Some(LineFault::Message));
+    let line = b"36 NtConnectPort \\P - w:::0 x";
+    have_fault(&rt, &mut scratch, line, Some(LineFault::Number));
+    let run = run_of(&rt, &mut scratch, b"36 NtConnectPort \\P - w:8:0x1000:0 -");
+    offers(&rt, run, 8, 4096, 0);
+    let run = run_of(
+        &rt,
+        &mut scratch,
+        b"24 NtAcceptConnectPort 7 d: refuse w:4:0:1",
+    );
+    offers(&rt, run, 4, 0, 1);
     Ok(())
 }
 

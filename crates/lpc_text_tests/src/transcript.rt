@@ -29,7 +29,7 @@ pub(crate) fn printed(
     Ok(())
 }
 
-fn one(name: FieldName, value: Value) -> Fields
+pub(crate) fn one(name: FieldName, value: Value) -> Fields
     ensures { result ≡ (record { name = name; value = value }) ∷ [] }
 {
     let mut fields = Fields::none();
@@ -265,6 +265,26 @@ fn prints_a_completed_connect(rt: &impl Abort, alloc: Global) -> Result<(), Fail
     )
 }
 
+// A connect that is completed, where both sides offered a view.
+fn prints_views_of_a_connect(rt: &impl Abort, alloc: Global) -> Result<(), Fail> {
+    let mut fields = one(FieldName::Target, Value::Hex(0x2_0000));
+    fields.add(FieldName::ViewBase, Value::Hex(0x1_0000));
+    fields.add(FieldName::ViewSize, Value::Number(8192));
+    let completed = Entry::Wakes {
+        tid: 36,
+        call: CallName::NtConnectPort,
+        status: status::SUCCESS,
+        fields,
+    };
+    printed(
+        rt,
+        alloc,
+        8,
+        completed,
+        "8 *36 NtConnectPort 00000000 target=00020000 vbase=00010000 vsize=8192\n",
+    )
+}
+
 // A connect that is refused with two bytes.
 fn prints_a_refused_connect(rt: &impl Abort, alloc: Global) -> Result<(), Fail> {
     let mut bytes = ArrayVec::new();
@@ -312,6 +332,7 @@ fn prints_waits(rt: &impl Abort, alloc: Global) -> Result<(), Fail> {
 #[test]
 fn a_completed_connect_tells_its_limit_and_its_bytes(rt: HostRuntime) -> Result<(), Fail> {
     prints_a_completed_connect(&rt, rt.alloc())?;
+    prints_views_of_a_connect(&rt, rt.alloc())?;
     prints_a_refused_connect(&rt, rt.alloc())?;
     prints_waits(&rt, rt.alloc())
 }
@@ -353,7 +374,8 @@ fn stops_at_words(rt: &impl Abort, into: &mut Vec<u8>) -> Result<(), Fail> {
     stops(rt, into, LineFault::Count, "stop 1000001 4\n")?;
     stops(rt, into, LineFault::Number, "stop 1000001 5\n")?;
     stops(rt, into, LineFault::Hex, "stop 1000001 6\n")?;
-    stops(rt, into, LineFault::Message, "stop 1000001 7\n")
+    stops(rt, into, LineFault::Message, "stop 1000001 7\n")?;
+    stops(rt, into, LineFault::Sid, "stop 1000001 8\n")
 }
 
 // The faults of a whole line, and of a script.

@@ -42,7 +42,7 @@ pub fn boots(
     requires thread { IsNumber tid }
     ensures calls { world.new.calls ≤ world.old.calls + 1 }
 {
-    let answer = boot(world, pid, tid)?;
+    let answer = boot(world, pid, tid, None)?;
     assert!(rt; answer == status);
     Ok(())
 }

@@ -36,7 +36,7 @@ fn makes_a_port(
     requires few { world.old.calls < 1000 }
 {
     begins(rt, world, out)?;
-    let outcome = nt_create_port(world, 24, name, out)?;
+    let outcome = nt_create_port(world, 24, name, None, out)?;
     assert!(rt; outcome == Outcome::Answered(SUCCESS));
     Ok(())
 }

@@ -21,6 +21,8 @@ mod ranges;
 #[cfg(test)]
 mod request;
 #[cfg(test)]
+mod tokens;
+#[cfg(test)]
 mod views;
 #[cfg(test)]
 mod world;

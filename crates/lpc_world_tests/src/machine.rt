@@ -1,5 +1,6 @@
 // A request and its receipt, line by line. The entries are written out by hand.
 ghost use Rattle.std.specs.Prelude.{◌≡◌, ◌≤◌, ◌<◌, ◌+◌, true};
+ghost use Rattle.lpc_machine.specs.Short.{has_short_name};
 ghost use Rattle.lpc_model.specs.Grammar.{has_ids};
 ghost use Rattle.lpc_model.specs.Lines.{line_of};
 
@@ -21,6 +22,7 @@ pub fn makes(
 ) -> Result<(), Fail>
     requires few { machine.old.calls < 1000000 }
     requires ids { has_ids (line_of line.now) ≡ true }
+    requires named { has_short_name (line_of line.now) ≡ true }
     ensures { machine.new.calls ≤ machine.old.calls + 1 }
 {
     out.clear();
@@ -47,13 +49,20 @@ pub fn begins(rt: &impl Abort, machine: &mut Machine, out: &mut Entries) -> Resu
     requires few { machine.old.calls < 1000 }
     ensures calls { machine.new.calls ≤ machine.old.calls + 3 }
 {
-    let boot = Line::Boot { pid: 20, tid: 24 };
+    let boot = Line::Boot {
+        pid: 20,
+        tid: 24,
+        token: None,
+    };
     makes(rt, machine, out, &boot, directive(Word::Boot))?;
     let thread = Line::Thread { tid: 28, pid: 20 };
     makes(rt, machine, out, &thread, directive(Word::Thread))?;
     let create = Line::Run {
         tid: 24,
-        call: Call::CreatePort { name: None },
+        call: Call::CreatePort {
+            name: None,
+            dacl: None,
+        },
     };
     let answer = Entry::Answer {
         tid: 24,

@@ -15,8 +15,8 @@ use lpc_world::World;
 use std::process::Abort;
 use std::test::Fail;
 
-// Thread 24 can make a call, whose entries have room, and none has bytes that were read.
-fn is_next(rt: &impl Abort, world: &World, out: &mut Entries) -> Result<(), Fail>
+/// Thread 24 can make a call, whose entries have room, and none has bytes that were read.
+pub fn is_next(rt: &impl Abort, world: &World, out: &mut Entries) -> Result<(), Fail>
     ensures ready { is_ready world.now.rows 24 ≡ true }
     ensures room { OnOk result (HasRoom world.now out.new) }
     ensures reads { out.new.reads ≡ false }
@@ -27,8 +27,8 @@ fn is_next(rt: &impl Abort, world: &World, out: &mut Entries) -> Result<(), Fail
     Ok(())
 }
 
-// The call was answered, and its one entry has these fields.
-fn answers(rt: &impl Abort, out: &Entries, outcome: Outcome, call: CallName, fields: Fields) {
+/// The call was answered, and its one entry has these fields.
+pub fn answers(rt: &impl Abort, out: &Entries, outcome: Outcome, call: CallName, fields: Fields) {
     let answer = Entry::Answer {
         tid: 24,
         call,

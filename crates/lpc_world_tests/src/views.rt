@@ -36,7 +36,7 @@ fn shows_a_new_section(rt: &impl Abort, world: &World, key: Key)
     let section = world.section(key);
     assert!(rt; section.size() == 8192 && section.writable());
     assert!(rt; section.birth().maker == 24 && section.birth().ordinal == 1);
-    assert!(rt; world.sections().count() == 1 && !world.is_shown(key));
+    assert!(rt; world.sections().count() == 1 && !world.is_shown_or_offered(key));
     assert!(rt; world.section_load(20) == 8192 && world.section_load(32) == 0);
 }
 
@@ -49,7 +49,7 @@ fn maps_the_last_page(rt: &impl Abort, world: &mut World, key: Key) -> Result<()
     let pid = world.caller(24).process;
     world.views_reserve(pid, 1)?;
     let told = world.view_for(pid, key, 4096, 0, true);
-    let mapped = world.views_map(pid, key, 4096, 0, true);
+    let mapped = world.views_map(pid, key, 4096, 0, true, None);
     assert!(rt; mapped == told);
     let Ok(view) = mapped else {
         return Ok(assert!(rt; false));
@@ -75,10 +75,47 @@ fn reads_two_bytes(rt: &impl Abort, world: &World, key: Key)
     requires stands { stands world.now.births.sections key ≡ true }
 {
     let pid = world.caller(24).process;
-    assert!(rt; world.view_bytes(pid, 0x10ffe, 2).ok() == Some(b"AB".as_slice()));
-    assert!(rt; world.view_bytes(pid, 0x10fff, 2).is_err());
+    assert!(rt; world.memory(pid, 0x10ffe, 2).ok() == Some(b"AB".as_slice()));
+    assert!(rt; world.memory(pid, 0x10fff, 2).is_err());
     assert!(rt; world.section(key).bytes(8190, 2) == Some(b"AB".as_slice()));
-    assert!(rt; world.is_shown(key));
+    assert!(rt; world.is_shown_or_offered(key));
+}
+
+// They are lent to whoever names the thread; none are for a range that no view holds, for no byte, and for a thread that
+// isn't there.
+fn lends_two_bytes(rt: &impl Abort, world: &World, bytes: &[u8]) {
+    assert!(rt; world.view_bytes(24, 0x10ffe, 2) == Some(bytes));
+    assert!(rt; world.view_bytes(24, 0x10fff, 2).is_none());
+    assert!(rt; world.view_bytes(24, 0x10ffe, 0).is_none());
+    assert!(rt; world.view_bytes(28, 0x10ffe, 2).is_none());
+}
+
+// The last byte is written where it is lent.
+fn writes_a_lent_byte(rt: &impl Abort, world: &mut World)
+    requires ready { is_ready world.old.rows 24 ≡ true }
+{
+    let pid = world.caller(24).process;
+    assert!(rt; world.is_writable(pid, 0x10fff, 1));
+    world.memory_mut(pid, 0x10fff, 1).fill(b'C');
+}
+
+// The one before it is written where it may be lent.
+fn writes_a_byte_that_may_be_lent(rt: &impl Abort, world: &mut World)
+    requires ready { is_ready world.old.rows 24 ≡ true }
+{
+    let pid = world.caller(24).process;
+    match world.views_slice_mut(pid, 0x10ffe, 1) {
+        Ok(bytes) => bytes.fill(b'D'),
+        Err(_) => assert!(rt; false),
+    }
+}
+
+// No byte behind the view is lent.
+fn is_lent_nothing_behind_the_view(rt: &impl Abort, world: &mut World)
+    requires ready { is_ready world.old.rows 24 ≡ true }
+{
+    let pid = world.caller(24).process;
+    assert!(rt; world.views_slice_mut(pid, 0x10fff, 2).is_err());
 }
 
 // The view is found by its addresses, and taken away.
@@ -91,7 +128,7 @@ fn unmaps_the_page(rt: &impl Abort, world: &mut World, key: Key)
     assert!(rt; world.view_at(pid, 0x11000).is_none());
     assert!(rt; world.view_at(pid, 0x10fff).is_some());
     assert!(rt; world.views_unmap(pid, 0x10fff).is_some());
-    assert!(rt; world.is_loose() && !world.is_shown(key));
+    assert!(rt; world.is_loose() && !world.is_shown_or_offered(key));
 }
 
 // All views of the process go.
@@ -102,7 +139,7 @@ fn drops_the_views(rt: &impl Abort, world: &mut World, key: Key)
 {
     let pid = world.caller(24).process;
     world.views_drop(pid);
-    assert!(rt; world.is_loose() && !world.is_shown(key));
+    assert!(rt; world.is_loose() && !world.is_shown_or_offered(key));
 }
 
 // The section goes, which no row names.
@@ -110,7 +147,7 @@ fn frees_the_section(rt: &impl Abort, world: &mut World, key: Key)
     requires stands { stands world.old.births.sections key ≡ true }
 {
     assert!(rt; !world.has_handles(Object::Section(key)));
-    assert!(rt; !world.is_shown(key));
+    assert!(rt; !world.is_shown_or_offered(key));
     world.sections_free(key);
     assert!(rt; world.sections().count() == 0 && world.section_load(20) == 0);
 }
@@ -175,4 +212,32 @@ fn shows_and_drops_a_view(rt: &impl Abort, world: &mut World) -> Result<(), Fail
 fn views_of_a_process_go_together(rt: HostRuntime) -> Result<(), Fail> {
     let mut world = World::empty(rt.alloc());
     shows_and_drops_a_view(&rt, &mut world)
+}
+
+// The two ways to lend bytes to be written.
+fn writes_by_loans(rt: &impl Abort, world: &mut World) {
+    can_call(rt, world, 24);
+    writes_a_lent_byte(rt, world);
+    can_call(rt, world, 24);
+    writes_a_byte_that_may_be_lent(rt, world);
+    can_call(rt, world, 24);
+    is_lent_nothing_behind_the_view(rt, world);
+}
+
+// A section is shown, and its bytes are written where they are lent.
+fn shows_and_lends_bytes(rt: &impl Abort, world: &mut World) -> Result<(), Fail>
+    requires few { world.old.calls < 1000 }
+{
+    let key = begins_with_a_section(rt, world)?;
+    maps_writes_and_reads(rt, world, key)?;
+    lends_two_bytes(rt, world, b"AB");
+    writes_by_loans(rt, world);
+    lends_two_bytes(rt, world, b"DC");
+    Ok(())
+}
+
+#[test]
+fn lent_bytes_are_the_sections_own(rt: HostRuntime) -> Result<(), Fail> {
+    let mut world = World::empty(rt.alloc());
+    shows_and_lends_bytes(&rt, &mut world)
 }
