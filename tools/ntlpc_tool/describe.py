@@ -17,9 +17,15 @@ NUMBERS = {
     "id": "identifier",
     "max": "longest message",
     "size": "size",
+    "vsize": "size of it",
     "handles": "handles",
     "pointers": "rows that count",
 }
+# The fields that show where a view lies.
+BASES = {"base": "first address", "target": "at the other side", "vbase": "the other's view"}
+# The impersonation levels, and SIDs that stand for the same on each system.
+LEVELS = {"0": "anonymous", "1": "identification", "2": "impersonation", "3": "delegation"}
+WELL_KNOWN = {"S-1-1-0": "everyone", "S-1-5-18": "the local system", "S-1-5-32-544": "the administrators"}
 LABEL = 19
 
 
@@ -81,15 +87,25 @@ def of_field(found, name, value):
         return of_message(found.message())
     if name in ("info", "data"):
         return of_data(bytes.fromhex(value), name)
-    if name == "base":
-        return [_row("first address", value)]
+    if name in BASES:
+        return [_row(BASES[name], value)]
     if name == "ctx":
         return [_row("context", f"{value} ({int(value, 16)})")]
     if name == "access":
         return [_row("access", f"{value}, {_rights(int(value, 16), found.field('type') or 'object')}")]
     if name == "type":
         return [_row("kind of object", value)]
+    if name in ("user", "groups"):
+        sids = value.split(",") if value else []
+        return [_row(name if not at else "", _sid(it)) for at, it in enumerate(sids)] or [_row(name, "none")]
+    if name == "level":
+        return [_row("level", f"{value} ({LEVELS[value]})" if value in LEVELS else value)]
     return [_row(NUMBERS[name], f"{value} bytes with its header" if name == "max" else value)]
+
+
+def _sid(text):
+    """A SID, and what it stands for where that is known."""
+    return f"{text} ({WELL_KNOWN[text]})" if text in WELL_KNOWN else text
 
 
 def _rights(access, kind):

@@ -10,6 +10,8 @@ import unicodedata
 from ntlpc_tool import absent, describe, forms, inputs, placing
 
 MARKS = {b"\xff\xfe": "UTF-16", b"\xfe\xff": "UTF-16", b"\xef\xbb\xbf": "UTF-8"}
+SID = "a SID: S-1-, a number below 2^48, and 1 to 15 numbers below 2^32 with a dash before each"
+MOST_NAME, MOST_ENTRIES, MOST_SUBS = 32, 16, 15
 CALLS = ", ".join(forms.CALLS)
 BYTES = {
     0: "a zero byte",
@@ -48,6 +50,7 @@ class Explanation:
             placing.NUMBER: self.of_number,
             placing.HEX: self.of_hex,
             placing.MESSAGE: self.of_message,
+            placing.SID: self.of_sid,
             placing.LONG: self.of_long,
             placing.LINES: self.of_lines,
         }
@@ -116,10 +119,64 @@ class Explanation:
         return told + self.nearest(word, forms.DIRECTIVES)
 
     def of_keyword(self, word):
+        form = self.form[self.place.word].strip("[]")
         told = [f"expected here: {self.expected()}"]
-        if self.form[self.place.word] == "accept|refuse":
+        if form == "accept|refuse":
             return told + self.nearest(word, ("accept", "refuse"))
-        return told + (self.not_built(word) or self.tried(b"-"))
+        if form == "null":
+            return told + self.tried(b"null")
+        if form == "TOKEN":
+            return told + self.why_no_name(word)
+        if form == "DACL":
+            return told + self.why_no_list(word)
+        if form == "QOS":
+            return told + self.why_no_quality(word)
+        if word.startswith("w:"):
+            count = word.count(":")
+            return [*told, f"behind w stand three numbers with a colon before each, not {count}"]
+        return told + (self.in_small_letters(word, "w:") or self.tried(b"-"))
+
+    def in_small_letters(self, word, front):
+        """What the program makes of a word whose front is to have small letters, where it is another case of it."""
+        if word.startswith(front) or not word.lower().startswith(front):
+            return []
+        return self.tried(front.encode() + self.line[self.place.begin + len(front) : self.place.end])
+
+    def why_no_name(self, word):
+        """What keeps a word from being the name of a token."""
+        if len(word) > MOST_NAME:
+            return [f"it has {len(word)} characters; a token's name has at most {MOST_NAME}"]
+        other = re.search("[^A-Za-z0-9_]", word)
+        plain = re.sub("[^A-Za-z0-9_]", "_", word)
+        return [f"{other[0]} is no letter, no digit and no _", *self.tried(plain.encode())]
+
+    def why_no_quality(self, word):
+        """What keeps a word from being a quality of service."""
+        if not word.startswith("q:"):
+            return self.in_small_letters(word, "q:") or self.tried(b"-")
+        parts = word[2:].split(":")
+        if len(parts) != 2:
+            return [f"behind q: stand two parts with a colon between them, not {len(parts)}"]
+        small = parts[1].lower()
+        told = self.tried(f"q:{parts[0]}:{small}".encode()) if small in ("s", "d") else []
+        return ["behind the level stands s, for static tracking, or d, for dynamic tracking", *told]
+
+    def why_no_list(self, word):
+        """What keeps a word from being an access list, or a part of one from being an entry."""
+        if not word.startswith("acl:"):
+            told = self.in_small_letters(word, "acl:")
+            return told or ["a name can't have a space; a further word is a list of who may connect"]
+        entry = inputs.shown(self.line[self.place.begin : self.place.end])
+        at = self.line[: self.place.begin].rpartition(b" ")[2].count(b",")
+        if at >= MOST_ENTRIES:
+            return [f"a list has at most {MOST_ENTRIES} entries"]
+        if not entry:
+            return ["an entry is missing: commas stand between entries alone"]
+        parts = entry.split("/")
+        if len(parts) != 3:
+            return [f"an entry has three parts with a slash between them, A/MASK/SID or D/MASK/SID, not {len(parts)}"]
+        told = self.tried("/".join([parts[0].upper(), *parts[1:]]).encode()) if parts[0] in ("a", "d") else []
+        return ["an entry begins with A, which allows, or with D, which denies", *told]
 
     def of_call(self):
         word = self.words[1]
@@ -131,10 +188,6 @@ class Explanation:
         if word.startswith("Zw"):
             return told + self.tried(b"Nt" + word[2:].encode(), front="the calls' names begin with Nt: ")
         return told + self.nearest(word, forms.CALLS)
-
-    def not_built(self, word):
-        found = next((it for front, it in absent.FORMS.items() if word.startswith(front)), None)
-        return [f"{word} is {found}, which isn't built yet"] if found else []
 
     def nearest(self, word, known):
         """The known word that is nearest to one."""
@@ -163,8 +216,8 @@ class Explanation:
     def extra_words(self):
         """Why there may be words too many."""
         extra = self.words[self.place.word :]
-        told = [it for word in extra for it in self.not_built(word)]
-        if any(it.startswith("#") for it in extra):
+        told = []
+        if any(it.startswith("#") for it in self.words[self.place.word - 1 :]):
             told.append("a comment has a line of its own")
         last = self.form[-1].strip("[]") if self.form else ""
         if last in ("NAME", "PATH", "TARGET") and not told:
@@ -174,8 +227,6 @@ class Explanation:
             if self.probe.kind(self.line[:begin] + "".join(extra).encode()) is None:
                 joined = self.words[self.place.word - 1] + "".join(extra)
                 told.append(f"the digits of bytes have no space between them: {joined}")
-        if self.words[0] == "boot" and not told:
-            told.append("a token of boot isn't built yet")
         return told
 
     # Numbers, digits, messages.
@@ -183,7 +234,9 @@ class Explanation:
     def of_number(self):
         word = inputs.shown(self.line[self.place.begin : self.place.end])
         whole = word == self.words[self.place.word]
-        expected = self.expected() if whole else "a number from 0 to 4294967295"
+        is_level = self.form[self.place.word : self.place.word + 1] == ("QOS",)
+        part = "a level: a number from 0 to 3" if is_level else "a number from 0 to 4294967295"
+        expected = self.expected() if whole else part
         return [f"expected here: {expected}", f"a number is {forms.NUMBER}", *self.why_no_number(word)]
 
     def why_no_number(self, word):
@@ -253,6 +306,26 @@ class Explanation:
             count = numbers.count(".") + 1
             return [*told, f"between r: and the next colon stand three numbers parted by two dots, not {count}"]
         return told
+
+    def of_sid(self):
+        text = inputs.shown(self.line[self.place.begin : self.place.end])
+        return [f"expected here: {SID}", *self.why_no_sid(text)]
+
+    def why_no_sid(self, text):
+        """What keeps a text from being the one spelling of a SID."""
+        if re.fullmatch("s-1-.*", text):
+            return self.tried(b"S" + text[1:].encode())
+        numbers = text.split("-")[2:]
+        if not text.startswith("S-1-") or not all(re.fullmatch("[0-9]+", it) for it in numbers):
+            return ["a SID is S-1 and further numbers in decimal, a dash before each, and nothing else"]
+        if any(re.match("0[0-9]", it) for it in numbers):
+            plain = "-".join(["S-1", *(it.lstrip("0") or "0" for it in numbers)])
+            return ["a number has a leading zero", *self.tried(plain.encode())]
+        if len(numbers) == 1:
+            return ["behind the authority stands no number"]
+        if len(numbers) - 1 > MOST_SUBS:
+            return [f"behind the authority stand {len(numbers) - 1} numbers; there may be {MOST_SUBS}"]
+        return ["a number is too large"]
 
     def of_long(self):
         return [f"the line has {len(self.line)} bytes; a line has at most {placing.MOST_BYTES}", *self.other_ends()]

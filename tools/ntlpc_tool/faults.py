@@ -8,6 +8,7 @@ KINDS = {
     5: "a number out of form or range",
     6: "digits that aren't pairs of hexadecimal digits",
     7: "a message or an INFO of none of its forms",
+    8: "a SID that isn't spelled as one",
     9: "a line of more than 16,384 bytes",
     10: "a line behind line 1,000,000",
 }

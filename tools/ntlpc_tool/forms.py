@@ -4,14 +4,16 @@ docs/SCRIPTS.md, "Lines" and "Forms of words", has the same tables. They say wha
 is well formed, and what its fault is, the program alone says.
 """
 
+MOST_GROUPS = 16
 DIRECTIVES = {
-    "boot": ("PID", "TID"),
+    "boot": ("PID", "TID", "[TOKEN]"),
     "thread": ("TID", "PID"),
+    "token": ("TOKEN", "USER", *["[GROUP]"] * MOST_GROUPS),
     "dir": ("PATH",),
     "link": ("PATH", "TARGET"),
 }
 CALLS = {
-    "NtCreatePort": ("NAME",),
+    "NtCreatePort": ("NAME", "[DACL]"),
     "NtConnectPort": ("NAME", "QOS", "VIEW", "INFO"),
     "NtListenPort": ("H",),
     "NtAcceptConnectPort": ("CTX", "MSG", "accept|refuse", "VIEW"),
@@ -32,6 +34,11 @@ CALLS = {
     "NtWriteVirtualMemory": ("ADDRESS", "HEX"),
     "NtReadRequestData": ("H", "MSG", "INDEX", "LEN"),
     "NtWriteRequestData": ("H", "MSG", "INDEX", "HEX"),
+    "NtImpersonateClientOfPort": ("H", "MSG"),
+    "NtSetInformationThread": ("CLASS", "null"),
+    "NtOpenThreadToken": (),
+    "NtOpenProcessToken": (),
+    "NtQueryInformationToken": ("H", "CLASS"),
     "NtClose": ("H",),
     "NtDuplicateObject": ("H", "ACCESS|same"),
     "NtQueryObject": ("H",),
@@ -57,8 +64,15 @@ WORDS = {
     "NAME": ("a name: any word", "-"),
     "PATH": ("a path: any word", "\\"),
     "TARGET": ("a path: any word", "\\"),
-    "QOS": ("a quality of service: - alone so far", "-"),
-    "VIEW": ("a view: - alone so far", "-"),
+    "TOKEN": ("a token's name: 1 to 32 letters, digits or _", "T"),
+    "[TOKEN]": ("a token's name, or nothing: 1 to 32 letters, digits or _", "T"),
+    "USER": ("a user: a SID, as S-1-5-18", "S-1-5-18"),
+    "[GROUP]": ("a group, or nothing: a SID, as S-1-1-0", "S-1-1-0"),
+    "[DACL]": ("a list of who may connect, or nothing: acl: and entries A/MASK/SID or D/MASK/SID", "acl:"),
+    "QOS": ("a quality of service: - for q:2:d, or q:L:s or q:L:d", "-"),
+    "CLASS": ("a class: a number from 0 to 4294967295", "5"),
+    "null": ("the word null", "null"),
+    "VIEW": ("a view: - for none, or w:H:OFFSET:SIZE", "-"),
     "ACCESS|same": ("rights: a number from 0 to 4294967295, or same", "same"),
     "accept|refuse": ("accept or refuse", "accept"),
 }
@@ -67,20 +81,25 @@ HEX = "pairs of hexadecimal digits, or nothing"
 FIRST = f"a directive ({', '.join(DIRECTIVES)}), or a thread's number and behind it a call"
 
 
-def form_of(name):
-    """A line's form, as `TID NtListenPort H`; None where the name is neither a call nor a directive."""
+def named(name):
+    """The words of a call's or directive's lines; None where the name is neither. The first word of a directive and the
+    name of a call stand for themselves."""
     if name in DIRECTIVES:
-        return " ".join((name, *DIRECTIVES[name]))
-    return " ".join(("TID", name, *CALLS[name])) if name in CALLS else None
+        return (name, *DIRECTIVES[name])
+    return ("TID", name, *CALLS[name]) if name in CALLS else None
+
+
+def form_of(name):
+    """A line's form, as `TID NtListenPort H`; None where the name is neither a call nor a directive. Of the groups of a
+    token the form has one, with two points behind it."""
+    words = named(name)
+    if words is None:
+        return None
+    others = [it for it in words if it != "[GROUP]"]
+    return " ".join(others if len(others) == len(words) else [*others, "[GROUP] .."])
 
 
 def of_words(words):
-    """For each word of a line the word of the form that stands in its place, as far as the line's form is known.
-
-    The first word of a directive and the name of a call stand for themselves.
-    """
-    if words and words[0] in DIRECTIVES:
-        return (words[0], *DIRECTIVES[words[0]])
-    if len(words) > 1 and words[1] in CALLS:
-        return ("TID", words[1], *CALLS[words[1]])
-    return ()
+    """For each word of a line the word of the form that stands in its place, as far as the line's form is known."""
+    known = named(words[0]) if words and words[0] in DIRECTIVES else None
+    return known or (named(words[1]) if len(words) > 1 and words[1] in CALLS else ())

@@ -16,6 +16,7 @@ CLIENT_AT = 12
 # The calls whose message names a wait by its client.
 ANSWERS = (
     "NtAcceptConnectPort", "NtReplyPort", "NtReplyWaitReceivePort", "NtReadRequestData", "NtWriteRequestData",
+    "NtImpersonateClientOfPort",
 )  # fmt: skip
 MOST = 0xFFFFFFFC
 
@@ -118,7 +119,12 @@ class Names:
             return word if other == value else str(other)
         if kind in ("MSG", "[MSG]") and call in ANSWERS:
             return self._message(word)
-        return word
+        return self._view(word, process) if kind == "VIEW" else word
+
+    def _view(self, word, process):
+        """A view that is offered, with the program's name for its section's handle."""
+        handle, part = _handle_of_view(word)
+        return word if handle is None else f"w:{self._word(handle, 'H', None, process)}:{part}"
 
     def _message(self, word):
         """A message that names a wait, with the program's identifier."""
@@ -186,4 +192,11 @@ class Symbols(Names):
             process, thread, identifier = client.split(".")
             space = self._space(self.identifiers, script_lines.number(thread))
             return f"r:{process}.{thread}.{self._symbol(space, script_lines.number(identifier), identifier)}:{data}"
-        return word
+        return self._view(word, process) if kind == "VIEW" else word
+
+
+def _handle_of_view(word):
+    """The handle of a view that is offered, and what stands behind it; None where there is no view."""
+    front, _, rest = word.partition(":")
+    handle, _, part = rest.partition(":")
+    return (handle, part) if front == "w" else (None, None)

@@ -10,13 +10,15 @@ from typing import Optional
 
 from ntlpc_tool import forms, inputs, program, transcript
 
-BYTE, WORD, CALL, COUNT, NUMBER, HEX, MESSAGE, LONG, LINES = 1, 2, 3, 4, 5, 6, 7, 9, 10
+BYTE, WORD, CALL, COUNT, NUMBER, HEX, MESSAGE, SID, LONG, LINES = 1, 2, 3, 4, 5, 6, 7, 8, 9, 10
 MOST_BYTES = 16_384
 MOST_LINES = 1_000_000
+# What an access list and a quality of service begin with.
+LIST, QUALITY = b"acl:", b"q:"
 # A part of a word that is lawful as a Number and as HEX.
 LAWFUL_PART = b"10"
 # No form has more words.
-MOST_WORDS = 16
+MOST_WORDS = max(len(forms.named(it)) for it in (*forms.DIRECTIVES, *forms.CALLS))
 
 
 @dataclasses.dataclass(frozen=True)
@@ -148,13 +150,19 @@ def _lawful_behind(line, at, front):
 
 
 def _inside(probe, line, kind, at):
-    """The part of a word that has the fault: a number of a message, or a digit of its bytes; else the whole word."""
+    """The part of a word that has the fault: a number of a message, a digit of its bytes, the level of a quality of
+    service, or an entry of an access list, and of that the mask or the SID; else the whole word."""
     begin, end = spans_of(line)[at]
     whole = Place(begin, end, at)
 
     def asked(word):
         return probe.kind(_lawful_behind(line, at, line[:begin] + word))
 
+    form = next(iter(forms.of_words(texts_of(line))[at:]), None)
+    if form == "[DACL]" and line[begin:end].startswith(LIST):
+        return _part_of_list(asked, line[begin:end], whole, kind)
+    if form == "QOS" and kind == NUMBER:
+        return Place(begin + len(QUALITY), line.index(b":", begin + len(QUALITY)), at)
     if kind == NUMBER:
         return _number_in(asked, line[begin:end], whole)
     if kind == HEX:
@@ -162,8 +170,21 @@ def _inside(probe, line, kind, at):
     return whole
 
 
+def _part_of_list(asked, word, whole, kind):
+    """The first entry of an access list with which the list has the fault, and of that entry the mask or the SID."""
+    entries = word[len(LIST) :].split(b",")
+    at = next(it for it in range(len(entries)) if asked(LIST + b",".join(entries[: it + 1])) == kind)
+    begin = whole.begin + len(LIST + b"".join(it + b"," for it in entries[:at]))
+    parts = entries[at].split(b"/")
+    if kind == WORD:
+        return Place(begin, begin + len(entries[at]), whole.word)
+    front = b"/".join(parts[: 1 if kind == NUMBER else 2]) + b"/"
+    part = parts[1] if kind == NUMBER else parts[2]
+    return Place(begin + len(front), begin + len(front) + len(part), whole.word)
+
+
 def _number_in(asked, word, whole):
-    """The number of a message that has the fault: with lawful parts behind it the word has the fault still."""
+    """The number of a message or a view that has the fault: with lawful parts behind it the word has the fault still."""
     parts = re.split(rb"([:.])", word)
     if len(parts) == 1:
         return whole

@@ -23,6 +23,16 @@ PATH = (
 )
 QUOTA = (("c0000044", "the process has 256 handles, its threads that wait in a connect counted among them"),)
 CLOSED = "c0000037"
+OFFERED = (
+    ("c0000008", "a view is offered, and no handle of the caller's process has its value"),
+    ("c0000024", "a view is offered, and its handle is one to something that is no section"),
+    ("c0000022", "a view is offered, and its handle doesn't grant the right 2, to map a view that may be written"),
+)
+PART = (
+    ("c0000220", "a view is offered, and its offset is no multiple of 4096"),
+    ("c000004e", "a view is offered, and its section is one to be read alone"),
+    ("c000001f", "a view is offered that would pass the section's end, or begin there"),
+)
 NO_HANDLE, NO_RIGHT = HANDLE[0], ("c0000022", "ACCESS has a bit that the handle's own access lacks")
 PROTECTION = ("c0000045", "the protection is neither 2, to be read alone, nor 4, to be written too")
 REQUEST_DATA = (
@@ -35,12 +45,16 @@ REQUEST_DATA = (
 NO_WAY = (CLOSED, "the pair of the port is cut or was never made, or the port to which the message would go isn't open")
 
 REFUSALS = {
-    "boot": (("c0000035", "the number of the process or of the thread was used before"),),
+    "boot": (
+        ("c0000034", "no token has the name"),
+        ("c0000035", "the number of the process or of the thread was used before"),
+    ),
     "thread": (
         ("c000000b", "no live process has the number"),
         ("c0000035", "the number of the thread was used before"),
         ("c0000044", "the process has 64 live threads"),
     ),
+    "token": (("c0000035", "a token has the name already"),),
     "dir": (*PATH, ("c0000035", "something stands there already")),
     "link": (
         ("c000003b", "the target doesn't begin with a backslash"),
@@ -50,14 +64,20 @@ REFUSALS = {
     ),
     "NtCreatePort": (*PATH, ("c0000035", "something stands there already"), *QUOTA),
     "NtConnectPort": (
+        *OFFERED,
         ("c000002f", "INFO has more than 232 bytes"),
+        *PART,
         *PATH,
         ("c0000034", "nothing stands there"),
         ("c0000024", "a directory stands there"),
+        ("c00000a5", "the thread acts as a client whose level is below 2"),
+        ("c0000022", "the port's access list doesn't grant right 1 to the token with which the thread acts"),
         *QUOTA,
+        ("c0000044", "a view is offered, and the process has 128 views, or no place is left for it"),
     ),
     "NtListenPort": (*HANDLE, ("c0000042", "the port is no connection port")),
     "NtAcceptConnectPort": (
+        *OFFERED,
         *MESSAGE,
         *CLIENT,
         (
@@ -65,7 +85,9 @@ REFUSALS = {
             "the message names no connect that was received, isn't accepted, and went to a port of the caller's "
             "process",
         ),
+        *PART,
         *QUOTA,
+        ("c0000044", "with the views of the connection the caller's process or the client's would have more than 128"),
     ),
     "NtCompleteConnectPort": (
         *HANDLE,
@@ -151,6 +173,26 @@ REFUSALS = {
         ("c000000d", "there are more than 4096 bytes, or more than the entry has"),
         ("c0000005", "no one view of the client's process holds all bytes of the range, or it is one to be read alone"),
     ),
+    "NtImpersonateClientOfPort": (
+        *HANDLE,
+        *MESSAGE,
+        ("c0000042", "the port is no server port"),
+        *CLIENT,
+        ("c000021f", "the message names no request of the port's client that was received"),
+    ),
+    "NtSetInformationThread": (("c000000d", "the class isn't 5"),),
+    "NtOpenThreadToken": (
+        ("c000007c", "the thread acts as itself"),
+        ("c00000a6", "the thread acts as a client whose level is 0"),
+        *QUOTA,
+    ),
+    "NtOpenProcessToken": QUOTA,
+    "NtQueryInformationToken": (
+        NO_HANDLE,
+        ("c0000024", "the handle is one to something that is no token"),
+        ("c0000022", "the handle doesn't grant the right to query the token"),
+        ("c000000d", "the class isn't 1, 2 or 9, or it is 9 and the token is that of a process"),
+    ),
     "NtClose": (NO_HANDLE,),
     "NtDuplicateObject": (NO_HANDLE, NO_RIGHT, *QUOTA),
     "NtQueryObject": (NO_HANDLE,),
@@ -173,7 +215,7 @@ FAULTS = f"{SCRIPTS}, Faulty lines"
 
 def of_call(call):
     """The heading of a call or directive."""
-    return f"{SERVICES}, {'Directives' if call in ('boot', 'thread', 'dir', 'link') else call}"
+    return f"{SERVICES}, {'Directives' if call in ('boot', 'thread', 'token', 'dir', 'link') else call}"
 
 
 _OLDEST_TAKER = (
@@ -302,6 +344,45 @@ RULES = {
         "`info` is the data of the message that accepted or refused the connect, and empty where a closing ended it.",
         of_call("NtConnectPort"),
     ),
+    ("NtConnectPort", "base"): (
+        "The view that a connect offers is mapped by its call, at the least multiple of 65536, from 00010000, where it "
+        "meets no other view of its process.",
+        of_call("NtConnectPort"),
+    ),
+    ("NtConnectPort", "target"): (
+        "A client that offered a view is told where the accept mapped it in the server's process, behind the server's "
+        "own view where there is one.",
+        of_call("NtAcceptConnectPort"),
+    ),
+    ("NtConnectPort", "vbase"): (
+        "Where the server offered a view, the client is told where it lies in the client's own process: the accept "
+        "maps it last, at the least base that is free.",
+        of_call("NtAcceptConnectPort"),
+    ),
+    ("NtConnectPort", "vsize"): (
+        "`vsize` is the size of the server's view in whole pages of 4096 bytes; size 0 asks for the rest of the "
+        "section.",
+        of_call("NtAcceptConnectPort"),
+    ),
+    ("NtAcceptConnectPort", "base"): (
+        "The server's own view is mapped first, at the least base that is free in the caller's process.",
+        of_call("NtAcceptConnectPort"),
+    ),
+    ("NtAcceptConnectPort", "target"): (
+        "`target` is where the server's view lies in the client's process: the accept maps it there last, at the least "
+        "base that is free.",
+        of_call("NtAcceptConnectPort"),
+    ),
+    ("NtAcceptConnectPort", "vbase"): (
+        "The client's view is mapped into the caller's process behind the server's own, at the least base that is "
+        "free.",
+        of_call("NtAcceptConnectPort"),
+    ),
+    ("NtAcceptConnectPort", "vsize"): (
+        "`vsize` is the size of the client's view in whole pages of 4096 bytes, as the SectionSize of the connection "
+        "request told it.",
+        of_call("NtAcceptConnectPort"),
+    ),
     ("NtMapViewOfSection", "base"): (
         "A view lies at the least multiple of 65536, from 00010000, where it meets no other view of its process.",
         VIEWS,
@@ -320,22 +401,37 @@ RULES = {
         "request as it was sent.",
         of_call("NtReadRequestData"),
     ),
+    ("NtQueryInformationToken", "user"): (
+        "`user` is the user of the token. A token that was opened stays as it was then, also where the thread acts as "
+        "another one later.",
+        of_call("NtQueryInformationToken"),
+    ),
+    ("NtQueryInformationToken", "groups"): (
+        "`groups` are the groups of the token in the order in which its `token` line has them.",
+        of_call("NtQueryInformationToken"),
+    ),
+    ("NtQueryInformationToken", "level"): (
+        "`level` is the lesser of the level of the connect's QOS and that with which the client's thread acts, or with "
+        "static tracking acted when it connected, which is 3 where it acts as itself.",
+        of_call("NtImpersonateClientOfPort"),
+    ),
     ("NtQueryObject", "type"): (
-        "`type` is the kind of object that the handle names: `port`, `section`, `process` or `thread`.",
+        "`type` is the kind of object that the handle names: `port`, `section`, `token`, `process` or `thread`.",
         of_call("NtQueryObject"),
     ),
     ("NtQueryObject", "access"): (
         "`access` is what this very handle grants: 001f0001 for a new port's, 000f001f for a new section's, 00000001 "
-        "for that of a new process or thread, and for a duplicate's the ACCESS that was given, or for `same` what the "
-        "other handle grants.",
+        "for that of a new process or thread and of a token, and for a duplicate's the ACCESS that was given, or for "
+        "`same` what the other handle grants.",
         of_call("NtQueryObject"),
     ),
     ("NtQueryObject", "handles"): ("`handles` is how many handles name the object.", of_call("NtQueryObject")),
     ("NtQueryObject", "pointers"): (
         "`pointers` counts the handles to the object. For a port it also counts the ports whose other end it is, the "
         "client and server ports whose connection port it is, the queued messages that were sent on it, the waits that "
-        "were made on it, and the live threads that registered it; for a section the views that show it; for a process "
-        "its live threads; for a thread one while it lives.",
+        "were made on it, the live threads that registered it, and the views that it owns; for a section the views "
+        "that show it, and the connects that wait, offer it and aren't accepted; for a process its live threads; for a "
+        "thread one while it lives.",
         of_call("NtQueryObject"),
     ),
     # Messages.
@@ -367,12 +463,16 @@ RULES = {
         WRITTEN,
     ),
     ("NtRequestWaitReplyPort", "which identifier"): ("A reply keeps the MessageId that it was given.", WRITTEN),
-    ("*", "which section"): ("SectionSize is written over with 0.", WRITTEN),
+    ("*", "which section"): (
+        "SectionSize is written over: with the size of the view that a connect offers in its connection request, and "
+        "with 0 in every other message.",
+        WRITTEN,
+    ),
     ("*", "which bytes"): (_SENT, WRITTEN),
     ("*", "which closing"): (
         "The data of a client port's end are 8 bytes, low bytes first: the number of the thread that connected, and "
-        "which of the things that this thread has made the client port was, from 1: ports, sections, processes and "
-        "threads.",
+        "which of the things that this thread has made the client port was, from 1: ports, sections, tokens, processes "
+        "and threads.",
         TOLD,
     ),
     ("*", "which death"): (
@@ -449,8 +549,9 @@ RULES = {
     ),
     ("end", "ENTRIES"): ("The second number is how many entries were printed.", TRANSCRIPT),
     ("end", "OBJECTS"): (
-        "Processes, threads, ports and sections that are left are counted: live threads and their processes, those "
-        "that have ended and that a handle names, ports, and sections that a handle names or a view shows. A port that "
+        "Processes, threads, ports, sections and tokens that are left are counted: live threads and their processes, "
+        "those that have ended and that a handle names, ports, sections that a handle names, a view shows or a waiting "
+        "connect offers, and tokens that a handle names. A port that "
         "nothing names any longer goes at the end of the line: no handle, no port as its other end or its connection "
         "port, no queued message that was sent on it, no wait that was made on it, and no live thread that registered "
         "it.",
@@ -505,6 +606,9 @@ MEANS = {
     "ctx=": "the message came with the context of another connection, or of none",
     "handles=": "more or fewer handles name the object there",
     "pointers=": "more or fewer rows count for the object there",
+    "user=": "the thread acts as another one there, or its process has another token",
+    "groups=": "the token has other groups there, or has them in another order",
+    "level=": "the client allowed another level there, or acts at another one itself",
     "value": "it tells another value",
     "which message": "it took another message from the queue than the oldest one",
     "port closed": "nothing told the server that the client's port closed",
@@ -544,6 +648,7 @@ def causes(call, status):
 
 
 def comes_before(call, first, second):
-    """Whether one refusal of a call is tested before another."""
+    """Whether one refusal of a call is tested before another, for each cause of both."""
     order = [status for status, _ in REFUSALS[call]]
-    return order.index(first) < order.index(second)
+    last = len(order) - 1 - order[::-1].index(first)
+    return last < order.index(second)

@@ -33,7 +33,7 @@ class Script:
             words = self.words(entry.line)
             if entry.status != statuses.SUCCESS:
                 continue
-            if places and entry.kind == "directive" and len(words) == 3:
+            if places and entry.kind == "directive" and len(words) > 2:
                 process, thread = (number(words[it]) for it in places)
                 found[thread] = process
             elif entry.kind == "answer" and len(words) == 4:
@@ -58,9 +58,10 @@ def _follow(entry, words, found, handles):
 
 def made_by(words):
     """Those of a line's words that name the processes and threads which it makes."""
-    call = words[1] if len(words) == 4 else ""
-    places = {"boot": (1, 2), "thread": (1,)}.get(words[0], ()) if len(words) == 3 else CALLS_OF_THREADS.get(call, ())
-    return [words[it] for it in places]
+    directives = {"boot": (1, 2), "thread": (1,)}
+    if words[0] in directives:
+        return [words[it] for it in directives[words[0]] if it < len(words)]
+    return [words[it] for it in CALLS_OF_THREADS.get(words[1], ())] if len(words) == 4 else []
 
 
 def number(word):

@@ -13,13 +13,16 @@ NAME = re.compile(r"@([A-Za-z_][A-Za-z0-9_]*)")
 SYMBOL = re.compile(r"\$([A-Za-z_][A-Za-z0-9_]*)(?:\.([a-z]+))?")
 WHOLE_REPLY = re.compile(r"r:\$([A-Za-z_][A-Za-z0-9_]*):(.*)")
 PART = r"(\$[A-Za-z_][A-Za-z0-9_]*(?:\.[a-z]+)?|[^:.$]*)"
+VIEW = re.compile(rf"w:{PART}:{PART}:{PART}")
 REPLY = re.compile(rf"r:{PART}\.{PART}\.{PART}:(.*)")
 FIRST_NUMBER, NUMBERS_APART = 20, 4
 MOST_TOLD = 300
 # What a symbol alone stands for, where that isn't the handle that its call gave.
 IDENTIFIED = ("NtRequestPort", "NtRequestWaitReplyPort")
 RECEIVES = ("NtListenPort", "NtReplyWaitReceivePort")
-SPELLED_AS_HEX = ("ctx", "access", "base")
+SPELLED_AS_HEX = ("ctx", "access", "base", "target", "vbase")
+# A word of a trace in which a name or a symbol stands.
+WITH_NAMES = re.compile(r"[@$]|r:[@$]|w:.*\$|.*\.[@$]")
 OF_MESSAGE = {"process": "process", "thread": "thread", "id": "message_id"}
 
 
@@ -79,7 +82,7 @@ class Trace:
     def _translated(self, text):
         """The script's line for a line of the trace."""
         words = [] if text.startswith("#") else text.split(" ")
-        if not any(it.startswith(("@", "$", "r:@", "r:$")) or ".@" in it or ".$" in it for it in words):
+        if not any(map(WITH_NAMES.match, words)):
             self._learn([it for it in words if it])
             return text
         found = BINDING.fullmatch(text)
@@ -94,7 +97,7 @@ class Trace:
 
     def _learn(self, words):
         """Keeps the process of a thread that a directive makes."""
-        places = script_lines.DIRECTIVES_OF_THREADS.get(words[0]) if len(words) == 3 else None
+        places = script_lines.DIRECTIVES_OF_THREADS.get(words[0]) if len(words) in (3, 4) else None
         if places:
             process, thread = (script_lines.number(words[it]) for it in places)
             self.process_of.setdefault(thread, process)
@@ -127,6 +130,9 @@ class Trace:
         if parts:
             process, thread, identifier, rest = parts.groups()
             return f"r:{self._word(process)}.{self._word(thread)}.{self._identifier(identifier)}:{rest}"
+        view = VIEW.fullmatch(word)
+        if view:
+            return ":".join(["w", *(self._word(it) for it in view.groups())])
         if word.startswith("@"):
             if word not in self.numbers:
                 raise self._wrong(f"{word} is unknown: no line above makes it")

@@ -11,11 +11,12 @@ from typing import Optional, Tuple
 from ntlpc_tool import inputs, message
 
 FILE = "a transcript's file, or - for the standard input"
-OUTLINE = re.compile(r"(\d{1,19}) ([*~]?)(\d{1,19}|-) (\w+)(?: (\w+))?((?: \w+=\w*)*)")
+OUTLINE = re.compile(r"(\d{1,19}) ([*~]?)(\d{1,19}|-) (\w+)(?: (\w+))?((?: \w+=[\w,-]*)*)")
 CLOSING = re.compile(r"(end|stop)((?: (?:0|[1-9][0-9]{0,18}))*)")
 CLOSING_NUMBERS = {"end": ("LINES", "ENTRIES", "OBJECTS"), "stop": ("LINE", "KIND")}
 KINDS = ("answer", "wait", "wake", "died", "busy", "nothread", "directive")
 DECIMAL, HEX8, BYTES = "0|[1-9][0-9]*", "[0-9a-f]{8}", "(?:[0-9a-f]{2})*"
+SID = f"S-1(?:-(?:{DECIMAL})){{2,16}}"
 HEADER = "[0-9a-f]{%d}" % (2 * message.HEADER_SIZE)
 # The fields: the form of each value, and how it is told.
 FIELDS = {
@@ -29,6 +30,12 @@ FIELDS = {
     "base": (HEX8, "8 hexadecimal digits in lower case"),
     "size": (DECIMAL, "a decimal number"),
     "data": (BYTES, "bytes, each as 2 hexadecimal digits in lower case"),
+    "target": (HEX8, "8 hexadecimal digits in lower case"),
+    "vbase": (HEX8, "8 hexadecimal digits in lower case"),
+    "vsize": (DECIMAL, "a decimal number"),
+    "user": (SID, "a SID"),
+    "groups": (f"(?:{SID}(?:,{SID}){{0,15}})?", "SIDs, at most 16, with commas between them"),
+    "level": (DECIMAL, "a decimal number"),
     "type": ("[a-z]+", "a word in small letters"),
     "access": (HEX8, "8 hexadecimal digits in lower case"),
     "handles": (DECIMAL, "a decimal number"),

@@ -42,6 +42,9 @@ def word_in(word, kind):
     if kind in ("H", "H|self") and re.fullmatch(r"0|[1-9]\d{0,9}|0x[0-9A-Fa-f]{1,8}", word):
         value = int(word, 0)
         return str(handle_in(value)) if value < 1 << 32 else word
+    view = re.fullmatch(r"w:([^:]*)(:[^:]*:[^:]*)", word)
+    if kind == "VIEW" and view:
+        return f"w:{word_in(view[1], 'H')}{view[2]}"
     found = re.fullmatch(r"r:(\w+\.\w+)\.(0|[1-9]\d{0,9}|0x[0-9A-Fa-f]{1,8}):(.*)", word)
     if kind in ("MSG", "[MSG]") and found and int(found[2], 0) < 1 << 32:
         return f"r:{found[1]}.{identifier_in(int(found[2], 0))}:{found[3]}"

@@ -155,6 +155,9 @@ class Forms(unittest.TestCase):
                     named[key] = row[0].strip("`")
         # What the page tells in words: a further word, and that refuse, same or self may stand in a place.
         plain = {
+            "boot": "boot PID TID [TOKEN]",
+            "token": "token TOKEN USER [GROUP] ..",
+            "NtCreatePort": "TID NtCreatePort NAME [DACL]",
             "NtReplyWaitReceivePort": "TID NtReplyWaitReceivePort H [MSG]",
             "NtAcceptConnectPort": "TID NtAcceptConnectPort CTX MSG accept|refuse VIEW",
             "NtDuplicateObject": "TID NtDuplicateObject H ACCESS|same",

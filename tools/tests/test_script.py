@@ -57,6 +57,15 @@ class Lines(unittest.TestCase):
     def test_a_handle(self):
         self.assertEqual(self.of(BOOT, CREATE, ("@main NtListenPort $port", None)), "24 NtListenPort 4")
 
+    def test_a_view_that_is_offered(self):
+        section = ["$section = @main NtCreateSection 4096 4", "24 NtCreateSection 00000000 h=8"]
+        connect = ("@main NtConnectPort \\P - w:$section:0:0x1000 -", None)
+        self.assertEqual(self.of(BOOT, CREATE, section, connect), "24 NtConnectPort \\P - w:8:0:0x1000 -")
+        told = "24 NtMapViewOfSection 00000000 base=00010000 size=4096"
+        mapped = ["$view = @main NtMapViewOfSection $section 0 0 4", told]
+        connect = ("@main NtConnectPort \\P - w:8:0:$view.size -", None)
+        self.assertEqual(self.of(BOOT, CREATE, section, mapped, connect), "24 NtConnectPort \\P - w:8:0:4096 -")
+
     def test_an_identifier(self):
         sent = ["$sent = @main NtRequestPort $port d:61", "24 NtRequestPort 00000000 id=1"]
         self.assertEqual(

@@ -83,6 +83,37 @@ class Show(support.WithFolder):
             ],
         )
 
+    def test_fields_of_views(self):
+        text = b"1 24 NtAcceptConnectPort 00000000 h=8 base=00010000 target=00020000 vbase=00030000 vsize=4096\n"
+        told = [" ".join(it.split()) for it in support.run("show", source=text).stdout.splitlines()]
+        wanted = [
+            "handle 8",
+            "first address 00010000",
+            "at the other side 00020000",
+            "the other's view 00030000",
+            "size of it 4096",
+        ]
+        self.assertEqual(told[1:6], wanted)
+
+    def test_fields_of_tokens(self):
+        text = (
+            b"1 24 NtQueryInformationToken 00000000 user=S-1-5-18\n"
+            b"2 24 NtQueryInformationToken 00000000 groups=S-1-5-32-544,S-1-5-21-7\n"
+            b"3 24 NtQueryInformationToken 00000000 groups=\n"
+            b"4 24 NtQueryInformationToken 00000000 level=2\n"
+        )
+        told = [" ".join(it.split()) for it in support.run("show", source=text).stdout.splitlines()]
+        self.assertEqual(
+            [it for it in told if it and "NtQuery" not in it][:5],
+            [
+                "user S-1-5-18 (the local system)",
+                "groups S-1-5-32-544 (the administrators)",
+                "S-1-5-21-7",
+                "groups none",
+                "level 2 (impersonation)",
+            ],
+        )
+
     def test_a_range_table(self):
         head = "0c002400010018002000000024000000020000000000000"
         text = f"1 24 NtListenPort 00000000 msg={head}00100000000000100{10:02x}000000\n".encode()

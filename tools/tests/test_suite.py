@@ -261,6 +261,24 @@ class Names(unittest.TestCase):
         told = names.of_got(transcript.read(self.WANTED.replace(b"id=1", b"id=258"))).splitlines()
         self.assertEqual(told[7], b"28 NtReplyPort 4 m:01001900000000001400000018000000020100000000000041")
 
+    OFFER = (
+        b"boot 20 24\n24 NtCreateSection 4096 4\n24 NtConnectPort \\P - w:4:0:0 -\n"
+        b"24 NtConnectPort \\P - w:0x8:0:0 -\n"
+    )
+    REFUSED = (
+        b"1 - boot 00000000\n2 24 NtCreateSection 00000000 h=4\n3 24 NtConnectPort c0000034\n"
+        b"4 24 NtConnectPort c0000008\nend 4 4 3\n"
+    )
+
+    def test_the_section_of_a_view_has_the_programs_name(self):
+        names = own_names.Names(self.OFFER, transcript.read(self.REFUSED))
+        told = names.of_got(transcript.read(self.REFUSED.replace(b"h=4", b"h=8"))).splitlines()
+        self.assertEqual(told[2], b"24 NtConnectPort \\P - w:8:0:0 -")
+        self.assertEqual(told[3], b"24 NtConnectPort \\P - w:12:0:0 -")
+        told = own_names.Symbols(self.OFFER, transcript.read(self.REFUSED)).trace().splitlines()
+        self.assertEqual(told[1:3], [b"$l2 = 24 NtCreateSection 4096 4", b"24 NtConnectPort \\P - w:$l2:0:0 -"])
+        self.assertEqual(told[3], b"24 NtConnectPort \\P - w:0x8:0:0 -")
+
     def test_symbols_stand_where_a_line_uses_what_another_gave(self):
         told = own_names.Symbols(self.SCRIPT, transcript.read(self.WANTED)).trace().splitlines()
         wanted = self.SCRIPT.splitlines()

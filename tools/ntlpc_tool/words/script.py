@@ -16,12 +16,15 @@ TRACE is a script whose lines may have names for processes and threads, and symb
 $NAME     alone is the handle that the call gave, also when a connect's wake gives it later; for a datagram or a request
           it is the identifier.
 $NAME.FIELD
-          is a field that the call or its wake has in the transcript: h, thread, id, ctx, base, size, access, handles,
-          pointers, max. Of a message that was received there are also id, process and thread.
+          is a field that the call or its wake has in the transcript: h, thread, id, ctx, base, size, target, vbase,
+          vsize, access, handles, pointers, max, level. Of a message that was received there are also id, process and
+          thread.
 r:$NAME:HEX
           names the client and the identifier of the message that the call received, or sent.
 r:P.T.M:HEX
           may have a name or a symbol for each of its three parts.
+w:$NAME:OFFSET:SIZE
+          is a view that is offered, of the section whose handle the call gave. Each part may be a symbol.
 
 A name is letters, digits and `_`, and begins with no digit. Each is bound once. All other words stay as they are, also
 paths, and so does a line without names and symbols. A carriage return at a line's end is left out. The program ntlpc is
