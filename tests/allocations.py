@@ -1,5 +1,5 @@
 #!/usr/bin/env python3
-"""Refuses each allocation of the program in turn, over the examples.
+"""Refuses each allocation of the program in turn, over the examples and the scripts of tests/worked.
 
     tests/allocations.py PROGRAM
 
@@ -20,6 +20,7 @@ sys.dont_write_bytecode = True
 from failing import tried
 
 ROOT = pathlib.Path(__file__).resolve().parent.parent
+FOLDERS = "examples", "tests/worked"
 SMALLEST = ROOT / "examples" / "first-request.script"
 TOLD = re.compile(r"in a replay of `examples/first-request\.script` these are (\d+)\b")
 OUT_OF_MEMORY = 5
@@ -61,7 +62,7 @@ def refusals(program, words, source, status, text):
 def checks(program):
     """All checks: each with its name and what it found wrong."""
     page = (ROOT / "docs" / "PROOFS.md").read_text(encoding="utf-8")
-    for script in sorted((ROOT / "examples").glob("*.script")):
+    for script in (it for folder in FOLDERS for it in sorted((ROOT / folder).glob("*.script"))):
         text = script.with_suffix(".transcript").read_bytes()
         status = 2 if text.splitlines()[-1].startswith(b"stop ") else 0
         count, wanting, wrong = refusals(program, ["replay"], script.read_bytes(), status, text)

@@ -10,7 +10,7 @@ FUNCTION = re.compile(r"\bfn (\w+)")
 CLAUSE = re.compile(r"^\s*ensures (\w+) \{")
 OWNER = re.compile(r"^(?:impl(?:<.*?>)? (?:\w+(?:<.*?>)? for )?|pub trait )(\w+)")
 # A row that is looked for by the name that a handle has. It stands, as a law says, so this refuses nothing.
-STANDING_ROW = re.compile(r"found_or \((?:port_row|section_row|first \(is_born_(?:thread|process)) [^\n]*")
+STANDING_ROW = re.compile(r"found_or \((?:port_row|section_row|token_row|first \(is_born_(?:thread|process)) [^\n]*")
 # How the name space is walked: what each of its calls refuses, in order. `walk` is met from the root on.
 FORM = ["PathSyntax", "NameInvalid"]
 WALK = [*FORM, "PathNotFound", "NameInvalid"]
@@ -90,7 +90,7 @@ def once(found):
 def services():
     """The definition of each call by the call's name, `NtClose`, and of each directive by its word."""
     text = text_of("lpc_model", "specs", "antt")
-    calls = re.findall(r"^service_of w by \(?[\w ]+\)? = (\w+) w by", text, re.M)
+    calls = re.findall(r"^service_of w by \(?[\w ]+\)? =\s+(\w+) w by", text, re.M)
     lines = re.findall(r"^bare_steps \((\w+) [\w ]+\) w = directed word\.\w+ \((\w+) w ", text, re.M)
     return {camel(it): it for it in calls}, dict(lines)
 

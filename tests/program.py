@@ -33,10 +33,12 @@ FIRST, FIRST_TOLD = b"boot 20 24\n", b"1 - boot 00000000\n"
 LINES, TOLD = FIRST + b"24 NtCreatePort -\n", FIRST_TOLD + b"2 24 NtCreatePort 00000000 h=4\n"
 EXAMPLE = (ROOT / "examples" / "first-request.script").read_bytes()
 # How many lines are told at least where as many KiB are left behind the program's start.
-LEFT, TOLD_AT_LEAST = 16_000, 1_000
+LEFT, TOLD_AT_LEAST = 40_000, 1_000
 WORLDS = 10
-# The lengths of scripts that are compared, and how many times longer than its lines tell the longer one may take.
-SHORT_SCRIPT, LONG_SCRIPT, TIMES_LONGER = 10_000, 100_000, 3
+# The lengths of scripts that are compared, and how many times longer a line of the long one may take: it would take ten
+# times as long where the cost grew with the square. Where each line leaves rows, the memory that the machine hands out
+# page by page makes it up to four times as long on some machines.
+SHORT_SCRIPT, LONG_SCRIPT, TIMES_LONGER, TIMES_LONGER_WITH_ROWS = 10_000, 100_000, 3, 6
 RUNS = 5
 
 
@@ -493,19 +495,19 @@ def growth():
         bench.small_views,
         bench.large_views,
         bench.described,
-        bench.boots,
     )
     for script in scripts:
-        yield f"time grows with the lines: {script.__name__}", grows_with_lines(script)
+        yield f"time grows with the lines: {script.__name__}", grows_with_lines(script, TIMES_LONGER)
+    yield "time grows with the lines: boots", grows_with_lines(bench.boots, TIMES_LONGER_WITH_ROWS)
     yield "time doesn't grow with a section's size", grows_not_with_sections
 
 
-def grows_with_lines(script):
-    """A check that compares what a short and a long script take for a line."""
+def grows_with_lines(script, times):
+    """A check that a line of a long script takes at most so many times as long as one of a short script."""
 
     def check(program):
         short, long = (processor_seconds(program, list(script(lines))) / lines for lines in (SHORT_SCRIPT, LONG_SCRIPT))
-        if long > TIMES_LONGER * short:
+        if long > times * short:
             raise Wrong(f"a line takes {long / short:.1f} times as long in {LONG_SCRIPT:,} as in {SHORT_SCRIPT:,}")
 
     return check
@@ -521,16 +523,16 @@ def grows_not_with_sections(program):
 
 
 def processor_seconds(program, lines):
-    """The processor seconds of some runs over the same script, together."""
+    """The least processor seconds that a run over the script took, of some runs: what else the machine does adds to it."""
     script = [line.encode() + b"\n" for line in lines]
-    taken = 0
+    taken = []
     for _ in range(RUNS):
         with open(os.devnull, "wb") as sink, program.started(script, sink) as child:
             _, status, used = os.wait4(child.pid, 0)
             child.returncode = os.waitstatus_to_exitcode(status)
         Ended(child.returncode).should(0)
-        taken += used.ru_utime + used.ru_stime
-    return taken
+        taken.append(used.ru_utime + used.ru_stime)
+    return min(taken)
 
 
 def large_worlds():

@@ -8,7 +8,8 @@
 - The refusals of each call and directive stand there in the order of its definition's tests, and so do those that
   several calls share.
 - Each limit that the pages name is that of the profile, and docs/SERVICES.md names no number that isn't one.
-- The worked tables of README.md and docs/CONNECTIONS.md have the lines of the scripts and transcripts in examples/.
+- The worked tables of README.md, docs/CONNECTIONS.md, docs/SECURITY.md and docs/VIEWS.md have the lines of the scripts
+  and transcripts in examples/.
 - Each function, clause and law that docs/PROOFS.md names as carrying a claim stands in that crate, and each clause of
   the top call is named there, in one claim.
 - Each name that the pages on definitions, proofs and code have as code stands below crates/, or is a file.
@@ -32,9 +33,9 @@ SERVICES = (pages.DOCS / "SERVICES.md").read_text(encoding="utf-8")
 STATUS = re.compile(r"\b[0-9A-F]{8}\b")
 CODE = re.compile(r"`([^`]*)`")
 # How many there are: who adds one changes the number.
-STATUS_COUNT, SHARED_COUNT, CALL_COUNT, DIRECTIVE_COUNT, LIMIT_COUNT = 26, 5, 24, 4, 9
-WORKED_ROWS = {"README.md": 8, "docs/CONNECTIONS.md": 30}
-CLAIM_COUNT = 57
+STATUS_COUNT, SHARED_COUNT, CALL_COUNT, DIRECTIVE_COUNT, LIMIT_COUNT = 29, 5, 29, 5, 9
+WORKED_ROWS = {"README.md": 8, "docs/CONNECTIONS.md": 30, "docs/SECURITY.md": 45, "docs/VIEWS.md": 22}
+CLAIM_COUNT = 58
 NAMED_IN = {"ARCHITECTURE.md": 700, "DECISIONS.md": 150, "DEFINITIONS.md": 1_300, "ISOLATION.md": 200, "PROOFS.md": 400}
 # What the pages name that is none of these: a tool with its words.
 PLACEHOLDERS = ("gate_seconds",)
@@ -44,6 +45,8 @@ SHARED = {"handle": "port_test", "message": "message_test", "client": "client_te
 WORKED = {
     "README.md": [("first-request", 1, 6)],
     "docs/CONNECTIONS.md": [("connect-and-ask", 1, 13), ("connect-and-ask", 14, 19), ("two-clients", 14, 17)],
+    "docs/SECURITY.md": [("a-server-that-acts-for-its-client", 9, 47)],
+    "docs/VIEWS.md": [("a-connection-with-views", 6, 25)],
 }
 
 
@@ -154,6 +157,10 @@ def sentences():
         f"| C0000040 | SIZE is above {sections} |",
         f"process made would have more than {sections} together,",
         f"| C0000220 | OFFSET is no multiple of {page} |",
+        f"| C0000220 | VIEW is given, and OFFSET is no multiple of {page} |",
+        f"| C0000220 | VIEW is given for `accept`, and OFFSET is no multiple of {page} |",
+        f"| C0000044 | VIEW is given, and the process has {views} views, or no place is left for the view |",
+        f"the caller's process or the client's would have more than {views}, or no place is left for one of them |",
         f"| C0000044 | the process has {views} views, or no place is left for the view |",
         f"| C000000D | LEN is 0, or above {memory} |",
         f"| C000000D | HEX has more than {memory} bytes |",
