@@ -1,4 +1,4 @@
-"""A plain implementation of the profile, but for sections and views, from the pages, with rules that can be broken.
+"""A plain implementation of the profile, from the pages, with rules to be broken; no sections, views or tokens.
 
     python3 tools/tests/plain.py [--wrong NAME] replay < SCRIPT
 

@@ -1,6 +1,6 @@
 """What the plain implementation goes by: statuses, paths, range tables, and the rules that can be broken."""
 
-# The calls that the plain implementation doesn't have; `hunt` makes no lines of them.
+# The calls and directives that the plain implementation doesn't have; `hunt` makes no lines of them.
 LEFT_OUT = {
     "NtCreateSection",
     "NtMapViewOfSection",
@@ -9,6 +9,12 @@ LEFT_OUT = {
     "NtWriteVirtualMemory",
     "NtReadRequestData",
     "NtWriteRequestData",
+    "token",
+    "NtImpersonateClientOfPort",
+    "NtSetInformationThread",
+    "NtOpenThreadToken",
+    "NtOpenProcessToken",
+    "NtQueryInformationToken",
 }
 WRONGS = {
     "newest-first": "a receive takes the newest message of the queue",

@@ -14,7 +14,7 @@ PAGE = (support.ROOT / "docs" / "CONFORMANCE.md").read_text(encoding="utf-8")
 SERVE = [sys.executable, str(support.TOOLS / "ntlpc-tool"), "serve"]
 SHORT = "boot/a-process-with-its-first-thread"
 # Six scripts that the example passes.
-FINE = ("--only", "boot/a-[pt]*", "--only", "thread/a-[mt]*")
+FINE = ("--only", "boot/a-[pt]*[de]", "--only", "thread/a-[mt]*")
 # A harness: `answer` makes a transcript of a script, and `number` is that of the script in this process, from 1.
 HARNESS = """
 import os, subprocess, sys, time

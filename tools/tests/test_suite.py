@@ -84,7 +84,7 @@ class Skips(unittest.TestCase):
     def test_what_is_not_built_is_left_out_and_counted_apart(self):
         ran = run("--built", "--only", "thread/*", *EXAMPLE)
         self.assertEqual((ran.returncode, last(ran)), (1, "8 passed, 1 failed, 2 skipped"))
-        self.assertIn("left out: what needs dir, link, NtConnectPort, ", ran.stdout)
+        self.assertIn("left out: what needs token, dir, link, NtConnectPort, ", ran.stdout)
         self.assertEqual(ran.stdout.count("of the transcript differs"), 1)
 
     def test_without_takes_names_and_may_stand_twice(self):
@@ -105,7 +105,7 @@ class Skips(unittest.TestCase):
 
     def test_a_program_that_breaks_down_is_not_taken_for_one_without_calls(self):
         ran = run("--built", "--only", "boot/*", "false")
-        self.assertEqual((ran.returncode, last(ran)), (1, "0 passed, 9 failed, 0 skipped"))
+        self.assertEqual((ran.returncode, last(ran)), (1, "0 passed, 13 failed, 0 skipped"))
 
     def test_it_is_told_that_scripts_can_be_left_out(self):
         ran = run("--only", "thread/*", *EXAMPLE)
@@ -115,7 +115,7 @@ class Skips(unittest.TestCase):
 
     def test_only_may_stand_twice(self):
         whole = sum(int(last(run("--only", it, *EXAMPLE)).split()[0]) for it in (SHORT, "lines/an-empty-script"))
-        both = run("--only", SHORT, "--only", "lines/an-empty-*", "--only", "boot/a-process-with-*", *EXAMPLE)
+        both = run("--only", SHORT, "--only", "lines/an-empty-*", "--only", "boot/a-process-with-its-*", *EXAMPLE)
         self.assertEqual((whole, last(both)), (2, "2 passed, 0 failed"))
 
 
