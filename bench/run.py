@@ -153,6 +153,22 @@ def described(lines):
         yield "36 NtUnmapViewOfSection 0x10000"
 
 
+def impersonations(lines):
+    """A server acts for the client whose request it took, opens that token, asks who it is, and acts as itself again."""
+    yield from ("token someone S-1-5-21-7 S-1-1-0", "boot 20 24", "boot 32 36 someone", "24 NtCreatePort \\S")
+    yield from ("36 NtConnectPort \\S q:3:s - -", "24 NtListenPort 4", "24 NtAcceptConnectPort 7 r:32.36.1: accept -")
+    yield "24 NtCompleteConnectPort 8"
+    for identifier in range(2, 2 + (lines - 8) // 8):
+        yield "36 NtRequestWaitReplyPort 4 d:4142"
+        yield "24 NtReplyWaitReceivePort 4"
+        yield f"24 NtImpersonateClientOfPort 8 r:32.36.{identifier}:"
+        yield "24 NtOpenThreadToken"
+        yield "24 NtQueryInformationToken 12 2"
+        yield "24 NtClose 12"
+        yield "24 NtSetInformationThread 5 null"
+        yield f"24 NtReplyPort 8 r:32.36.{identifier}:43"
+
+
 def boots(lines):
     """Processes are made, and stay: each with a thread and an empty table of handles."""
     for process in range(1, lines + 1):
@@ -226,6 +242,7 @@ def main():
             (small_views, LONG),
             (large_views, LONG),
             (described, LONG),
+            (impersonations, LONG),
             (boots, LONG),
             (connects, SHORT),
         )

@@ -495,6 +495,7 @@ def growth():
         bench.small_views,
         bench.large_views,
         bench.described,
+        bench.impersonations,
     )
     for script in scripts:
         yield f"time grows with the lines: {script.__name__}", grows_with_lines(script, TIMES_LONGER)
