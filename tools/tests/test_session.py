@@ -97,9 +97,9 @@ class Runs(WithHarness):
 
     def test_one_that_hangs_is_ended_and_started_anew(self):
         harness, count = self.starts("number == 2 and time.sleep(60)")
-        ran = run("--timeout", "1", "--shard", "1/2", *FINE, "--session", *harness)
+        ran = run("--timeout", "5", "--shard", "1/2", *FINE, "--session", *harness)
         self.assertEqual((ran.returncode, last(ran)), (1, "2 passed, 1 failed"))
-        self.assertIn("    it did not say `done` within 1 seconds, and was ended\n", ran.stdout)
+        self.assertIn("    it did not say `done` within 5 seconds, and was ended\n", ran.stdout)
         self.assertNotIn("rule:", ran.stdout)
         self.assertEqual(len(count.read_text().splitlines()), 2)
 
