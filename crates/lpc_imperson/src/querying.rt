@@ -1,14 +1,14 @@
 // The call that tells of a token.
-ghost use Rattle.std.specs.Prelude.{◌≡◌, ◌<◌, ◌+◌, [], ◌∷◌, Err, IfOk, IfSome, MatchResult, Ok, option_map, true};
+ghost use Rattle.std.specs.Prelude.{◌≡◌, ◌<◌, ◌+◌, [], ◌∷◌, Err, IfOk, IfSome, MatchResult, Ok, false, option_map, true};
 ghost use Rattle.lpc_base.specs.declared.limits.TheConstants.{LINES_LIMIT};
 ghost use Rattle.lpc_imperson.specs.Calls.{row_shown, telling};
+ghost use Rattle.lpc_imperson.specs.Told.{is_plain, told_fields};
 ghost use Rattle.lpc_model.specs.Fields as fields;
 ghost use Rattle.lpc_model.specs.Impersonation as impersonation;
 ghost use Rattle.lpc_model.specs.Lines.{query_information_token};
 ghost use Rattle.lpc_rows.specs.Called.{Served, service};
 ghost use Rattle.lpc_rows.specs.Clauses.{Answers};
 ghost use Rattle.lpc_rows.specs.Ready.{HasRoom, caller, is_ready};
-ghost use Rattle.lpc_steps.specs.Clauses.{has_no_read};
 
 use arrayvec::ArrayVec;
 use lpc_base::Status;
@@ -29,6 +29,13 @@ const TOKEN_GROUPS: u32 = 2;
 
 const TOKEN_IMPERSONATION_LEVEL: u32 = 9;
 
+/// What a token tells by a class: a field, or its groups, which lie in the list of entries then.
+#[derive(Drop)]
+enum Told {
+    Fields(Fields),
+    Groups(ArrayVec<Sid, 16>),
+}
+
 /// One field.
 fn one_field(name: FieldName, value: Value) -> Fields
     ensures { result ≡ record { name = name; value = value } ∷ [] }
@@ -42,16 +49,9 @@ fn one_field(name: FieldName, value: Value) -> Fields
 fn user_field(token: &Token) -> Fields
     ensures { result ≡ fields.user token.now ∷ [] }
 {
-    let mut sids: ArrayVec<Sid, 16> = ArrayVec::new();
+    let mut sids: ArrayVec<Sid, 1> = ArrayVec::new();
     sids.push(token.copy().user);
     one_field(FieldName::User, Value::Sids(sids))
-}
-
-/// The groups of a token.
-fn groups_field(token: &Token) -> Fields
-    ensures { result ≡ fields.groups token.now ∷ [] }
-{
-    one_field(FieldName::Groups, Value::Sids(token.copy().groups))
 }
 
 /// The level of an impersonation token.
@@ -62,16 +62,16 @@ fn level_field(level: Level) -> Fields
 }
 
 /// What a token tells by a class: None for another class, and for the level of a process's token.
-fn told_of(row: &TokenRow, class: u32) -> Option<Fields>
-    ensures told { result ≡ option_map (λ field. field ∷ [])
+fn told_of(row: &TokenRow, class: u32) -> Option<Told>
+    ensures told { option_map told_fields result ≡ option_map (λ field. field ∷ [])
         (impersonation.told_of (row_shown row.now) class) }
-    ensures plain { IfSome result (λ fields. has_no_read fields ≡ true) }
+    ensures plain { IfSome result (λ told. is_plain told ≡ true) }
 {
     match class {
-        TOKEN_USER => Some(user_field(&row.token)),
-        TOKEN_GROUPS => Some(groups_field(&row.token)),
+        TOKEN_USER => Some(Told::Fields(user_field(&row.token))),
+        TOKEN_GROUPS => Some(Told::Groups(row.token.copy().groups)),
         TOKEN_IMPERSONATION_LEVEL => match row.level {
-            Some(level) => Some(level_field(level)),
+            Some(level) => Some(Told::Fields(level_field(level))),
             None => None,
         },
         _ => None,
@@ -92,18 +92,18 @@ fn token_test(world: &World, tid: u32, handle: u32) -> Result<&TokenRow, Status>
 /// What is told of the token of a handle by a class: the fault of the handle, INVALID_PARAMETER where the token tells
 /// nothing by the class.
 #[tactic(auto, unfolding(lpc_model::specs::Impersonation::nt_query_information_token))]
-fn told_at(world: &World, tid: u32, handle: u32, class: u32) -> Result<Fields, Status>
+fn told_at(world: &World, tid: u32, handle: u32, class: u32) -> Result<Told, Status>
     requires { is_ready world.now.rows tid ≡ true }
     ensures told { let found = service world.now.rows tid
         (query_information_token handle class) in
         MatchResult result
-        (λ fields. found ≡ Ok (telling (caller world.now.rows tid) fields))
+        (λ told. found ≡ Ok (telling (caller world.now.rows tid) (told_fields told)))
         (λ s. found ≡ Err s) }
-    ensures plain { IfOk result (λ fields. has_no_read fields ≡ true) }
+    ensures plain { IfOk result (λ told. is_plain told ≡ true) }
 {
     let row = token_test(world, tid, handle)?;
     match told_of(row, class) {
-        Some(fields) => Ok(fields),
+        Some(told) => Ok(told),
         None => Err(INVALID_PARAMETER),
     }
 }
@@ -113,7 +113,7 @@ fn told_at(world: &World, tid: u32, handle: u32, class: u32) -> Result<Fields, S
 ///
 /// Refusals, in this order: INVALID_HANDLE where no handle of the caller's process has the value; OBJECT_TYPE_MISMATCH
 /// where it names no token; ACCESS_DENIED where it lacks the right; INVALID_PARAMETER for another class, and for class 9
-/// of a process's token. It takes no memory.
+/// of a process's token. It takes no memory. No entry of `out` has the bytes of a memory read, or a token's groups.
 pub fn nt_query_information_token(
     world: &mut World,
     by: u32,
@@ -124,6 +124,7 @@ pub fn nt_query_information_token(
     requires ready { is_ready world.old.rows by ≡ true }
     requires room { HasRoom world.old out.old }
     requires calls { world.old.calls < LINES_LIMIT }
+    requires first { out.old.reads ≡ false }
     ensures served { let call = query_information_token handle class in
         Served by call result world.old world.new out.old out.new }
     ensures spare { out.new.spare + 1 ≡ out.old.spare }
@@ -132,13 +133,17 @@ pub fn nt_query_information_token(
     let caller = world.caller(by);
     world.begin_call();
     match told_at(world, by, handle, class) {
-        Ok(fields) => {
+        Ok(Told::Fields(fields)) => {
             out.push(Entry::Answer {
                 tid: caller.number,
                 call: CallName::NtQueryInformationToken,
                 status: SUCCESS,
                 fields,
             });
+            Outcome::Answered(SUCCESS)
+        }
+        Ok(Told::Groups(groups)) => {
+            out.push_groups(caller.number, CallName::NtQueryInformationToken, groups);
             Outcome::Answered(SUCCESS)
         }
         Err(status) => refuse(

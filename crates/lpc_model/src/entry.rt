@@ -3,7 +3,7 @@ ghost use Rattle.std.specs.Prelude.{◌≡◌, ◌+◌, ◌<◌, ◌≤◌, ◌+
 ghost use Rattle.std.specs.Option.{option_map, option_copied};
 ghost use Rattle.lpc_base.specs.Room.{grown_room};
 ghost use Rattle.lpc_base.specs.declared.status.TheConstants.{SUCCESS};
-ghost use Rattle.lpc_model.specs.Listed.{shown_entry, has_read};
+ghost use Rattle.lpc_model.specs.Listed.{aside_of, shown_entry, has_read};
 ghost use Rattle.lpc_model.specs.Text.{call_text, word_text};
 
 use arrayvec::ArrayVec;
@@ -226,8 +226,10 @@ pub enum Value {
     Bytes(ArrayVec<u8, 256>),
     /// The bytes of a memory read, which lie in the list of entries; printed as those bytes.
     Read,
-    /// SIDs, printed as their text, parted by commas.
-    Sids(ArrayVec<Sid, 16>),
+    /// A SID or none, printed as its text.
+    Sids(ArrayVec<Sid, 1>),
+    /// The groups of a token, which lie in the list of entries; printed as their text, parted by commas.
+    TokenGroups,
 }
 
 /// A field of an entry.
@@ -365,12 +367,13 @@ pub enum Entry {
 
 /// The entries of a step in order, and spare room for more.
 ///
-/// The bytes of a memory read are too many for a field, so they lie in one buffer here and the field has a mark in
-/// their place. Contracts see the list with the bytes where they stand.
+/// The bytes of a memory read and the groups of a token are too many for a field, so they lie aside here, at most one of
+/// the two, and the field has a mark in their place. Contracts see the list with them where they stand.
 #[derive(Drop)]
 pub struct Entries {
     list: Vec<Entry>,
     read: Vec<u8>,
+    groups: ArrayVec<Sid, 16>,
 }
 
 impl Model for Entries {
@@ -381,8 +384,10 @@ impl Model for Entries {
     ghost Value = { Listed };
 
     ghost view = { λ e. record {
-      list = map (shown_entry e.read.items) e.list.items;
+      list = map (shown_entry (record { read = e.read.items; groups = e.groups.items }))
+          e.list.items;
       read = e.read.items;
+      groups = e.groups.items;
       reads = list_any has_read e.list.items;
       spare = vec_capacity e.list - vec_len e.list;
     } };
@@ -390,7 +395,8 @@ impl Model for Entries {
     ghost invariant = { λ e.
         (4096 ≤ vec_capacity e.read)
         × (length e.read.items ≤ 4096)
-        × (list_any has_read e.list.items ≡ false → e.read.items ≡ []) };
+        × (list_any has_read e.list.items ≡ false → e.read.items ≡ [])
+        × (list_any has_read e.list.items ≡ false → e.groups.items ≡ []) };
 }
 
 impl Entries {
@@ -400,6 +406,7 @@ impl Entries {
     pub fn new(alloc: Global) -> Result<Entries, OutOfMemory>
         ensures list { IfOk result (λ e. e.list ≡ []) }
         ensures read { IfOk result (λ e. e.read ≡ []) }
+        ensures groups { IfOk result (λ e. e.groups ≡ []) }
         ensures reads { IfOk result (λ e. e.reads ≡ false) }
         ensures spare { IfOk result (λ e. e.spare ≡ 0) }
     {
@@ -407,7 +414,11 @@ impl Entries {
         let Ok(read) = Vec::with_capacity(alloc, MEMORY_LIMIT) else {
             return Err(OutOfMemory);
         };
-        Ok(Entries { list, read })
+        Ok(Entries {
+            list,
+            read,
+            groups: ArrayVec::new(),
+        })
     }
 
     /// Makes spare room for so many more entries, which takes memory only where there is less of it. After want of
@@ -415,6 +426,7 @@ impl Entries {
     pub fn reserve(&mut self, more: usize) -> Result<(), OutOfMemory>
         ensures list { self.new.list ≡ self.old.list }
         ensures read { self.new.read ≡ self.old.read }
+        ensures groups { self.new.groups ≡ self.old.groups }
         ensures reads { self.new.reads ≡ self.old.reads }
         ensures room { OnOk result (more ≤ self.new.spare) }
         ensures least { self.old.spare ≤ self.new.spare }
@@ -434,13 +446,14 @@ impl Entries {
         self.list.capacity() - self.list.len()
     }
 
-    /// Adds an entry behind the others. There is spare room, and no field of the entry has the mark for the bytes of a
-    /// memory read.
+    /// Adds an entry behind the others. There is spare room, and no field of the entry has a mark, for the bytes of a
+    /// memory read or the groups of a token.
     pub fn push(&mut self, entry: Entry)
         requires room { 0 < self.old.spare }
         requires plain { has_read entry ≡ false }
         ensures list { self.new.list ≡ self.old.list ++ entry ∷ [] }
         ensures read { self.new.read ≡ self.old.read }
+        ensures groups { self.new.groups ≡ self.old.groups }
         ensures reads { self.new.reads ≡ self.old.reads }
         ensures spare { self.new.spare + 1 ≡ self.old.spare }
     {
@@ -448,7 +461,7 @@ impl Entries {
     }
 
     /// Adds the answer of a call that read these bytes: success, with the bytes as its one field. There is spare room,
-    /// there are at most 4096 bytes, and no entry of the list has a memory read.
+    /// there are at most 4096 bytes, and no entry of the list has a mark.
     pub fn push_read(&mut self, tid: u32, call: CallName, bytes: &[u8])
         requires room { 0 < self.old.spare }
         requires few { length bytes.now ≤ 4096 }
@@ -457,6 +470,7 @@ impl Entries {
             ((record { name = FieldName.Data; value = Value.Bytes (record { items = bytes.now }) })
             ∷ []) ∷ [] }
         ensures read { self.new.read ≡ bytes.now }
+        ensures groups { self.new.groups ≡ self.old.groups }
         ensures reads { self.new.reads ≡ true }
         ensures spare { self.new.spare + 1 ≡ self.old.spare }
     {
@@ -472,9 +486,32 @@ impl Entries {
         });
     }
 
-    /// The entries in order, with a mark where the bytes of a memory read stand.
+    /// Adds the answer of a call that told these groups of a token: success, with the groups as its one field. There is
+    /// spare room, and no entry of the list has a mark.
+    pub fn push_groups(&mut self, tid: u32, call: CallName, groups: ArrayVec<Sid, 16>)
+        requires room { 0 < self.old.spare }
+        requires first { self.old.reads ≡ false }
+        ensures list { self.new.list ≡ self.old.list ++ Entry.Answer tid call SUCCESS
+            ((record { name = FieldName.Groups; value = Value.Sids groups }) ∷ []) ∷ [] }
+        ensures read { self.new.read ≡ self.old.read }
+        ensures groups { self.new.groups ≡ groups.items }
+        ensures reads { self.new.reads ≡ true }
+        ensures spare { self.new.spare + 1 ≡ self.old.spare }
+    {
+        self.groups = groups;
+        let mut fields = Fields::none();
+        fields.add(FieldName::Groups, Value::TokenGroups);
+        self.list.push_reserved(Entry::Answer {
+            tid,
+            call,
+            status: status::SUCCESS,
+            fields,
+        });
+    }
+
+    /// The entries in order, with a mark where the bytes of a memory read or the groups of a token stand.
     pub fn list(&self) -> &[Entry]
-        ensures { map (shown_entry self.now.read) result.now ≡ self.now.list }
+        ensures { map (shown_entry (aside_of self.now)) result.now ≡ self.now.list }
     {
         &self.list
     }
@@ -488,14 +525,24 @@ impl Entries {
         &self.read
     }
 
+    /// The groups of the token that an entry tells of, none where no entry tells of any.
+    pub fn groups(&self) -> &[Sid]
+        ensures groups { result.now ≡ self.now.groups }
+        ensures none { self.now.reads ≡ false → result.now ≡ [] }
+    {
+        self.groups.as_slice()
+    }
+
     /// Empties the list; its room becomes spare.
     pub fn clear(&mut self)
         ensures list { self.new.list ≡ [] }
         ensures read { self.new.read ≡ [] }
+        ensures groups { self.new.groups ≡ [] }
         ensures reads { self.new.reads ≡ false }
         ensures spare { self.new.spare ≡ self.old.spare + length self.old.list }
     {
         self.list.clear();
         self.read.clear();
+        self.groups.clear();
     }
 }

@@ -11,7 +11,7 @@ use Rattle.lpc_model.specs.declared.entry.Entry.TheVariants.{Answer, Waits, Wake
 use Rattle.lpc_model.specs.declared.fault.LineFault.{LineFault}
 use Rattle.lpc_model.specs.Found.{objects}
 use Rattle.lpc_model.specs.Lines.{ScriptLine}
-use Rattle.lpc_model.specs.Listed.{shown_entry}
+use Rattle.lpc_model.specs.Listed.{Aside, shown_entry}
 use Rattle.lpc_model.specs.Script.{script_lines}
 use Rattle.lpc_model.specs.Run.{all_entries, first_state, line_step, numbered_line, run_of, said_from, said_in, trace, world_behind}
 use Rattle.lpc_model.specs.Transcript.{transcript}
@@ -199,39 +199,39 @@ storm_is count seed one two three four limit first second third fourth =
     ∙ ap (λ t. behind_storm t turns) (storm_append calm opening middle))))) in
     ap tallied (all ∙ ap (λ ls. behind_texts calm ls) (sym (lines_are lines (small_storm count seed limit)))) ∙ tallied_is (generated count seed)
 
--- One line: a count of entries doesn't look at the bytes of a memory read.
+-- One line: a count of entries doesn't look at what stands in place of marks.
 one_for : (Entry → Bool) → Entry → ℕ
 one_for p x = cond (p x) 1 0
 
-shown_same : (read : List ℕ) (p : Entry → Bool) → ((entry : Entry) → p (shown_entry read entry) ≡ p entry) → (entries : List Entry) → map (one_for p) (map (shown_entry read) entries) ≡ map (one_for p) entries
+shown_same : (aside : Aside) (p : Entry → Bool) → ((entry : Entry) → p (shown_entry aside entry) ≡ p entry) → (entries : List Entry) → map (one_for p) (map (shown_entry aside) entries) ≡ map (one_for p) entries
 unfolding one_for
-shown_same read p same [] = refl
-shown_same read p same (entry ∷ entries) = rw (same entry, shown_same read p same entries) refl
+shown_same aside p same [] = refl
+shown_same aside p same (entry ∷ entries) = rw (same entry, shown_same aside p same entries) refl
 
-count_shown : (read : List ℕ) (p : Entry → Bool) → ((entry : Entry) → p (shown_entry read entry) ≡ p entry) → (entries : List Entry) → count_by p (map (shown_entry read) entries) ≡ count_by p entries
+count_shown : (aside : Aside) (p : Entry → Bool) → ((entry : Entry) → p (shown_entry aside entry) ≡ p entry) → (entries : List Entry) → count_by p (map (shown_entry aside) entries) ≡ count_by p entries
 unfolding one_for
-count_shown read p same entries =
-    sym (sum-map (one_for p) (map (shown_entry read) entries)) ∙ (ap sum (shown_same read p same entries) ∙ sum-map (one_for p) entries)
+count_shown aside p same entries =
+    sym (sum-map (one_for p) (map (shown_entry aside) entries)) ∙ (ap sum (shown_same aside p same entries) ∙ sum-map (one_for p) entries)
 
-replied_same : (read : List ℕ) (entry : Entry) → is_replied (shown_entry read entry) ≡ is_replied entry
+replied_same : (aside : Aside) (entry : Entry) → is_replied (shown_entry aside entry) ≡ is_replied entry
 unfolding is_replied
-replied_same read (Answer tid call status fields) = refl
-replied_same read (Waits tid call fields) = refl
-replied_same read (Wakes tid call status fields) = refl
-replied_same read (Busy tid) = refl
-replied_same read (NoThread tid) = refl
-replied_same read (Died tid status) = refl
-replied_same read (Directive word status) = refl
+replied_same aside (Answer tid call status fields) = refl
+replied_same aside (Waits tid call fields) = refl
+replied_same aside (Wakes tid call status fields) = refl
+replied_same aside (Busy tid) = refl
+replied_same aside (NoThread tid) = refl
+replied_same aside (Died tid status) = refl
+replied_same aside (Directive word status) = refl
 
-missed_same : (read : List ℕ) (entry : Entry) → is_mismatch (shown_entry read entry) ≡ is_mismatch entry
+missed_same : (aside : Aside) (entry : Entry) → is_mismatch (shown_entry aside entry) ≡ is_mismatch entry
 unfolding is_mismatch
-missed_same read (Answer tid call status fields) = refl
-missed_same read (Waits tid call fields) = refl
-missed_same read (Wakes tid call status fields) = refl
-missed_same read (Busy tid) = refl
-missed_same read (NoThread tid) = refl
-missed_same read (Died tid status) = refl
-missed_same read (Directive word status) = refl
+missed_same aside (Answer tid call status fields) = refl
+missed_same aside (Waits tid call fields) = refl
+missed_same aside (Wakes tid call status fields) = refl
+missed_same aside (Busy tid) = refl
+missed_same aside (NoThread tid) = refl
+missed_same aside (Died tid status) = refl
+missed_same aside (Directive word status) = refl
 
 line_is : (t : Tally) (line : StormLine) → behind_storm t (line ∷ []) ≡ behind_text t (line_text line)
 unfolding behind_texts
@@ -250,16 +250,16 @@ line_stops (Some g) o p q r m s line text none some runs = absurd (cc)
 line_stops None None p q r m s line text none some runs = absurd (cc)
 line_stops None (Some f) p q r m s line text none some runs = rw (line_is (going p r m s) line, runs.0, runs.1) refl
 
-pub line_runs : (b o : Option LineFault) (p q : Progress) (r m s a c z : ℕ) (line : StormLine) (text read : List ℕ) (listed told : List Entry) → is_some b ≡ false → is_some o ≡ false → RunsLine (line_text line) o p q text
-    → told ≡ entries_told p (numbered_line (p.lines + 1) (line_text line)) → map (shown_entry read) listed ≡ told → a ≡ count_by is_replied listed → c ≡ count_by is_mismatch listed → z ≡ (s + sum text) % 2 ^ 32
+pub line_runs : (b o : Option LineFault) (p q : Progress) (r m s a c z : ℕ) (line : StormLine) (text : List ℕ) (aside : Aside) (listed told : List Entry) → is_some b ≡ false → is_some o ≡ false → RunsLine (line_text line) o p q text
+    → told ≡ entries_told p (numbered_line (p.lines + 1) (line_text line)) → map (shown_entry aside) listed ≡ told → a ≡ count_by is_replied listed → c ≡ count_by is_mismatch listed → z ≡ (s + sum text) % 2 ^ 32
     → record { at = q; fault = o; replies = r + a; mismatches = m + c; total = z } ≡ behind_storm (record { at = p; fault = b; replies = r; mismatches = m; total = s }) (line ∷ [])
-line_runs (Some g) o p q r m s a c z line text read listed told none clear runs tells shows x y w = absurd (cc)
-line_runs None (Some f) p q r m s a c z line text read listed told none clear runs tells shows x y w = absurd (cc)
-line_runs None None p q r m s a c z line text read listed told none clear runs tells shows x y w =
+line_runs (Some g) o p q r m s a c z line text aside listed told none clear runs tells shows x y w = absurd (cc)
+line_runs None (Some f) p q r m s a c z line text aside listed told none clear runs tells shows x y w = absurd (cc)
+line_runs None None p q r m s a c z line text aside listed told none clear runs tells shows x y w =
     let entries = (line_step p.rows runs.0).entries in
-    let all : map (shown_entry read) listed ≡ entries = shows ∙ (tells ∙ rw runs.1 refl) in
-    let one : a ≡ count_by is_replied entries = x ∙ (sym (count_shown read is_replied (replied_same read) listed) ∙ ap (λ es. count_by is_replied es) all) in
-    let two : c ≡ count_by is_mismatch entries = y ∙ (sym (count_shown read is_mismatch (missed_same read) listed) ∙ ap (λ es. count_by is_mismatch es) all) in
+    let all : map (shown_entry aside) listed ≡ entries = shows ∙ (tells ∙ rw runs.1 refl) in
+    let one : a ≡ count_by is_replied entries = x ∙ (sym (count_shown aside is_replied (replied_same aside) listed) ∙ ap (λ es. count_by is_replied es) all) in
+    let two : c ≡ count_by is_mismatch entries = y ∙ (sym (count_shown aside is_mismatch (missed_same aside) listed) ∙ ap (λ es. count_by is_mismatch es) all) in
     let three : z ≡ (s + sum (text_of p runs.0)) % 2 ^ 32 = w ∙ ap (λ t. (s + sum t) % 2 ^ 32) runs.3 in
     rw (line_is (going p r m s) line, runs.1, runs.2, one, two, three) refl
 

@@ -67,6 +67,6 @@ waking w tid status fields = woken status fields (waiter w.rows tid)
 abbrev pub passed : World → ℕ → model.MessageRow → World
 passed w tid m = world_after w (Enters m ∷ given_steps (waiter w tid) m)
 
--- no field shows the bytes of a memory read
+-- no field shows the bytes of a memory read, nor the groups of a token
 abbrev pub has_no_read : List Field → Bool
 has_no_read fields = not (list_any (λ (field : Field). is_read field.value) fields)

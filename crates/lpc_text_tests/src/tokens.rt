@@ -6,10 +6,11 @@ use crate::script::{have_fault, run_of};
 use crate::transcript::{one, printed};
 use arrayvec::ArrayVec;
 use lpc_base::status;
-use lpc_model::{Call, CallName, Entry, FieldName, Fields, Line, LineFault, Value, Word};
+use lpc_model::{Call, CallName, Entries, Entry, FieldName, Fields, Line, LineFault, Value, Word};
 use lpc_script::{Scratch, read_line};
 use lpc_sid::{Ace, Dacl, Sid, Token};
 use lpc_tokens::{Qos, Tracking};
+use lpc_transcript::print;
 use std::alloc::Global;
 use std::process::Abort;
 use std::test::Fail;
@@ -321,6 +322,25 @@ fn tells(
     printed(rt, alloc, line, entry, text)
 }
 
+// The answer of a query that tells these groups has this text, and the list is without groups when it is emptied.
+fn tells_groups(
+    rt: &impl Abort,
+    alloc: Global,
+    line: u32,
+    groups: ArrayVec<Sid, 16>,
+    text: &str,
+) -> Result<(), Fail> {
+    let mut entries = Entries::new(alloc)?;
+    entries.reserve(1)?;
+    entries.push_groups(24, CallName::NtQueryInformationToken, groups);
+    let mut into = Vec::new(alloc);
+    print(line, &entries, &mut into)?;
+    assert!(rt; into.as_slice() == text.as_bytes());
+    entries.clear();
+    assert!(rt; entries.groups().is_empty());
+    Ok(())
+}
+
 // A user, two groups, none, and a level.
 fn prints_what_a_token_is(rt: &impl Abort, alloc: Global) -> Result<(), Fail> {
     let mut user = ArrayVec::new();
@@ -331,10 +351,9 @@ fn prints_what_a_token_is(rt: &impl Abort, alloc: Global) -> Result<(), Fail> {
     groups.push(sid(5, &[32, 544]));
     groups.push(sid(1, &[0]));
     let text = "19 24 NtQueryInformationToken 00000000 groups=S-1-5-32-544,S-1-1-0\n";
-    tells(rt, alloc, 19, FieldName::Groups, Value::Sids(groups), text)?;
-    let none = Value::Sids(ArrayVec::new());
+    tells_groups(rt, alloc, 19, groups, text)?;
     let text = "2 24 NtQueryInformationToken 00000000 groups=\n";
-    tells(rt, alloc, 2, FieldName::Groups, none, text)?;
+    tells_groups(rt, alloc, 2, ArrayVec::new(), text)?;
     let text = "34 24 NtQueryInformationToken 00000000 level=2\n";
     tells(rt, alloc, 34, FieldName::Level, Value::Number(2), text)
 }

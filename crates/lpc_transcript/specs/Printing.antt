@@ -3,7 +3,7 @@ use Rattle.std.specs.Prelude.{◌≡◌, ℕ, ◌+◌, ◌<◌, List, ◌++◌, 
 use Rattle.lpc_base.specs.declared.status.Status.{Status}
 use Rattle.lpc_sid.specs.Spelling.{spelling}
 use Rattle.lpc_sid.specs.declared.sid.Sid.{Sid}
-use Rattle.lpc_model.specs.Listed.{shown_entry, shown_field, shown_value}
+use Rattle.lpc_model.specs.Listed.{Aside, shown_entry, shown_field, shown_value}
 use Rattle.lpc_model.specs.Text.{by_text, entries_text, entry_text, field_text, fields_text, rest_text, status_text, value_text, word_text}
 use Rattle.lpc_model.specs.declared.entry.CallName.{CallName}
 use Rattle.lpc_model.specs.declared.entry.Entry.{Entry}
@@ -24,25 +24,29 @@ Puts before now more result = OnOk result (now ≡ before ++ more)
 abbrev pub LacksRoom : {Z : Type 0} → Vec ℕ Z → List ℕ → Type 0
 LacksRoom into more = vec_capacity into < length (vec_items into) + length more
 
+-- what stands in place of marks: these bytes where a memory read stands, and these groups where those of a token do
+abbrev pub aside_of : List ℕ → List Sid → Aside
+aside_of read groups = record { read = read; groups = groups }
+
 -- the text of a value, of a field, of fields, of what stands behind a line's number, of an entry and of entries, with
--- these bytes where a memory read stands
-abbrev pub value_of : List ℕ → Value → List ℕ
-value_of read value = value_text (shown_value read value)
+-- this in place of the marks
+abbrev pub value_of : Aside → Value → List ℕ
+value_of aside value = value_text (shown_value aside value)
 
-abbrev pub field_of : List ℕ → FieldName → Value → List ℕ
-field_of read name value = field_text (shown_field read (record { name = name; value = value }))
+abbrev pub field_of : Aside → FieldName → Value → List ℕ
+field_of aside name value = field_text (shown_field aside (record { name = name; value = value }))
 
-abbrev pub fields_of : List ℕ → List Field → List ℕ
-fields_of read fields = fields_text (map (shown_field read) fields)
+abbrev pub fields_of : Aside → List Field → List ℕ
+fields_of aside fields = fields_text (map (shown_field aside) fields)
 
-abbrev pub rest_of : List ℕ → Entry → List ℕ
-rest_of read entry = rest_text (shown_entry read entry)
+abbrev pub rest_of : Aside → Entry → List ℕ
+rest_of aside entry = rest_text (shown_entry aside entry)
 
-abbrev pub line_of : ℕ → List ℕ → Entry → List ℕ
-line_of line read entry = entry_text line (shown_entry read entry)
+abbrev pub line_of : ℕ → Aside → Entry → List ℕ
+line_of line aside entry = entry_text line (shown_entry aside entry)
 
-abbrev pub lines_of : ℕ → List ℕ → List Entry → List ℕ
-lines_of line read entries = entries_text line (map (shown_entry read) entries)
+abbrev pub lines_of : ℕ → Aside → List Entry → List ℕ
+lines_of line aside entries = entries_text line (map (shown_entry aside) entries)
 
 -- the text of a SID behind another: a comma comes first
 abbrev pub further_text : Sid → List ℕ

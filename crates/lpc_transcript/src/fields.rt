@@ -1,17 +1,25 @@
 // The fields of an entry.
 ghost use Rattle.std.specs.Prelude.{◌≤◌, OnErr, vec_capacity};
-ghost use Rattle.lpc_transcript.specs.Printing.{BeginsWith, LacksRoom, Puts, field_of, fields_of, value_of};
+ghost use Rattle.lpc_transcript.specs.Printing.{BeginsWith, LacksRoom, Puts, aside_of, field_of, fields_of, value_of};
 
 use crate::sids::put_sids;
 use crate::words::{field_name, kind_name, put, put_bytes, put_digits, put_number, put_read};
 use lpc_base::OutOfMemory;
 use lpc_model::{FieldName, Fields, Value};
+use lpc_sid::Sid;
 
-fn put_value(into: &mut Vec<u8>, value: &Value, read: &[u8]) -> Result<(), OutOfMemory>
-    ensures ok { Puts into.old.items into.new.items (value_of read.now value.now) result }
+fn put_value(
+    into: &mut Vec<u8>,
+    value: &Value,
+    read: &[u8],
+    groups: &[Sid],
+) -> Result<(), OutOfMemory>
+    ensures ok { Puts into.old.items into.new.items
+        (value_of (aside_of read.now groups.now) value.now) result }
     ensures err { OnErr result (BeginsWith into.new.items into.old.items) }
     ensures capacity { vec_capacity into.old ≤ vec_capacity into.new }
-    ensures wanting { OnErr result (LacksRoom into.old (value_of read.now value.now)) }
+    ensures wanting { OnErr result (LacksRoom into.old
+        (value_of (aside_of read.now groups.now) value.now)) }
 {
     match value {
         Value::Number(number) => put_number(into, *number),
@@ -20,6 +28,7 @@ fn put_value(into: &mut Vec<u8>, value: &Value, read: &[u8]) -> Result<(), OutOf
         Value::Bytes(bytes) => put_bytes(into, bytes.as_slice()),
         Value::Read => put_read(into, read),
         Value::Sids(sids) => put_sids(into, sids.as_slice()),
+        Value::TokenGroups => put_sids(into, groups),
     }
 }
 
@@ -29,35 +38,41 @@ fn put_field(
     name: FieldName,
     value: &Value,
     read: &[u8],
+    groups: &[Sid],
 ) -> Result<(), OutOfMemory>
-    ensures ok { Puts into.old.items into.new.items (field_of read.now name value.now) result }
+    ensures ok { Puts into.old.items into.new.items
+        (field_of (aside_of read.now groups.now) name value.now) result }
     ensures err { OnErr result (BeginsWith into.new.items into.old.items) }
     ensures capacity { vec_capacity into.old ≤ vec_capacity into.new }
-    ensures wanting { OnErr result (LacksRoom into.old (field_of read.now name value.now)) }
+    ensures wanting { OnErr result (LacksRoom into.old
+        (field_of (aside_of read.now groups.now) name value.now)) }
 {
     put(into, b" ")?;
     put(into, field_name(name))?;
     put(into, b"=")?;
-    put_value(into, value, read)
+    put_value(into, value, read, groups)
 }
 
-/// The fields, with these bytes where a memory read stands. Where memory is wanting, there was no room for them behind
-/// the text, and what stood before still begins it.
+/// The fields, with these bytes where a memory read stands, and these groups where those of a token do. Where memory is
+/// wanting, there was no room for them behind the text, and what stood before still begins it.
 #[tactic(auto, using(std::proofs::Common::append_assoc, crate::proofs::Begins::begins_before))]
 pub(crate) fn put_fields(
     into: &mut Vec<u8>,
     fields: &Fields,
     read: &[u8],
+    groups: &[Sid],
 ) -> Result<(), OutOfMemory>
-    ensures ok { Puts into.old.items into.new.items (fields_of read.now fields.now) result }
+    ensures ok { Puts into.old.items into.new.items
+        (fields_of (aside_of read.now groups.now) fields.now) result }
     ensures err { OnErr result (BeginsWith into.new.items into.old.items) }
     ensures capacity { vec_capacity into.old ≤ vec_capacity into.new }
-    ensures wanting { OnErr result (LacksRoom into.old (fields_of read.now fields.now)) }
+    ensures wanting { OnErr result (LacksRoom into.old
+        (fields_of (aside_of read.now groups.now) fields.now)) }
 {
     for at in 0..fields.count() {
         let name = fields.name(at).unwrap();
         let value = fields.value(at).unwrap();
-        put_field(into, name, value, read)?;
+        put_field(into, name, value, read, groups)?;
     }
     Ok(())
 }

@@ -2,7 +2,7 @@
 ghost use Rattle.std.specs.Prelude.{◌≡◌, ◌≤◌, take, OnOk, OnErr, vec_capacity};
 ghost use Rattle.lpc_model.specs.Script.{kind_number};
 ghost use Rattle.lpc_model.specs.Text.{entries_text, end_text, stop_text};
-ghost use Rattle.lpc_transcript.specs.Printing.{BeginsWith, LacksRoom, Puts, line_of, lines_of, rest_of};
+ghost use Rattle.lpc_transcript.specs.Printing.{BeginsWith, LacksRoom, Puts, aside_of, line_of, lines_of, rest_of};
 
 use crate::fields::put_fields;
 use crate::words::{
@@ -10,14 +10,23 @@ use crate::words::{
 };
 use lpc_base::OutOfMemory;
 use lpc_model::{Entries, Entry, LineFault};
+use lpc_sid::Sid;
 
-// What stands behind the line's number, with these bytes where a memory read stands.
+// What stands behind the line's number, with these bytes where a memory read stands, and these groups where those of a
+// token do.
 #[tactic(auto, using(std::proofs::Common::append_assoc, crate::proofs::Begins::begins_before))]
-fn put_rest(into: &mut Vec<u8>, entry: &Entry, read: &[u8]) -> Result<(), OutOfMemory>
-    ensures ok { Puts into.old.items into.new.items (rest_of read.now entry.now) result }
+fn put_rest(
+    into: &mut Vec<u8>,
+    entry: &Entry,
+    read: &[u8],
+    groups: &[Sid],
+) -> Result<(), OutOfMemory>
+    ensures ok { Puts into.old.items into.new.items
+        (rest_of (aside_of read.now groups.now) entry.now) result }
     ensures err { OnErr result (BeginsWith into.new.items into.old.items) }
     ensures capacity { vec_capacity into.old ≤ vec_capacity into.new }
-    ensures wanting { OnErr result (LacksRoom into.old (rest_of read.now entry.now)) }
+    ensures wanting { OnErr result (LacksRoom into.old
+        (rest_of (aside_of read.now groups.now) entry.now)) }
 {
     match entry {
         Entry::Answer {
@@ -27,12 +36,12 @@ fn put_rest(into: &mut Vec<u8>, entry: &Entry, read: &[u8]) -> Result<(), OutOfM
             fields,
         } => {
             put_ended(into, *tid, *call, *status)?;
-            put_fields(into, fields, read)
+            put_fields(into, fields, read, groups)
         }
         Entry::Waits { tid, call, fields } => {
             put_by(into, *tid, *call)?;
             put(into, b" wait")?;
-            put_fields(into, fields, read)
+            put_fields(into, fields, read, groups)
         }
         Entry::Wakes {
             tid,
@@ -42,7 +51,7 @@ fn put_rest(into: &mut Vec<u8>, entry: &Entry, read: &[u8]) -> Result<(), OutOfM
         } => {
             put(into, b"*")?;
             put_ended(into, *tid, *call, *status)?;
-            put_fields(into, fields, read)
+            put_fields(into, fields, read, groups)
         }
         Entry::Busy { tid } => put_state(into, *tid, b" busy"),
         Entry::NoThread { tid } => put_state(into, *tid, b" nothread"),
@@ -52,15 +61,23 @@ fn put_rest(into: &mut Vec<u8>, entry: &Entry, read: &[u8]) -> Result<(), OutOfM
 }
 
 #[tactic(auto, using(std::proofs::Common::append_assoc, crate::proofs::Begins::begins_before), unfolding(lpc_model::specs::Text::entry_text))]
-fn put_entry(into: &mut Vec<u8>, line: u32, entry: &Entry, read: &[u8]) -> Result<(), OutOfMemory>
-    ensures ok { Puts into.old.items into.new.items (line_of line read.now entry.now) result }
+fn put_entry(
+    into: &mut Vec<u8>,
+    line: u32,
+    entry: &Entry,
+    read: &[u8],
+    groups: &[Sid],
+) -> Result<(), OutOfMemory>
+    ensures ok { Puts into.old.items into.new.items
+        (line_of line (aside_of read.now groups.now) entry.now) result }
     ensures err { OnErr result (BeginsWith into.new.items into.old.items) }
     ensures capacity { vec_capacity into.old ≤ vec_capacity into.new }
-    ensures wanting { OnErr result (LacksRoom into.old (line_of line read.now entry.now)) }
+    ensures wanting { OnErr result (LacksRoom into.old
+        (line_of line (aside_of read.now groups.now) entry.now)) }
 {
     put_number(into, u64::from(line))?;
     put(into, b" ")?;
-    put_rest(into, entry, read)?;
+    put_rest(into, entry, read, groups)?;
     put(into, b"\n")
 }
 
@@ -70,14 +87,17 @@ fn put_entries(
     line: u32,
     entries: &[Entry],
     read: &[u8],
+    groups: &[Sid],
 ) -> Result<(), OutOfMemory>
-    ensures ok { Puts into.old.items into.new.items (lines_of line read.now entries.now) result }
+    ensures ok { Puts into.old.items into.new.items
+        (lines_of line (aside_of read.now groups.now) entries.now) result }
     ensures err { OnErr result (BeginsWith into.new.items into.old.items) }
     ensures capacity { vec_capacity into.old ≤ vec_capacity into.new }
-    ensures wanting { OnErr result (LacksRoom into.old (lines_of line read.now entries.now)) }
+    ensures wanting { OnErr result (LacksRoom into.old
+        (lines_of line (aside_of read.now groups.now) entries.now)) }
 {
     for entry in entries {
-        put_entry(into, line, entry, read)?;
+        put_entry(into, line, entry, read, groups)?;
     }
     Ok(())
 }
@@ -111,7 +131,8 @@ pub fn print(line: u32, entries: &Entries, into: &mut Vec<u8>) -> Result<(), Out
     ensures wanting { OnErr result (LacksRoom into.old (entries_text line entries.now.list)) }
 {
     let before = into.len();
-    let printed = put_entries(into, line, entries.list(), entries.read_bytes());
+    let read = entries.read_bytes();
+    let printed = put_entries(into, line, entries.list(), read, entries.groups());
     all_or_none(into, before, printed)
 }
 

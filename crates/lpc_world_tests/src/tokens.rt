@@ -142,7 +142,7 @@ fn acts_as_itself(rt: &impl Abort, world: &mut World, out: &mut Entries) -> Resu
 
 // The user of both tokens, one after the other.
 fn user(rt: &impl Abort) -> Fields {
-    let mut sids: ArrayVec<Sid, 16> = ArrayVec::new();
+    let mut sids: ArrayVec<Sid, 1> = ArrayVec::new();
     sids.push(guest(rt).user);
     one(FieldName::User, Value::Sids(sids))
 }
@@ -154,6 +154,9 @@ fn opens_two_tokens(rt: &impl Abort, world: &mut World, out: &mut Entries) -> Re
     begins_as_guest(rt, world)?;
     opens_the_process_token(rt, world, out)?;
     tells(rt, world, out, 4, 1, user(rt))?;
+    let groups = one(FieldName::Groups, Value::TokenGroups);
+    tells(rt, world, out, 4, 2, groups)?;
+    assert!(rt; out.groups().is_empty());
     acts_as_a_client(rt, world);
     opens_its_own_token(rt, world, out)?;
     let level = one(FieldName::Level, Value::Number(1));

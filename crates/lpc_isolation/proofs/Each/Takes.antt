@@ -8,7 +8,7 @@ use Rattle.lpc_base.proofs.Births.{birth-same}
 use Rattle.lpc_message.specs.Layout.{header_of}
 use Rattle.lpc_model.specs.declared.entry.Field.{Field}
 use Rattle.lpc_model.specs.declared.entry.Value.{Value}
-use Rattle.lpc_model.specs.declared.entry.Value.TheVariants.{Bytes, Hex, Kind, Number, Read, Sids}
+use Rattle.lpc_model.specs.declared.entry.Value.TheVariants.{Bytes, Hex, Kind, Number, Read, Sids, TokenGroups}
 use Rattle.lpc_model.specs.Fields.{msg, receipt}
 use Rattle.lpc_model.specs.Message.{asks, bytes_of}
 use Rattle.lpc_model.specs.World.{Birth, MessageRow, World}
@@ -106,6 +106,7 @@ bytes_in (Hex n) = []
 bytes_in (Kind kind) = []
 bytes_in Read = []
 bytes_in (Sids s) = []
+bytes_in TokenGroups = []
 
 abbrev pub shown_bytes : List Field → List ℕ
 shown_bytes [] = []
