@@ -186,7 +186,11 @@ fn tell(
     ensures calls { machine.new.calls ≤ machine.old.calls + 1 }
 {
     out.clear();
-    out.reserve(machine.room_needed())?;
+    let needed = machine.room_needed();
+    if out.spare() < needed {
+        // Twice as much, since it would have to grow with each thread that is made otherwise.
+        out.reserve(needed.saturating_mul(2))?;
+    }
     machine.step(said, out)?;
     print(number, out, text)?;
     Ok(out.list().len())
