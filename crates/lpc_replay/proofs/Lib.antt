@@ -45,4 +45,5 @@ pub mod Storming
 pub mod Stopping
 pub mod Resting
 pub mod Coming
+pub mod Spending
 pub mod ShortNames

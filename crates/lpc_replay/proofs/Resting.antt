@@ -21,7 +21,7 @@ one_line [] all some = absurd (omega arith)
 one_line (b ∷ []) all some = rw all.0 refl
 one_line (b ∷ c ∷ bs) all some = rw (all.0, one_line (c ∷ bs) all.1 (omega arith)) refl
 
-line_of : (rest : List ℕ) → has_end rest ≡ false → 0 < length rest → script_lines rest ≡ rest ∷ []
+pub line_of : (rest : List ℕ) → has_end rest ≡ false → 0 < length rest → script_lines rest ≡ rest ∷ []
 line_of rest lacks some = one_line rest (all_lack rest lacks) some
 
 -- an empty one is none

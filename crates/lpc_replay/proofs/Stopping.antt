@@ -29,7 +29,7 @@ use Rattle.lpc_replay.proofs.Tells.{front_all, front_last, sent_last, sent_on, t
 use Rattle.lpc_replay.proofs.Turns.{body_front, fault_stops, text_stops}
 
 -- what the first line of some bytes says where it is faulty
-begins_text : (p : Progress) (bytes : List ℕ) (f : LineFault) → BeginsFaulty p bytes f → text_from p (script_lines bytes) ≡ last_text p (Some f)
+pub begins_text : (p : Progress) (bytes : List ℕ) (f : LineFault) → BeginsFaulty p bytes f → text_from p (script_lines bytes) ≡ last_text p (Some f)
 begins_text p bytes f b = ap (λ ls. text_from p ls) b.2 ∙ text_stops p b.0 b.1 f b.3
 
 begins_fault : (p : Progress) (bytes : List ℕ) (f : LineFault) → BeginsFaulty p bytes f → is_none (first_fault (p.lines + 1) (script_lines bytes)) ≡ false
@@ -47,12 +47,11 @@ fault_ended left left' a b p q line piece text f h lacks runs =
     record { tail = tail; played = h; stops = stops; seen = rw formed (or-true (passes_limit (h.ended ++ tail))) }
 
 -- a line is too long
-pub fault_long : (left left' a b : Option (List ℕ)) (p : Progress) (line piece tail : List ℕ) → HasPlayed left left' a b p tail → has_end line ≡ false → p.lines < LINES_LIMIT → IsOverrun tail line piece → IsFault left left' a b p fault.Long
-unfolding behind read_line
-fault_long left left' a b p line piece tail h lacks few o =
+pub long_begins : (p : Progress) (line piece tail later : List ℕ) → has_end line ≡ false → p.lines < LINES_LIMIT → IsOverrun tail line piece → BeginsFaulty p (tail ++ later) fault.Long
+unfolding read_line
+long_begins p line piece tail later lacks few o =
     let all = all_lack line lacks in
     let within : nat_lt LINES_LIMIT (p.lines + 1) ≡ false = grind (arith, nat_tests) in
-    let stops : (later : List ℕ) → BeginsFaulty p (tail ++ later) fault.Long = λ later.
     let first = begun_line line o.byte (piece ++ later) all o.other in
     let bytes : tail ++ later ≡ line ++ o.byte ∷ (piece ++ later) = rw o.parts (append_assoc line (o.byte ∷ piece) later) in
     let one = length-append (line ++ o.byte ∷ []) first.0 in
@@ -60,7 +59,12 @@ fault_long left left' a b p line piece tail h lacks few o =
     let three : length (o.byte ∷ []) ≡ 1 = refl in
     let full = o.full in
     let past : nat_lt LINE_LIMIT (length ((line ++ o.byte ∷ []) ++ first.0)) ≡ true = grind (arith, nat_tests) in
-    ((line ++ o.byte ∷ []) ++ first.0, first.1, ap script_lines bytes ∙ first.2, rw (within, past) refl) in
+    ((line ++ o.byte ∷ []) ++ first.0, first.1, ap script_lines bytes ∙ first.2, rw (within, past) refl)
+
+pub fault_long : (left left' a b : Option (List ℕ)) (p : Progress) (line piece tail : List ℕ) → HasPlayed left left' a b p tail → has_end line ≡ false → p.lines < LINES_LIMIT → IsOverrun tail line piece → IsFault left left' a b p fault.Long
+unfolding behind
+fault_long left left' a b p line piece tail h lacks few o =
+    let stops : (later : List ℕ) → BeginsFaulty p (tail ++ later) fault.Long = λ later. long_begins p line piece tail later lacks few o in
     let room : nat_le LINES_LIMIT p.lines ≡ false = grind (arith, nat_tests) in
     let limit : length line ≤ LINE_LIMIT = let full = o.full in omega arith in
     let more : nat_le LINE_LIMIT (length line) ≡ true = let full = o.full in grind (arith, nat_tests) in
@@ -77,7 +81,7 @@ many_line p b bytes full =
     let past : nat_lt LINES_LIMIT (p.lines + 1) ≡ true = grind (arith, nat_tests) in
     (first.0, first.1, first.2, rw past refl)
 
-many_lines : (p : Progress) (bytes later : List ℕ) → 0 < length bytes → LINES_LIMIT ≤ p.lines → BeginsFaulty p (bytes ++ later) fault.Lines
+pub many_lines : (p : Progress) (bytes later : List ℕ) → 0 < length bytes → LINES_LIMIT ≤ p.lines → BeginsFaulty p (bytes ++ later) fault.Lines
 many_lines p [] later some full = absurd (omega arith)
 many_lines p (b ∷ bs) later some full = many_line p b (bs ++ later) full
 

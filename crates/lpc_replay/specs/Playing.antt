@@ -1,5 +1,5 @@
 -- What is sent for lines, one after the other.
-use Rattle.std.specs.Prelude.{◌≡◌, ℕ, ◌+◌, ◌*◌, ◌^◌, ◌≤◌, List, [], ◌∷◌, ◌++◌, length, Bool, true, false, Option, Some, None, Result, Ok, Err}
+use Rattle.std.specs.Prelude.{◌≡◌, ℕ, ◌+◌, ◌*◌, ◌^◌, ◌≤◌, List, [], ◌∷◌, ◌++◌, ◌<◌, length, Bool, true, false, IfSome, Option, Some, None, Result, Ok, Err}
 use Rattle.lpc_base.specs.declared.limits.TheConstants.{LINES_LIMIT}
 use Rattle.lpc_model.specs.declared.entry.Entry.{Entry}
 use Rattle.lpc_model.specs.declared.fault.LineFault.{LineFault}
@@ -10,8 +10,8 @@ use Rattle.lpc_model.specs.Machine.{Stepped}
 use Rattle.lpc_model.specs.Script.{kind_number, script_lines}
 use Rattle.lpc_model.specs.Text.{end_text, entries_text, stop_text}
 use Rattle.lpc_model.specs.Run.{first_state, line_step, numbered_line, said_from, trace}
-use Rattle.lpc_model.specs.Transcript.{body, body_from}
-use Rattle.lpc_base.specs.Streams.{Adds}
+use Rattle.lpc_model.specs.Transcript.{body, body_from, transcript}
+use Rattle.lpc_base.specs.Streams.{Adds, Told}
 use Rattle.lpc_replay.specs.declared.play.Ending.{Ending}
 use Rattle.lpc_replay.specs.declared.play.Ending.TheVariants as ending
 use Rattle.lpc_replay.specs.declared.play.Ending.TheVariants.{Replayed, Stopped}
@@ -131,6 +131,26 @@ abbrev pub StopsAs : Stop → Option (List ℕ) → Option (List ℕ) → Option
 StopsAs End left left' sent sent' p rest = IsRest left left' sent sent' p rest
 StopsAs SourceFailed left left' sent sent' p rest = IsRest left left' sent sent' p rest
 StopsAs (Fault fault) left left' sent sent' p rest = IsFault left left' sent sent' p fault
+
+-- Where the source tells its bytes, of the transcript of all that it had left this text is still to be sent, and what a
+-- sink was sure of before and is sure of now has shrunk by no more than the rest of it.
+abbrev pub Spends : Option (List ℕ) → List ℕ → ℕ → ℕ → Type 0
+Spends left text before now = IfSome left (λ script. before + length text ≤ now + length (transcript script))
+
+-- the same at a place, where what is told by this tail that was read, and by what the source has left, is to be sent
+abbrev pub SpendsAt : Option (List ℕ) → Option (List ℕ) → ℕ → ℕ → Progress → List ℕ → Type 0
+SpendsAt left left' before now p tail =
+    Told left left' (λ script rest. before + length (text_from p (script_lines (tail ++ rest))) ≤ now + length (transcript script))
+
+-- where the source tells its bytes, a sink wasn't sure of the transcript of all that it had left
+abbrev pub IsUnsure : Option (List ℕ) → ℕ → Type 0
+IsUnsure left sure = IfSome left (λ script. sure < length (transcript script))
+
+-- what is to be sent where no further line is run
+abbrev pub text_next : Stop → Progress → List ℕ → List ℕ
+text_next End p rest = text_from p (script_lines rest)
+text_next SourceFailed p rest = []
+text_next (Fault fault) p rest = last_text p (Some fault)
 
 -- A rest that no byte 10 ends was run as a line, unless it is empty, and what it tells was sent; or it is faulty.
 pub record HasEnded (p q : Progress) (rest : List ℕ) (sent sent' : Option (List ℕ)) : Type 0 where

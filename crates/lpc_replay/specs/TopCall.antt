@@ -53,6 +53,10 @@ abbrev pub unfailing_statuses : Bool → List ℕ
 unfailing_statuses true = 0 ∷ 5 ∷ []
 unfailing_statuses false = 2 ∷ 5 ∷ []
 
+-- where the source tells its bytes, this holds with a sink that is sure of the transcript of all that it had left
+abbrev pub IfSure : Option (List ℕ) → ℕ → Type 0 → Type 0
+IfSure left sure P = IfSome left (λ script. length (transcript script) ≤ sure → P)
+
 -- a count didn't rise
 abbrev pub Still : ℕ → ℕ → Type 0
 Still before now = Rose before now → ⊥

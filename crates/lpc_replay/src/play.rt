@@ -1,10 +1,10 @@
 // A script is read and run line by line, and its transcript sent.
-ghost use Rattle.std.specs.Prelude.{◌≡◌, ◌≤◌, [], true, false, None, Some, IfOk, IfSome, OnErr, OnOk, IsErrOf};
+ghost use Rattle.std.specs.Prelude.{◌≡◌, ◌+◌, ◌<◌, ◌≤◌, [], length, true, false, None, Some, IfOk, IfSome, OnErr, OnOk, IsErrOf};
 ghost use Rattle.lpc_base.specs.Streams.{Adds, Rose};
 ghost use Rattle.lpc_model.specs.Script.{script_lines};
 ghost use Rattle.lpc_script.specs.Feeding.{has_end};
 ghost use Rattle.lpc_replay.specs.declared.play.Ending.TheVariants.{Replayed, SourceFailed, Stopped};
-ghost use Rattle.lpc_replay.specs.Playing.{EndsAs, StopsAs, begin, body_text, ending_of, ends_unfailing, has_not_failed, last_text};
+ghost use Rattle.lpc_replay.specs.Playing.{EndsAs, IsUnsure, Spends, StopsAs, begin, body_text, ending_of, ends_unfailing, has_not_failed, last_text, text_from, text_next};
 ghost use Rattle.lpc_replay.specs.Reading.{IsAskedForPieces};
 ghost use Rattle.lpc_replay.specs.Sending.{AddsFront};
 ghost use Rattle.lpc_replay.specs.TopCall.{Begins, BreaksOff, CutsShort, IsFormed, ReadsInTime, Replays, Stops, StopsAtFault};
@@ -98,6 +98,10 @@ fn play_lines<S: Source, K: Sink>(
     ensures out_of_memory { IsErrOf result PlayError.OutOfMemory →
         K.faults sink.new ≡ K.faults sink.old }
     ensures later { K.faults sink.old ≤ K.faults sink.new }
+    ensures spends { IfOk result (λ stop. Spends (S.left source.old)
+        (text_next stop playback.new.at reader.new.line.line) (K.sure sink.old) (K.sure sink.new)) }
+    ensures unsure { IsErrOf result PlayError.SinkFailed →
+        IsUnsure (S.left source.old) (K.sure sink.old) }
     ensures asked { IsAskedForPieces (S.asked source.old) (S.asked source.new) }
     ensures source_failed { IfOk result (λ stop. stop ≡ Stop.SourceFailed →
         Rose (S.faults source.old) (S.faults source.new)) }
@@ -141,6 +145,11 @@ fn play_rest<K: Sink>(
     ensures unsent { IsErrOf result PlayError.OutOfMemory →
         K.sent sink.new ≡ K.sent sink.old }
     ensures later { K.faults sink.old ≤ K.faults sink.new }
+    ensures spends { IfOk result (λ fault.
+        K.sure sink.old + length (last_text playback.new.at fault)
+        ≤ K.sure sink.new + length (text_from playback.old.at (script_lines rest.now))) }
+    ensures unsure { IsErrOf result PlayError.SinkFailed →
+        K.sure sink.old < length (text_from playback.old.at (script_lines rest.now)) }
 {
     if rest.is_empty() {
         return Ok(None);
@@ -171,6 +180,8 @@ fn finish<K: Sink>(
     ensures unsent { IsErrOf result PlayError.OutOfMemory →
         K.sent sink.new ≡ K.sent sink.old }
     ensures later { K.faults sink.old ≤ K.faults sink.new }
+    ensures unsure { IsErrOf result PlayError.SinkFailed →
+        K.sure sink.old < length (last_text playback.old.at fault) }
 {
     playback.end(fault)?;
     send_all(sink, playback.text())?;
@@ -216,6 +227,8 @@ fn play_through<S: Source, K: Sink>(
     ensures out_of_memory { IsErrOf result PlayError.OutOfMemory →
         K.faults sink.new ≡ K.faults sink.old }
     ensures later { K.faults sink.old ≤ K.faults sink.new }
+    ensures unsure { IsErrOf result PlayError.SinkFailed →
+        IsUnsure (S.left source.old) (K.sure sink.old) }
     ensures asked { IsAskedForPieces (S.asked source.old) (S.asked source.new) }
     ensures source_failed { IfOk result (λ ending. ending ≡ SourceFailed →
         Rose (S.faults source.old) (S.faults source.new)) }
@@ -269,6 +282,8 @@ pub fn play<S: Source, K: Sink>(
     ensures out_of_memory { IsErrOf result PlayError.OutOfMemory →
         K.faults sink.new ≡ K.faults sink.old }
     ensures later { K.faults sink.old ≤ K.faults sink.new }
+    ensures unsure { IsErrOf result PlayError.SinkFailed →
+        IsUnsure (S.left source.old) (K.sure sink.old) }
     ensures asked { IsAskedForPieces (S.asked source.old) (S.asked source.new) }
     ensures source_failed { IfOk result (λ ending. ending ≡ SourceFailed →
         Rose (S.faults source.old) (S.faults source.new)) }

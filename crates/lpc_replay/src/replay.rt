@@ -9,9 +9,10 @@ ghost use Rattle.lpc_model.specs.Left.{RunLeavesNothing};
 ghost use Rattle.lpc_model.specs.SingleClosings.{RunHasSingleClosings};
 ghost use Rattle.lpc_model.specs.SoundWaits.{RunStaysSound};
 ghost use Rattle.lpc_replay.specs.Laws.{ClientsApart, ConnectsReturn, MisfitsRefused, RefusalsIdle, RefusalsStay, RequestsReturn, WaitsEnd};
+ghost use Rattle.lpc_replay.specs.Playing.{IsUnsure};
 ghost use Rattle.lpc_replay.specs.Reading.{IsAskedForPieces};
 ghost use Rattle.lpc_replay.specs.Sending.{AddsFront};
-ghost use Rattle.lpc_replay.specs.TopCall.{Begins, BreaksOff, CutsShort, EndsAsFormed, IsFormed, ReadsInTime, Replays, Still, Stops, StopsAtFault, StopsUnfailing, is_form, is_one_of, is_replay, storm_of as storm_in, storm_text, usage};
+ghost use Rattle.lpc_replay.specs.TopCall.{Begins, BreaksOff, CutsShort, EndsAsFormed, IfSure, IsFormed, ReadsInTime, Replays, Still, Stops, StopsAtFault, StopsUnfailing, is_form, is_one_of, is_replay, storm_of as storm_in, storm_text, usage};
 
 use crate::play::{Ending, PlayError, play};
 use crate::sending::send_all;
@@ -113,6 +114,7 @@ fn replay<S: Source, K: Sink>(alloc: Global, source: &mut S, sink: &mut K) -> u8
         K.faults sink.new ≡ K.faults sink.old }
     ensures source_later { S.faults source.old ≤ S.faults source.new }
     ensures sink_later { K.faults sink.old ≤ K.faults sink.new }
+    ensures unsure { result ≡ 4 → IsUnsure (S.left source.old) (K.sure sink.old) }
 {
     match play(alloc, source, sink) {
         Ok(Ending::Replayed) => DONE,
@@ -288,6 +290,16 @@ pub fn run_words<S: Source, K: Sink>(
         Still (S.faults source.old) (S.faults source.new) →
         Still (K.faults sink.old) (K.faults sink.new) →
         EndsAsFormed (S.left source.old) result }
+
+    // A sink that is sure of the whole transcript fails no replay. So over it and an honest source, which counts no
+    // failure, a replay is read to its end or to a faulty line, unless memory runs out.
+    ensures replay_sure { is_replay words.now ≡ true →
+        IfSure (S.left source.old) (K.sure sink.old)
+        (is_one_of (0 ∷ 2 ∷ 3 ∷ 5 ∷ []) result ≡ true) }
+    ensures honest { is_replay words.now ≡ true →
+        Still (S.faults source.old) (S.faults source.new) →
+        IfSure (S.left source.old) (K.sure sink.old)
+        (is_one_of (0 ∷ 2 ∷ 5 ∷ []) result ≡ true) }
 
     // In the script read a request returns with success only by a reply that fits it. A reply that fits no wait is
     // refused, a refused reply changes nothing, and without its line the others tell the same. A connect returns only

@@ -104,3 +104,6 @@ returns-clause-source_still g c = c.play_through.ensures.source_still
 
 pub returns-clause-source_later : goal.returns-clause-source_later
 returns-clause-source_later g c = c.play_through.ensures.source_later
+
+pub returns-clause-unsure : goal.returns-clause-unsure
+returns-clause-unsure g c = c.play_through.ensures.unsure

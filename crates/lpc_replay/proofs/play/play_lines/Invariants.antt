@@ -1,6 +1,6 @@
 use Rattle.std.proofs.Common.{◌≡◌, ◌-◌, true}
 use Rattle.lpc_base.specs.declared.limits.TheConstants.{LINES_LIMIT}
-use Rattle.lpc_replay.specs.Playing.{HasPlayed}
+use Rattle.lpc_replay.specs.Playing.{HasPlayed, SpendsAt}
 use Rattle.lpc_replay.specs.Reading.{IsAskedForPieces}
 use Rattle.lpc_replay.proofs.play.play_lines.Given as goal
 
@@ -11,6 +11,7 @@ invariant-loop-playback g l = record {
   faults : g.K.Sink.faults l.sink ≡ g.K.Sink.faults l.fn.sink;
   read_faults : g.S.Source.faults l.source ≡ g.S.Source.faults l.fn.source;
   asked : IsAskedForPieces (g.S.Source.asked l.fn.source) (g.S.Source.asked l.source);
+  spent : SpendsAt (g.S.Source.left l.fn.source) (g.S.Source.left l.source) (g.K.Sink.sure l.fn.sink) (g.K.Sink.sure l.sink) l.playback.at l.reader.piece;
   runs : (g.S.Source.asked l.fn.source).running ≡ true → (g.S.Source.asked l.source).running ≡ true;
 }
 

@@ -1,7 +1,10 @@
 use Rattle.std.proofs.Common.{ap, refl, sym}
 use Rattle.std.specs.Prelude.{Err, Some}
+use Rattle.lpc_replay.specs.Playing.{last_text, text_from}
+use Rattle.lpc_model.specs.Script.{script_lines}
 use Rattle.lpc_replay.proofs.Played.{begins_here, begins_more, cuts_here, grows_front, grows_none, reads_in_time}
 use Rattle.lpc_replay.proofs.Stopping.{begins_last, breaks_off, broken_sound, ends_faulty, ends_formed, ends_sound_read, ends_stopped, ends_transcript, last_cut, last_fault, last_in_time, last_of_rest, text_front}
+use Rattle.lpc_replay.proofs.Spending.{falls_short, spends_then}
 use Rattle.lpc_replay.proofs.play.play_through.Goals as goal
 
 pub returns-in-SourceFailed-clause-failed_text : goal.returns-in-SourceFailed-clause-failed_text
@@ -193,3 +196,30 @@ returns-in_ok-fault-in-End-clause-cut g c =
     let end = rw c.in-End.is at c.in_ok-play_lines.ensures.end refl in
     let ends = rw c.line.ensures.line at c.in_ok-fault-in-End.ensures.ends in
     λ is. last_cut (left c.args.source.now) (left c.play_lines.new.source) (sent c.args.sink.now) (sent c.play_rest.new.sink) (sent c.finish-in-End.new.sink) c.play_rest.new.playback.at c.in_ok-fault-in-End.fault (last_of_rest (left c.args.source.now) (left c.play_lines.new.source) (sent c.args.sink.now) (sent c.play_lines.new.sink) (sent c.play_rest.new.sink) at c.play_rest.new.playback.at rest c.in_ok-fault-in-End.fault r end ends) (c.finish-in-End.ensures.unsent is)
+
+pub returns-in-Fault-clause-unsure : goal.returns-in-Fault-clause-unsure
+returns-in-Fault-clause-unsure g c =
+    let left = g.S.Source.left in
+    let sure = g.K.Sink.sure in
+    let spends = rw c.in-Fault.is at c.in_ok-play_lines.ensures.spends in
+    λ is. falls_short (left c.args.source.now) (last_text c.play_lines.new.playback.at (Some c.in-Fault.fault)) (sure c.args.sink.now) (sure c.play_lines.new.sink) spends (c.finish.ensures.unsure is)
+
+pub returns-in_err-fault-in-End-clause-unsure : goal.returns-in_err-fault-in-End-clause-unsure
+returns-in_err-fault-in-End-clause-unsure g c =
+    let left = g.S.Source.left in
+    let sure = g.K.Sink.sure in
+    let rest = c.play_lines.new.reader.line.line in
+    let at = c.play_lines.new.playback.at in
+    let spends = rw c.in-End.is at c.in_ok-play_lines.ensures.spends in
+    λ is. falls_short (left c.args.source.now) (text_from at (script_lines rest)) (sure c.args.sink.now) (sure c.play_lines.new.sink) spends (rw c.line.ensures.line at c.in_err-fault-in-End.ensures.unsure (ap (λ e. Err e) (sym (rw is at c.from_residual-in_err-fault-in-End.ensures).1)))
+
+pub returns-in_ok-fault-in-End-clause-unsure : goal.returns-in_ok-fault-in-End-clause-unsure
+returns-in_ok-fault-in-End-clause-unsure g c =
+    let left = g.S.Source.left in
+    let sure = g.K.Sink.sure in
+    let rest = c.play_lines.new.reader.line.line in
+    let at = c.play_lines.new.playback.at in
+    let spends = rw c.in-End.is at c.in_ok-play_lines.ensures.spends in
+    let last = last_text c.play_rest.new.playback.at c.in_ok-fault-in-End.fault in
+    let then = spends_then (left c.args.source.now) (text_from at (script_lines rest)) last (sure c.args.sink.now) (sure c.play_lines.new.sink) (sure c.play_rest.new.sink) spends (rw c.line.ensures.line at c.in_ok-fault-in-End.ensures.spends) in
+    λ is. falls_short (left c.args.source.now) last (sure c.args.sink.now) (sure c.play_rest.new.sink) then (c.finish-in-End.ensures.unsure is)

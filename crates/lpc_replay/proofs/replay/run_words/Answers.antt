@@ -13,6 +13,7 @@ use Rattle.lpc_replay.proofs.Played.{cuts_here, played_none}
 use Rattle.lpc_replay.specs.Laws.{ClientsApart, ConnectsReturn, MisfitsRefused, RefusalsIdle, RefusalsStay, RequestsReturn, WaitsEnd}
 use Rattle.lpc_replay.proofs.EveryScript.{every_client, every_connect, every_misfit, every_refusal, every_removal, every_request, every_wait}
 use Rattle.lpc_replay.proofs.Formed.{of_told}
+use Rattle.lpc_replay.proofs.Spending.{honest_status, sure_status}
 use Rattle.lpc_replay.proofs.replay.run_words.Goals as goal
 
 pub returns-clause-returns : goal.returns-clause-returns
@@ -105,3 +106,11 @@ returns-in-Some-clause-cut g c =
     let left = g.S.Source.left c.args.source.now in
     let before = g.K.Sink.sent c.args.sink.now in
     λ is. rw (c.storm.ensures.unsent is) (cuts_here left left before before begin [] (played_none left before))
+
+-- a replay over a sink that is sure of the whole transcript
+pub returns-clause-replay_sure : goal.returns-clause-replay_sure
+returns-clause-replay_sure g c = λ _. sure_status (g.S.Source.left c.args.source.now) (g.K.Sink.sure c.args.sink.now) c.replay.result c.replay.ensures.statuses c.replay.ensures.unsure
+
+pub returns-clause-honest : goal.returns-clause-honest
+returns-clause-honest g c =
+    λ _ still. honest_status (g.S.Source.left c.args.source.now) (g.K.Sink.sure c.args.sink.now) c.replay.result c.replay.ensures.statuses c.replay.ensures.unsure (λ three. still (c.replay.ensures.source_failed three))
