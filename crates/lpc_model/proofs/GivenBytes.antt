@@ -1,5 +1,6 @@
 -- The messages that a script gives are bytes, and a lawful message that is read is written back whole.
-use Rattle.std.proofs.Common.{◌≡◌, ℕ, suc, ◌<◌, Bool, true, false, cond, List, [], ◌∷◌, ◌++◌, length, drop, All, arith, refl, subst, zero, ◌+◌}
+use Rattle.std.proofs.Common.{◌≡◌, ℕ, suc, ◌<◌, Bool, true, false, cond, List, [], ◌∷◌, ◌++◌, length, drop, All, ap, arith, refl, subst, sym, take, zero, ◌+◌, ◌≤◌, ◌∙◌}
+use Rattle.std.proofs.lemmas.List.{append-nil}
 use Rattle.std.specs.Prelude.{None, Option, Some, Result, Ok, Err, nat_lt, not, codes}
 use Rattle.std.specs.List.{AllByRecursion, list_all}
 use Rattle.std.specs.Option.{ok_or}
@@ -8,7 +9,7 @@ use Rattle.hex.specs.Hex.{IsBytes, decode_of}
 use Rattle.hex.specs.declared.error.FromHexError.{FromHexError}
 use Rattle.hex.proofs.HexLemmas.{decode_of-ok}
 use Rattle.lpc_base.specs.declared.limits.TheConstants.{HEADER_SIZE, LINE_LIMIT, LINES_LIMIT}
-use Rattle.lpc_message.specs.Layout.{fault_of, header_bytes}
+use Rattle.lpc_message.specs.Layout.{fault_of, header_bytes, header_of}
 use Rattle.lpc_message.specs.declared.message.ClientId.{ClientId}
 use Rattle.lpc_message.specs.declared.message.Header.{Header}
 use Rattle.lpc_message.specs.declared.message.Shape.{Shape}
@@ -23,8 +24,8 @@ use Rattle.lpc_model.specs.declared.fault.LineFault.TheVariants as fault
 use Rattle.lpc_model.specs.Then.{◌>>=◌}
 use Rattle.lpc_model.specs.Message.{bytes_of, message_of}
 use Rattle.lpc_model.specs.Lines.{ScriptCall, ScriptLine, accept_connect_port, reply_port, reply_wait_receive_port, request_port, request_wait_reply_port, run, write_virtual_memory, read_request_data, write_request_data, impersonate_client_of_port}
-use Rattle.lpc_model.specs.Words.{begins, split_once, hex_message, hex_or_fault, hex_word, id_word, info_word, message_word, number_word, parts, reply_message, three_parts, words}
-use Rattle.lpc_model.specs.Grammar.{accept_word, access_word, call_line, call_named, call_words, directive_line, directive_named, directive_words, four_words, given_message, handle_and_message, handle_and_reply, is_printable, one_handle, one_or_two_words, one_word, qos_word, read_line, starts_call, process_and_thread, target_and_code, target_and_thread, thread_call, two_words, view_word, words_line, address_and_bytes, range_words, range_and_bytes, four_numbers, two_numbers, fixed_word, given_dacl, no_words, process_and_token, token_words}
+use Rattle.lpc_model.specs.Words.{made_message, begins, split_once, hex_message, hex_or_fault, hex_word, id_word, info_word, message_word, number_word, parts, reply_message, three_parts, words}
+use Rattle.lpc_model.specs.Grammar.{accept_word, access_word, call_line, call_named, call_words, directive_line, directive_named, directive_words, four_words, given_message, kind_word, three_words, handle_and_message, handle_and_reply, is_printable, one_handle, one_or_two_words, one_word, qos_word, read_line, starts_call, process_and_thread, target_and_code, target_and_thread, thread_call, two_words, view_word, words_line, address_and_bytes, range_words, range_and_bytes, four_numbers, two_numbers, fixed_word, given_dacl, no_words, process_and_token, token_words}
 use Rattle.lpc_model.specs.Run.{numbered_line, said_from, unless_faulty}
 
 abbrev pub AreBytes : List ℕ → Type 0
@@ -40,11 +41,45 @@ long_case : (short : Bool) (later : Option Shape) → cond short (Some Short) la
 long_case true later is = absurd (cc)
 long_case false later is = refl
 
-pub written_back : (bytes : List ℕ) → AreBytes bytes → fault_of bytes ≡ None → bytes_of (message_of bytes) ≡ bytes
+-- it is enough that those of the header are bytes
+abbrev pub HasHeader : List ℕ → Type 0
+HasHeader bytes = AreBytes (take 24 bytes)
+
+front_back : (bytes : List ℕ) → HasHeader bytes → 24 ≤ length bytes → header_bytes (header_of bytes) ++ drop 24 bytes ≡ bytes
+front_back [] are long = absurd (omega (arith, long))
+front_back (b0 ∷ []) are long = absurd (omega (arith, long))
+front_back (b0 ∷ b1 ∷ []) are long = absurd (omega (arith, long))
+front_back (b0 ∷ b1 ∷ b2 ∷ []) are long = absurd (omega (arith, long))
+front_back (b0 ∷ b1 ∷ b2 ∷ b3 ∷ []) are long = absurd (omega (arith, long))
+front_back (b0 ∷ b1 ∷ b2 ∷ b3 ∷ b4 ∷ []) are long = absurd (omega (arith, long))
+front_back (b0 ∷ b1 ∷ b2 ∷ b3 ∷ b4 ∷ b5 ∷ []) are long = absurd (omega (arith, long))
+front_back (b0 ∷ b1 ∷ b2 ∷ b3 ∷ b4 ∷ b5 ∷ b6 ∷ []) are long = absurd (omega (arith, long))
+front_back (b0 ∷ b1 ∷ b2 ∷ b3 ∷ b4 ∷ b5 ∷ b6 ∷ b7 ∷ []) are long = absurd (omega (arith, long))
+front_back (b0 ∷ b1 ∷ b2 ∷ b3 ∷ b4 ∷ b5 ∷ b6 ∷ b7 ∷ b8 ∷ []) are long = absurd (omega (arith, long))
+front_back (b0 ∷ b1 ∷ b2 ∷ b3 ∷ b4 ∷ b5 ∷ b6 ∷ b7 ∷ b8 ∷ b9 ∷ []) are long = absurd (omega (arith, long))
+front_back (b0 ∷ b1 ∷ b2 ∷ b3 ∷ b4 ∷ b5 ∷ b6 ∷ b7 ∷ b8 ∷ b9 ∷ b10 ∷ []) are long = absurd (omega (arith, long))
+front_back (b0 ∷ b1 ∷ b2 ∷ b3 ∷ b4 ∷ b5 ∷ b6 ∷ b7 ∷ b8 ∷ b9 ∷ b10 ∷ b11 ∷ []) are long = absurd (omega (arith, long))
+front_back (b0 ∷ b1 ∷ b2 ∷ b3 ∷ b4 ∷ b5 ∷ b6 ∷ b7 ∷ b8 ∷ b9 ∷ b10 ∷ b11 ∷ b12 ∷ []) are long = absurd (omega (arith, long))
+front_back (b0 ∷ b1 ∷ b2 ∷ b3 ∷ b4 ∷ b5 ∷ b6 ∷ b7 ∷ b8 ∷ b9 ∷ b10 ∷ b11 ∷ b12 ∷ b13 ∷ []) are long = absurd (omega (arith, long))
+front_back (b0 ∷ b1 ∷ b2 ∷ b3 ∷ b4 ∷ b5 ∷ b6 ∷ b7 ∷ b8 ∷ b9 ∷ b10 ∷ b11 ∷ b12 ∷ b13 ∷ b14 ∷ []) are long = absurd (omega (arith, long))
+front_back (b0 ∷ b1 ∷ b2 ∷ b3 ∷ b4 ∷ b5 ∷ b6 ∷ b7 ∷ b8 ∷ b9 ∷ b10 ∷ b11 ∷ b12 ∷ b13 ∷ b14 ∷ b15 ∷ []) are long = absurd (omega (arith, long))
+front_back (b0 ∷ b1 ∷ b2 ∷ b3 ∷ b4 ∷ b5 ∷ b6 ∷ b7 ∷ b8 ∷ b9 ∷ b10 ∷ b11 ∷ b12 ∷ b13 ∷ b14 ∷ b15 ∷ b16 ∷ []) are long = absurd (omega (arith, long))
+front_back (b0 ∷ b1 ∷ b2 ∷ b3 ∷ b4 ∷ b5 ∷ b6 ∷ b7 ∷ b8 ∷ b9 ∷ b10 ∷ b11 ∷ b12 ∷ b13 ∷ b14 ∷ b15 ∷ b16 ∷ b17 ∷ []) are long = absurd (omega (arith, long))
+front_back (b0 ∷ b1 ∷ b2 ∷ b3 ∷ b4 ∷ b5 ∷ b6 ∷ b7 ∷ b8 ∷ b9 ∷ b10 ∷ b11 ∷ b12 ∷ b13 ∷ b14 ∷ b15 ∷ b16 ∷ b17 ∷ b18 ∷ []) are long = absurd (omega (arith, long))
+front_back (b0 ∷ b1 ∷ b2 ∷ b3 ∷ b4 ∷ b5 ∷ b6 ∷ b7 ∷ b8 ∷ b9 ∷ b10 ∷ b11 ∷ b12 ∷ b13 ∷ b14 ∷ b15 ∷ b16 ∷ b17 ∷ b18 ∷ b19 ∷ []) are long = absurd (omega (arith, long))
+front_back (b0 ∷ b1 ∷ b2 ∷ b3 ∷ b4 ∷ b5 ∷ b6 ∷ b7 ∷ b8 ∷ b9 ∷ b10 ∷ b11 ∷ b12 ∷ b13 ∷ b14 ∷ b15 ∷ b16 ∷ b17 ∷ b18 ∷ b19 ∷ b20 ∷ []) are long = absurd (omega (arith, long))
+front_back (b0 ∷ b1 ∷ b2 ∷ b3 ∷ b4 ∷ b5 ∷ b6 ∷ b7 ∷ b8 ∷ b9 ∷ b10 ∷ b11 ∷ b12 ∷ b13 ∷ b14 ∷ b15 ∷ b16 ∷ b17 ∷ b18 ∷ b19 ∷ b20 ∷ b21 ∷ []) are long = absurd (omega (arith, long))
+front_back (b0 ∷ b1 ∷ b2 ∷ b3 ∷ b4 ∷ b5 ∷ b6 ∷ b7 ∷ b8 ∷ b9 ∷ b10 ∷ b11 ∷ b12 ∷ b13 ∷ b14 ∷ b15 ∷ b16 ∷ b17 ∷ b18 ∷ b19 ∷ b20 ∷ b21 ∷ b22 ∷ []) are long = absurd (omega (arith, long))
+front_back (b0 ∷ b1 ∷ b2 ∷ b3 ∷ b4 ∷ b5 ∷ b6 ∷ b7 ∷ b8 ∷ b9 ∷ b10 ∷ b11 ∷ b12 ∷ b13 ∷ b14 ∷ b15 ∷ b16 ∷ b17 ∷ b18 ∷ b19 ∷ b20 ∷ b21 ∷ b22 ∷ b23 ∷ rest) are long =
+    let front : List ℕ = b0 ∷ b1 ∷ b2 ∷ b3 ∷ b4 ∷ b5 ∷ b6 ∷ b7 ∷ b8 ∷ b9 ∷ b10 ∷ b11 ∷ b12 ∷ b13 ∷ b14 ∷ b15 ∷ b16 ∷ b17 ∷ b18 ∷ b19 ∷ b20 ∷ b21 ∷ b22 ∷ b23 ∷ [] in
+    let enough : 24 ≤ length front = omega arith in
+    ap (λ x. x ++ rest) (sym (append-nil (header_bytes (header_of front))) ∙ header_back front (all_bytes front are) enough)
+
+pub written_back : (bytes : List ℕ) → HasHeader bytes → fault_of bytes ≡ None → bytes_of (message_of bytes) ≡ bytes
 unfolding bytes_of
 written_back bytes are sound =
     let long : nat_lt (length bytes) 24 ≡ false = long_case (nat_lt (length bytes) 24) _ sound in
-    header_back bytes (all_bytes bytes are) (grind (arith, nat_tests))
+    front_back bytes are (grind (arith, nat_tests))
 
 -- What a word gives
 -- a property of what isn't faulty
@@ -106,13 +141,28 @@ message_bytes text =
     (choice_gives AreBytes (begins (codes "d:") text) (hex_message (record { process = 0; thread = 0 }) 0 (drop 2 text)) _ (made_bytes (record { process = 0; thread = 0 }) 0 (drop 2 text))
     (choice_gives AreBytes (begins (codes "r:") text) (reply_message (drop 2 text)) (Err fault.Message) (reply_bytes (drop 2 text)) tt))
 
--- What a line gives: the message of each call that has one, and the bytes that one writes
+-- a front of bytes; and a made message has a header of bytes, whatever its data are
+front_are : (n : ℕ) (bytes : List ℕ) → AreBytes bytes → AreBytes (take n bytes)
+front_are zero bytes are = tt
+front_are (suc n) [] are = tt
+front_are (suc n) (b ∷ bs) are = (are.0, front_are n bs are.1)
+
+pub made_are : (client : ClientId) (identifier : ℕ) → AreBytes (made_message client identifier [])
+made_are client identifier =
+    let h : Header = record { data_size = 0; message_size = HEADER_SIZE + 0; kind = 0; ranges_offset = 0; client = client; message_id = identifier; section_size = 0 } in
+    both_bytes (header_bytes h) [] (header_are h) tt
+
+pub made_front : (client : ClientId) (identifier : ℕ) (bytes : List ℕ) → HasHeader (made_message client identifier bytes)
+made_front client identifier bytes =
+    header_are (record { data_size = length bytes; message_size = HEADER_SIZE + length bytes; kind = 0; ranges_offset = 0; client = client; message_id = identifier; section_size = 0 })
+
+-- What a line gives: the message of each call that has one, of a reply its header, and the bytes that one writes
 abbrev pub HasBytes : ScriptCall → Type 0
 HasBytes (accept_connect_port context bytes accept view) = AreBytes bytes
 HasBytes (request_port handle bytes) = AreBytes bytes
 HasBytes (request_wait_reply_port handle bytes) = AreBytes bytes
-HasBytes (reply_port handle bytes) = AreBytes bytes
-HasBytes (reply_wait_receive_port handle (Some bytes)) = AreBytes bytes
+HasBytes (reply_port handle bytes) = HasHeader bytes
+HasBytes (reply_wait_receive_port handle (Some bytes)) = HasHeader bytes
 HasBytes (write_virtual_memory address bytes) = AreBytes bytes
 HasBytes (read_request_data handle bytes index n) = AreBytes bytes
 HasBytes (write_request_data handle bytes index new) = AreBytes bytes × AreBytes new
@@ -137,7 +187,7 @@ given_bytes : (handle : ℕ) (text : Option (List ℕ)) → Gives (λ reply. Has
 given_bytes handle None = tt
 given_bytes handle (Some text) =
     then_gives (message_word text) _ (λ reply. HasBytes (reply_wait_receive_port handle reply)) (λ bytes is.
-    gives_ok AreBytes (message_word text) bytes (message_bytes text) is)
+    front_are 24 bytes (gives_ok AreBytes (message_word text) bytes (message_bytes text) is))
 
 reply_gives : (others : List (List ℕ)) → Gives (λ two. HasBytes (reply_wait_receive_port two.0 two.1)) (handle_and_reply others)
 reply_gives others =
@@ -182,7 +232,7 @@ call_gives call.NtAcceptConnectPort others =
 call_gives call.NtCompleteConnectPort others = then_gives (one_handle others) _ HasBytes (λ _ _. tt)
 call_gives call.NtRequestPort others = then_gives (handle_and_message others) _ HasBytes (λ two is. gives_ok (λ (two : ℕ × List ℕ). AreBytes two.1) (handle_and_message others) two (handle_gives others) is)
 call_gives call.NtRequestWaitReplyPort others = then_gives (handle_and_message others) _ HasBytes (λ two is. gives_ok (λ (two : ℕ × List ℕ). AreBytes two.1) (handle_and_message others) two (handle_gives others) is)
-call_gives call.NtReplyPort others = then_gives (handle_and_message others) _ HasBytes (λ two is. gives_ok (λ (two : ℕ × List ℕ). AreBytes two.1) (handle_and_message others) two (handle_gives others) is)
+call_gives call.NtReplyPort others = then_gives (handle_and_message others) _ HasBytes (λ two is. front_are 24 two.1 (gives_ok (λ (two : ℕ × List ℕ). AreBytes two.1) (handle_and_message others) two (handle_gives others) is))
 call_gives call.NtReplyWaitReceivePort others = then_gives (handle_and_reply others) _ HasBytes (λ two is. gives_ok (λ (two : ℕ × Option (List ℕ)). HasBytes (reply_wait_receive_port two.0 two.1)) (handle_and_reply others) two (reply_gives others) is)
 call_gives call.NtRegisterThreadTerminatePort others = then_gives (one_handle others) _ HasBytes (λ _ _. tt)
 call_gives call.NtClose others = then_gives (one_handle others) _ HasBytes (λ _ _. tt)
@@ -212,6 +262,8 @@ directive_gives word.Token others = then_gives (token_words others) _ GivesBytes
 directive_gives word.Thread others = then_gives (two_words others) _ GivesBytes (λ two _. then_gives (id_word two.0) _ GivesBytes (λ _ _. then_gives (id_word two.1) _ GivesBytes (λ _ _. tt)))
 directive_gives word.Dir others = then_gives (one_word others) _ GivesBytes (λ _ _. tt)
 directive_gives word.Link others = then_gives (two_words others) _ GivesBytes (λ _ _. tt)
+directive_gives word.Resident others = then_gives (three_words others) _ GivesBytes (λ three _. then_gives (id_word three.0) _ GivesBytes (λ _ _. then_gives (kind_word three.1) _ GivesBytes (λ _ _. then_gives (number_word three.2) _ GivesBytes (λ _ _. tt))))
+directive_gives word.Turn others = then_gives (one_word others) _ GivesBytes (λ front _. then_gives (id_word front) _ GivesBytes (λ _ _. tt))
 
 thread_gives : (others : List (List ℕ)) → Gives HasBytes (thread_call others)
 thread_gives [] = tt

@@ -6,6 +6,7 @@ pub mod Endings
 pub mod Creations
 pub mod Views
 pub mod Ranges
+pub mod Residents
 pub mod Offers
 pub mod Neighbours
 pub mod Tokens

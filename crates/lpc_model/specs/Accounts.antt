@@ -11,14 +11,14 @@ use Rattle.lpc_model.specs.declared.entry.Entry.TheVariants.{Answer, Wakes}
 use Rattle.lpc_model.specs.declared.entry.Field.{Field}
 use Rattle.lpc_model.specs.declared.entry.Value.TheVariants.{Bytes, Hex}
 use Rattle.lpc_base.specs.declared.birth.Birth.{Birth}
-use Rattle.lpc_model.specs.World.{MessageRow, PortRow, World}
+use Rattle.lpc_model.specs.World.{MessageRow, PortRow, World, no_rows}
 use Rattle.lpc_model.specs.Message.{asks, bytes_of, message_of}
 use Rattle.lpc_model.specs.Found.{is_the, live_thread, queue_of, queued_on, same_birth, wait_of}
 use Rattle.lpc_model.specs.Basics.{Basic, Empties, basic}
 use Rattle.lpc_model.specs.Tests.{port_test}
 use Rattle.lpc_model.specs.Lines.{ScriptLine, reply_wait_receive_port, run}
 use Rattle.lpc_model.specs.Machine.{step, steps}
-use Rattle.lpc_model.specs.Run.{all_posts, first_state, said_in, trace, world_behind}
+use Rattle.lpc_model.specs.Run.{all_posts, said_in, trace, world_behind}
 
 -- what a receive from a queue shows of a message: its context, and its bytes, header and data
 pub record Receipt : Type 0 where
@@ -100,8 +100,8 @@ lost_in r w (Some line ∷ later) = lost r w (steps line w) + lost_in r (step w 
 -- of the messages that were posted so far, each stands, was received, or was lost
 abbrev pub AreAccountedFor : Receipt → List (Option ScriptLine) → Type 0
 AreAccountedFor r lines =
-    count (has_receipt r) (all_posts (trace first_state lines))
-    ≡ standing r (world_behind first_state lines) + (received_in r first_state lines + lost_in r first_state lines)
+    count (has_receipt r) (all_posts (trace no_rows lines))
+    ≡ standing r (world_behind no_rows lines) + (received_in r no_rows lines + lost_in r no_rows lines)
 
 -- behind each line of a script, for each queue, context and bytes of a message that asks for no answer
 abbrev pub RunAccountsForMessages : List ℕ → Type 0

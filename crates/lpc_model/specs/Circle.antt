@@ -12,14 +12,16 @@ use Rattle.lpc_names.specs.declared.names.Found.{Found}
 use Rattle.lpc_names.specs.declared.names.Found.TheVariants.{Directory, Item as PortThere}
 use Rattle.lpc_model.specs.declared.entry.Entry.{Entry}
 use Rattle.lpc_model.specs.declared.entry.Entry.TheVariants.{Answer, Busy, Died, Directive, NoThread, Waits, Wakes}
-use Rattle.lpc_model.specs.World.{Birth, Impersonation, PortRow, ProcessRow, ThreadRow, UsedThread, ViewRow, ViewTable, World}
+use Rattle.lpc_model.specs.declared.entry.Word.{Word}
+use Rattle.lpc_model.specs.declared.entry.Word.TheVariants as word
+use Rattle.lpc_model.specs.World.{Birth, Impersonation, PortRow, ProcessRow, ThreadRow, UsedThread, ViewRow, ViewTable, World, no_rows}
 use Rattle.lpc_model.specs.Found.{is_used_thread, live_thread, same_birth, shows_section, views_of, wait_of, was_process}
 use Rattle.lpc_model.specs.Basics.{Acts, Basic, Writes}
-use Rattle.lpc_model.specs.Lines.{ScriptCall, ScriptLine, accept_connect_port, boot, complete_connect_port, connect_port, create_port, dir, link, listen_port, close, duplicate_object, query_object, create_process, create_thread, register_thread_terminate_port, reply_port, reply_wait_receive_port, request_port, request_wait_reply_port, run, terminate_process, terminate_thread, thread, create_section, map_view_of_section, unmap_view_of_section, read_virtual_memory, write_virtual_memory, read_request_data, write_request_data, token, impersonate_client_of_port, set_information_thread, open_thread_token, open_process_token, query_information_token}
+use Rattle.lpc_model.specs.Lines.{ScriptCall, ScriptLine, accept_connect_port, boot, complete_connect_port, connect_port, create_port, dir, link, listen_port, close, duplicate_object, query_object, create_process, create_thread, register_thread_terminate_port, reply_port, reply_wait_receive_port, request_port, request_wait_reply_port, of_resident, run, terminate_process, terminate_thread, thread, create_section, map_view_of_section, unmap_view_of_section, read_virtual_memory, write_virtual_memory, read_request_data, write_request_data, token, impersonate_client_of_port, set_information_thread, open_thread_token, open_process_token, query_information_token}
 use Rattle.lpc_model.specs.Linked.{passes_or_none}
 use Rattle.lpc_model.specs.Machine.{step, steps}
 use Rattle.lpc_model.specs.Ranges.{Described, described_test}
-use Rattle.lpc_model.specs.Run.{Along, State, first_state, said_in, world_behind}
+use Rattle.lpc_model.specs.Run.{Along, said_in, world_behind}
 
 -- The group
 -- a group of processes, by their numbers; those in it are its members, all others are outsiders
@@ -56,6 +58,7 @@ line_whose w (thread tid pid) = Of pid
 line_whose w (token name content) = Everyone
 line_whose w (dir path) = Everyone
 line_whose w (link path target) = Everyone
+line_whose w (of_resident tid what had) = thread_whose w tid
 line_whose w (run tid call) = thread_whose w tid
 
 -- An entry is of the process of its thread, by the world behind the line. That of a directive is whose the directive is.
@@ -103,7 +106,7 @@ line_events w line =
     ++ map (gave_event (line_whose w line)) (given_in (steps line w))
 
 -- what happens in a run of lines, from a state on
-abbrev pub events : State → List (Option ScriptLine) → List Event
+abbrev pub events : World → List (Option ScriptLine) → List Event
 events w [] = []
 events w (None ∷ later) = events w later
 events w (Some line ∷ later) = line_events w line ++ events (step w line).world later
@@ -115,9 +118,13 @@ is_seen group (Of pid) = group pid
 is_seen group Everyone = true
 is_seen group Nobody = false
 
--- an entry of a directive; each other is an entry of a thread
+-- an entry of a directive; each other is an entry of a thread, also that of a turn which is refused
+abbrev pub is_turn : Word → Bool
+is_turn word.Turn = true
+is_turn name = false
+
 abbrev pub is_directive : Entry → Bool
-is_directive (Directive word status) = true
+is_directive (Directive name status) = not (is_turn name)
 is_directive (Answer tid call status fields) = false
 is_directive (Waits tid call fields) = false
 is_directive (Wakes tid call status fields) = false
@@ -142,15 +149,28 @@ is_input group c event = is_item group event && not (is_told_to c event.whose ev
 abbrev pub item_of : Event → Item
 item_of event = event.item
 
+-- A line as an item shows it: as it is said. A turn is the call that it came to; where it came to none it shows nothing of
+-- whether its thread has a resident.
+abbrev pub as_said : Item → Item
+as_said (Ran (of_resident tid what had)) = Ran (of_resident tid what false)
+as_said item = item
+
+-- items and inputs in which each line about a resident shows whether there was one
+abbrev pub full_items : Group → List Event → List Item
+full_items group happened = map item_of (which (is_item group) happened)
+
+abbrev pub full_inputs : Group → ℕ → List Event → List Item
+full_inputs group c happened = map item_of (which (is_input group c) happened)
+
 -- The items of a group: the lines of its members' threads, what those threads are told, with the tokens that they get of
 -- their clients, and each directive about a member, about the name space or about the name of a token, with its status; all
 -- in order. Nothing tells at which line of the script an item stands.
 abbrev pub items : Group → List Event → List Item
-items group happened = map item_of (which (is_item group) happened)
+items group happened = map as_said (full_items group happened)
 
 -- the inputs of a group and a process c: the items of the group without what c's threads are told
 abbrev pub inputs : Group → ℕ → List Event → List Item
-inputs group c happened = map item_of (which (is_input group c) happened)
+inputs group c happened = map as_said (full_inputs group c happened)
 
 -- The circle: what each world between two lines must be
 -- A port is of the process of the thread that made it. Of a client port and its connection port: where the client port is
@@ -248,7 +268,7 @@ is_outer_at group w line b =
     || (not (is_seen group (line_whose w line)) && has (is_write_of b) (steps line w))
 
 -- it is outer in a run of lines where it is at some line, or an outsider has a view of it behind the last
-abbrev pub is_outer : Group → State → List (Option ScriptLine) → Birth → Bool
+abbrev pub is_outer : Group → World → List (Option ScriptLine) → Birth → Bool
 is_outer group w [] b = has (outsider_sees group b) w.views
 is_outer group w (None ∷ later) b = is_outer group w later b
 is_outer group w (Some line ∷ later) b =
@@ -272,7 +292,7 @@ ReadsInner c outer w line = Unit {0}
 abbrev pub IsInnerAt : ℕ → (Birth → Bool) → World → ScriptLine → Type 0
 IsInnerAt c outer w line = HasInnerViews c outer w × ReadsInner c outer w line
 
-abbrev pub SeesInner : ℕ → (Birth → Bool) → State → List (Option ScriptLine) → Type 0
+abbrev pub SeesInner : ℕ → (Birth → Bool) → World → List (Option ScriptLine) → Type 0
 SeesInner c outer w lines = Along (IsInnerAt c outer) w lines × HasInnerViews c outer (world_behind w lines)
 
 -- where a line is a call of c, it is such a call; directives and other processes may name whom they like
@@ -283,6 +303,7 @@ is_fine_line group c w (thread tid pid) = true
 is_fine_line group c w (token name content) = true
 is_fine_line group c w (dir path) = true
 is_fine_line group c w (link path target) = true
+is_fine_line group c w (of_resident tid what had) = true
 
 -- a line, and the world before it
 abbrev pub IsFineAt : Group → ℕ → World → ScriptLine → Type 0
@@ -290,7 +311,7 @@ IsFineAt group c w line = IsFineWorld group c w × (is_fine_line group c w line 
 
 -- The group is a circle of c in a run of lines from a state on: at each line, and behind the last; and of the sections
 -- that are outer in that run, c sees none, and reads none through a range that a request describes.
-abbrev pub IsCircle : Group → ℕ → State → List (Option ScriptLine) → Type 0
+abbrev pub IsCircle : Group → ℕ → World → List (Option ScriptLine) → Type 0
 IsCircle group c w lines =
     Along (IsFineAt group c) w lines × IsFineWorld group c (world_behind w lines)
     × SeesInner c (is_outer group w lines) w lines
@@ -298,7 +319,7 @@ IsCircle group c w lines =
 -- The law
 -- what happens in the run of a script; the items and inputs of a list of processes in it
 abbrev pub events_of : List ℕ → List Event
-events_of script = events first_state (said_in script)
+events_of script = events no_rows (said_in script)
 
 abbrev pub items_of : List ℕ → List ℕ → List Item
 items_of group script = items (members group) (events_of script)
@@ -308,7 +329,7 @@ inputs_of group c script = inputs (members group) c (events_of script)
 
 -- a list of processes is a circle of the process c in the run of a script: c is in it, and the run is as a circle must be
 abbrev pub IsCircleIn : List ℕ → ℕ → List ℕ → Type 0
-IsCircleIn group c script = (members group c ≡ true) × IsCircle (members group) c first_state (said_in script)
+IsCircleIn group c script = (members group c ≡ true) × IsCircle (members group) c no_rows (said_in script)
 
 -- In two scripts that agree on a process's lines and on its circle's lines and answers, that process is answered alike.
 abbrev pub Isolation : Type 0

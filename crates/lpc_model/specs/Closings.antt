@@ -1,14 +1,14 @@
 -- What is told of closings: each completed client port that loses its last handle is told of once.
 use Rattle.std.specs.Prelude.{◌≡◌, ℕ, ◌++◌, Bool, List, [], ◌∷◌}
 use Rattle.lpc_base.specs.Rows.{each, given, when, which}
-use Rattle.lpc_model.specs.World.{Birth, MessageRow, World}
+use Rattle.lpc_model.specs.World.{Birth, MessageRow, World, no_rows}
 use Rattle.lpc_model.specs.Message.{tells_closing}
 use Rattle.lpc_model.specs.Found.{handle_at, port_row}
 use Rattle.lpc_model.specs.Basics.{Basic, DropsHandle, basic}
 use Rattle.lpc_model.specs.Close.{is_last, closing_post}
 use Rattle.lpc_model.specs.Lines.{ScriptLine}
 use Rattle.lpc_model.specs.Machine.{step, steps}
-use Rattle.lpc_model.specs.Run.{Along, first_state, said_in}
+use Rattle.lpc_model.specs.Run.{Along, said_in}
 
 -- a message that tells of a closed port
 abbrev pub is_closed_post : MessageRow → Bool
@@ -36,4 +36,4 @@ ClosingsAreTold w line =
 
 -- each line of a script tells so
 abbrev pub RunTellsClosings : List ℕ → Type 0
-RunTellsClosings bytes = Along ClosingsAreTold first_state (said_in bytes)
+RunTellsClosings bytes = Along ClosingsAreTold no_rows (said_in bytes)

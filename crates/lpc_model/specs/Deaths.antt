@@ -4,13 +4,13 @@ use Rattle.std.specs.Prelude.{◌≡◌, ℕ, ◌==◌, ◌&&◌, ◌||◌, ◌+
 use Rattle.std.specs.List.{AllByRecursion}
 use Rattle.lpc_base.specs.Rows.{each, every, first, given, when, which}
 use Rattle.lpc_message.specs.declared.kind.TheConstants.{CLIENT_DIED}
-use Rattle.lpc_model.specs.World.{Birth, MessageRow, ThreadRow, World}
+use Rattle.lpc_model.specs.World.{Birth, MessageRow, ThreadRow, World, no_rows}
 use Rattle.lpc_model.specs.Found.{is_thread, live_thread, same_birth}
 use Rattle.lpc_model.specs.Basics.{Basic, Dies, DropsHandle, DropsViewsOf, Enters, Unbinds, Unregisters, basic, posts_of}
 use Rattle.lpc_model.specs.Death.{death_post}
 use Rattle.lpc_model.specs.Lines.{ScriptLine}
 use Rattle.lpc_model.specs.Machine.{steps}
-use Rattle.lpc_model.specs.Run.{Along, first_state, run_of, said_in}
+use Rattle.lpc_model.specs.Run.{Along, run_of, said_in}
 
 -- a message that tells of a thread's end
 abbrev pub is_died_post : MessageRow → Bool
@@ -82,7 +82,7 @@ DeathsAreTold w line = TellsDeaths w (steps line w)
 
 -- each line of a script tells so
 abbrev pub RunTellsDeaths : List ℕ → Type 0
-RunTellsDeaths bytes = Along DeathsAreTold first_state (said_in bytes)
+RunTellsDeaths bytes = Along DeathsAreTold no_rows (said_in bytes)
 
 -- Registrations are of live threads alone: one that has ended has none
 abbrev pub has_living_registrations : ThreadRow → Bool

@@ -20,10 +20,11 @@ use Rattle.lpc_model.specs.declared.entry.CallName.TheVariants.{NtCreatePort, Nt
 use Rattle.lpc_model.specs.declared.entry.Word.{Word}
 use Rattle.lpc_model.specs.declared.entry.Word.TheVariants.{Boot, Thread, Dir, Link}
 use Rattle.lpc_model.specs.declared.entry.Word.TheVariants as word
+use Rattle.lpc_model.specs.declared.line.Kind.TheVariants.{Win32}
 use Rattle.lpc_model.specs.declared.line.ProcArg.TheVariants.{By, Current}
 use Rattle.lpc_model.specs.declared.fault.LineFault.{LineFault}
 use Rattle.lpc_model.specs.declared.fault.LineFault.TheVariants as fault
-use Rattle.lpc_model.specs.Lines.{ScriptCall, create_port, connect_port, listen_port, accept_connect_port, complete_connect_port, request_port, request_wait_reply_port, reply_port, reply_wait_receive_port, register_thread_terminate_port, close, duplicate_object, query_object, create_process, create_thread, terminate_process, terminate_thread, create_section, map_view_of_section, unmap_view_of_section, read_virtual_memory, write_virtual_memory, read_request_data, write_request_data, impersonate_client_of_port, set_information_thread, open_thread_token, open_process_token, query_information_token, ProcArg, ScriptLine, boot, thread, token, dir, link, run, ViewWord}
+use Rattle.lpc_model.specs.Lines.{ScriptCall, create_port, connect_port, listen_port, accept_connect_port, complete_connect_port, request_port, request_wait_reply_port, reply_port, reply_wait_receive_port, register_thread_terminate_port, close, duplicate_object, query_object, create_process, create_thread, terminate_process, terminate_thread, create_section, map_view_of_section, unmap_view_of_section, read_virtual_memory, write_virtual_memory, read_request_data, write_request_data, impersonate_client_of_port, set_information_thread, open_thread_token, open_process_token, query_information_token, ProcArg, Kind, ScriptLine, boot, thread, token, dir, link, of_resident, run, hosts, moves, ViewWord}
 use Rattle.lpc_model.specs.Words.{is_empty, fault_if, hex_word, words, begins, number_word, id_word, is_id, message_word, info_word, parts, three_parts}
 use Rattle.lpc_model.specs.Text.{call_text, word_text}
 use Rattle.lpc_model.specs.Then.{◌>>=◌}
@@ -68,7 +69,7 @@ call_named word = find (λ call. bytes_eq word (call_text call)) calls
 
 -- the directives that a line may name
 abbrev pub directives : List Word
-directives = Boot ∷ Thread ∷ word.Token ∷ Dir ∷ Link ∷ []
+directives = Boot ∷ Thread ∷ word.Token ∷ Dir ∷ Link ∷ word.Resident ∷ word.Turn ∷ []
 
 -- the directive whose name a word is
 unfoldable pub directive_named : List ℕ → Option Word
@@ -217,6 +218,11 @@ two_words others = Err fault.Count
 unfoldable pub four_words : List (List ℕ) → Result (List ℕ × List ℕ × List ℕ × List ℕ) LineFault
 four_words (a ∷ b ∷ c ∷ d ∷ []) = Ok (a, b, c, d)
 four_words others = Err fault.Count
+
+-- exactly three words
+unfoldable pub three_words : List (List ℕ) → Result (List ℕ × List ℕ × List ℕ) LineFault
+three_words (a ∷ b ∷ c ∷ []) = Ok (a, b, c)
+three_words others = Err fault.Count
 
 -- no word
 unfoldable pub no_words : List (List ℕ) → Result Unit LineFault
@@ -485,6 +491,12 @@ call_words NtQueryInformationToken others = do
   two ← two_numbers others
   Ok (query_information_token two.0 two.1)
 
+-- the kind of a server
+unfoldable pub kind_word : List ℕ → Result Kind LineFault
+kind_word word = do
+  _ ← fixed_word (codes "win32") word
+  Ok Win32
+
 -- a directive by the words behind it; a path may be any word
 unfoldable pub directive_words : Word → List (List ℕ) → Result ScriptLine LineFault
 directive_words Boot others = do
@@ -504,6 +516,16 @@ directive_words Dir others = do
 directive_words Link others = do
   two ← two_words others
   Ok (link two.0 two.1)
+directive_words word.Resident others = do
+  three ← three_words others
+  tid ← id_word three.0
+  kind ← kind_word three.1
+  handle ← number_word three.2
+  Ok (of_resident tid (hosts kind handle) false)
+directive_words word.Turn others = do
+  front ← one_word others
+  tid ← id_word front
+  Ok (of_resident tid moves false)
 
 -- the call of a thread: its name, and the words behind it
 abbrev pub thread_call : List (List ℕ) → Result ScriptCall LineFault
@@ -561,4 +583,5 @@ has_ids (thread tid pid) = is_id tid && is_id pid
 has_ids (token name content) = true
 has_ids (dir path) = true
 has_ids (link path target) = true
+has_ids (of_resident tid what had) = is_id tid
 has_ids (run tid call) = is_id tid && has_call_ids call

@@ -1,5 +1,5 @@
 -- Threads that act as their clients, and tokens as objects.
-use Rattle.std.specs.Prelude.{ℕ, Bool, ◌&&◌, ◌==◌, List, [], ◌∷◌, not, Option, None, Some, option_and_then, option_map, Result, Ok, Err, if◌then◌else◌}
+use Rattle.std.specs.Prelude.{ℕ, Bool, ◌&&◌, ◌==◌, List, [], ◌∷◌, not, Option, None, Some, option_and_then, option_map, Result, Ok, if◌then◌else◌}
 use Rattle.lpc_base.specs.Rows.{first}
 use Rattle.lpc_base.specs.declared.status.Status.{Status}
 use Rattle.lpc_base.specs.declared.status.TheConstants.{CANT_OPEN_ANONYMOUS, INVALID_HANDLE, INVALID_PARAMETER, INVALID_PORT_HANDLE, NO_TOKEN, REPLY_MESSAGE_MISMATCH, SUCCESS}
@@ -18,7 +18,7 @@ use Rattle.lpc_model.specs.Message.{message_test}
 use Rattle.lpc_model.specs.Refusal.{found_or, refuse_if}
 use Rattle.lpc_model.specs.Tests.{client_test, handle_row, handles_test, next_birth, object_test, port_test}
 use Rattle.lpc_model.specs.Then.{◌>>=◌}
-use Rattle.lpc_model.specs.World.{Birth, CallName, Effective, Impersonation, Message, PortRow, Qos, Security, ThreadRow, TokenRow, WaitRow, World}
+use Rattle.lpc_model.specs.World.{CallName, Effective, Impersonation, Message, PortRow, Qos, Security, ThreadRow, TokenRow, WaitRow, World}
 
 -- the rights of a handle that a call makes to a token, and the right that a query of one wants
 abbrev pub TOKEN_ACCESS : ℕ

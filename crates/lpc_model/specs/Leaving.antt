@@ -2,12 +2,12 @@
 -- message of a thread, a request or connection request, is withdrawn with the thread's wait.
 use Rattle.std.specs.Prelude.{◌≡◌, ℕ, ◌==◌, ◌++◌, Bool, true, false, List, [], ◌∷◌}
 use Rattle.lpc_base.specs.Rows.{every, has}
-use Rattle.lpc_model.specs.World.{Birth, World}
+use Rattle.lpc_model.specs.World.{Birth, World, no_rows}
 use Rattle.lpc_model.specs.Basics.{Basic, Dies, Empties, Wakes, Withdraws, basic}
 use Rattle.lpc_model.specs.Closings.{closes}
 use Rattle.lpc_model.specs.Lines.{ScriptLine}
 use Rattle.lpc_model.specs.Machine.{steps}
-use Rattle.lpc_model.specs.Run.{Along, first_state, said_in}
+use Rattle.lpc_model.specs.Run.{Along, said_in}
 
 -- Queues that are emptied
 -- the queue that a step empties, and those that some steps empty
@@ -30,7 +30,7 @@ EmptiesWithHandles w line = emptied (steps line w) ≡ closed w (steps line w)
 
 -- each line of a script does so
 abbrev pub RunEmptiesWithHandles : List ℕ → Type 0
-RunEmptiesWithHandles script = Along EmptiesWithHandles first_state (said_in script)
+RunEmptiesWithHandles script = Along EmptiesWithHandles no_rows (said_in script)
 
 -- Messages that are withdrawn
 -- the thread whose own message a step withdraws, and those of some steps
@@ -54,4 +54,4 @@ WithdrawsWithWaits bs = every (λ who. has (ends_wait who) bs) (withdrawn bs) �
 
 -- so is it in each line of a script
 abbrev pub RunWithdrawsWithWaits : List ℕ → Type 0
-RunWithdrawsWithWaits script = Along (λ w line. WithdrawsWithWaits (steps line w)) first_state (said_in script)
+RunWithdrawsWithWaits script = Along (λ w line. WithdrawsWithWaits (steps line w)) no_rows (said_in script)

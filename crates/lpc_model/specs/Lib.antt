@@ -29,6 +29,8 @@ pub mod TextLaws
 pub mod Script
 pub mod Words
 pub mod Grammar
+pub mod Requests
+pub mod Residents
 pub mod Run
 pub mod Circle
 pub mod Replies
@@ -59,4 +61,5 @@ pub mod WorkedViews
 pub mod WorkedRanges
 pub mod WorkedOffers
 pub mod WorkedNeighbours
+pub mod WorkedResidents
 pub mod WorkedTokens

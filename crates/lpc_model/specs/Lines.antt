@@ -1,5 +1,5 @@
 -- What a line of a script says, whatever buffer its messages lie in.
-use Rattle.std.specs.Prelude.{ℕ, Bool, List, Option}
+use Rattle.std.specs.Prelude.{ℕ, Bool, false, List, Option}
 use Rattle.std.specs.Option.{option_copied}
 use Rattle.lpc_sid.specs.declared.access.Dacl.{Dacl}
 use Rattle.lpc_sid.specs.declared.token.Token.{Token}
@@ -7,6 +7,7 @@ use Rattle.lpc_tokens.specs.declared.qos.Qos.{Qos}
 use Rattle.lpc_model.specs.declared.line.Call.{Call}
 use Rattle.lpc_model.specs.declared.line.Call.TheVariants as call
 use Rattle.lpc_model.specs.declared.line.Line.{Line}
+pub use Rattle.lpc_model.specs.declared.line.Kind.{Kind}
 pub use Rattle.lpc_model.specs.declared.line.ProcArg.{ProcArg}
 pub use Rattle.lpc_model.specs.declared.line.ViewWord.{ViewWord}
 use Rattle.lpc_model.specs.declared.line.Line.TheVariants as line
@@ -45,13 +46,21 @@ pub data ScriptCall : Type 0 where
   open_process_token : ScriptCall
   query_information_token : ℕ → ℕ → ScriptCall
 
--- a directive, or a call of a thread; a path and the name of a token are their bytes
+-- a line about the server that sits on a thread: it comes, of a kind, to serve the port of a handle; or it is to make its next
+-- call
+pub data ResidentLine : Type 0 where
+  hosts : Kind → ℕ → ResidentLine
+  moves : ResidentLine
+
+-- A directive, or a call of a thread; a path and the name of a token are their bytes. A line about the server on a thread has
+-- besides whether there is one by then, which no script says and each run knows: as it is said, there is none.
 pub data ScriptLine : Type 0 where
   boot : ℕ → ℕ → Option (List ℕ) → ScriptLine
   thread : ℕ → ℕ → ScriptLine
   token : List ℕ → Token → ScriptLine
   dir : List ℕ → ScriptLine
   link : List ℕ → List ℕ → ScriptLine
+  of_resident : ℕ → ResidentLine → Bool → ScriptLine
   run : ℕ → ScriptCall → ScriptLine
 
 -- a call without the bytes that it is lent
@@ -92,4 +101,6 @@ line_of (line.Thread tid pid) = thread tid pid
 line_of (line.Token name content) = token name.now content
 line_of (line.Dir path) = dir path.now
 line_of (line.Link path target) = link path.now target.now
+line_of (line.Resident tid kind handle) = of_resident tid (hosts kind handle) false
+line_of (line.Turn tid) = of_resident tid moves false
 line_of (line.Run tid c) = run tid (call_of c)

@@ -1,7 +1,7 @@
 -- One line's step: a directive, or a call of a thread that can make one.
-use Rattle.std.specs.Prelude.{ℕ, List, [], ◌∷◌, Option, Some, None, is_some, Result, Ok, Err}
+use Rattle.std.specs.Prelude.{ℕ, Bool, true, false, List, [], ◌∷◌, Option, Some, None, is_some, Result, Ok, Err}
 use Rattle.lpc_base.specs.declared.status.Status.{Status}
-use Rattle.lpc_base.specs.declared.status.TheConstants.{OBJECT_NAME_COLLISION, OBJECT_NAME_NOT_FOUND, SUCCESS}
+use Rattle.lpc_base.specs.declared.status.TheConstants.{INVALID_CID, OBJECT_NAME_COLLISION, OBJECT_NAME_NOT_FOUND, SUCCESS}
 use Rattle.lpc_model.specs.declared.entry.Entry.{Entry}
 use Rattle.lpc_model.specs.declared.entry.Entry.TheVariants.{Answer, Busy, Directive, NoThread}
 use Rattle.lpc_model.specs.declared.entry.Word.{Word}
@@ -29,7 +29,7 @@ use Rattle.lpc_model.specs.Named.{free_name, spelled_name}
 use Rattle.lpc_names.specs.Walk.{LinkTo, Stands}
 use Rattle.lpc_names.specs.declared.names.Found.TheVariants.{Directory}
 use Rattle.lpc_model.specs.Request.{nt_reply_port, nt_reply_wait_receive_port, nt_request_port, nt_request_wait_reply_port}
-use Rattle.lpc_model.specs.Lines.{ScriptCall, create_port, connect_port, listen_port, accept_connect_port, complete_connect_port, request_port, request_wait_reply_port, reply_port, reply_wait_receive_port, register_thread_terminate_port, close, duplicate_object, query_object, create_process, create_thread, terminate_process, terminate_thread, create_section, map_view_of_section, unmap_view_of_section, read_virtual_memory, write_virtual_memory, read_request_data, write_request_data, impersonate_client_of_port, set_information_thread, open_thread_token, open_process_token, query_information_token, ScriptLine, boot, thread, token, dir, link, run}
+use Rattle.lpc_model.specs.Lines.{ScriptCall, create_port, connect_port, listen_port, accept_connect_port, complete_connect_port, request_port, request_wait_reply_port, reply_port, reply_wait_receive_port, register_thread_terminate_port, close, duplicate_object, query_object, create_process, create_thread, terminate_process, terminate_thread, create_section, map_view_of_section, unmap_view_of_section, read_virtual_memory, write_virtual_memory, read_request_data, write_request_data, impersonate_client_of_port, set_information_thread, open_thread_token, open_process_token, query_information_token, ScriptLine, boot, thread, token, dir, link, of_resident, run, ResidentLine, hosts, moves}
 
 -- the name of a call
 abbrev pub name_of_call : ScriptCall → CallName
@@ -171,6 +171,25 @@ link_line w text target = do
   path ← free_name w text
   Ok (Binds path (LinkTo to) ∷ [])
 
+-- Lines about the servers on threads
+-- A server comes: no live thread of that number, a thread that has one.
+abbrev pub hosting_status : Option ThreadRow → Bool → Status
+hosting_status None had = INVALID_CID
+hosting_status (Some t) true = OBJECT_NAME_COLLISION
+hosting_status (Some t) false = SUCCESS
+
+-- A server is to make its next call and makes none: its thread waits; or there is no live thread of that number, or none
+-- on it.
+abbrev pub idle_entry : ℕ → Option ThreadRow → Bool → Entry
+idle_entry tid None had = Directive word.Turn INVALID_CID
+idle_entry tid (Some t) false = Directive word.Turn INVALID_CID
+idle_entry tid (Some t) true = Busy tid
+
+-- what such a line tells, where there is a server by then, or none; it changes no row
+unfoldable pub resident_entry : World → ℕ → ResidentLine → Bool → Entry
+resident_entry w tid (hosts kind handle) had = Directive word.Resident (hosting_status (live_thread w tid) had)
+resident_entry w tid moves had = idle_entry tid (live_thread w tid) had
+
 -- Lines
 -- what a line does in a world, before rows go
 unfoldable pub bare_steps : ScriptLine → Steps
@@ -179,6 +198,7 @@ bare_steps (thread tid pid) w = directed word.Thread (thread_line w tid pid)
 bare_steps (token name content) w = directed word.Token (token_line w name content)
 bare_steps (dir path) w = directed word.Dir (dir_line w path)
 bare_steps (link path target) w = directed word.Link (link_line w path target)
+bare_steps (of_resident tid what had) w = Tells (resident_entry w tid what had) ∷ []
 bare_steps (run tid call) w = thread_steps tid call (live_thread w tid) w
 
 -- what a line does in a world: its call or directive, and then the objects go that no row counts for

@@ -1,5 +1,5 @@
 -- What rows name stands: the objects of handles, and the ports of messages, of waits and of registrations.
-use Rattle.std.specs.Prelude.{◌≡◌, ℕ, ◌&&◌, ◌||◌, Bool, true, false, List}
+use Rattle.std.specs.Prelude.{◌≡◌, ℕ, ◌&&◌, ◌||◌, Bool, true, List}
 use Rattle.std.specs.List.{AllByRecursion}
 use Rattle.lpc_base.specs.Rows.{every, has, passes}
 use Rattle.lpc_model.specs.declared.entry.ObjectKind.TheVariants as kind

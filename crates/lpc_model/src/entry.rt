@@ -127,11 +127,21 @@ pub enum Word {
     Token,
     Dir,
     Link,
+    Resident,
+    Turn,
 }
 
 impl Word {
     /// Each directive, in the order in which the grammar lists them.
-    pub const ALL: [Word; 5] = [Word::Boot, Word::Thread, Word::Token, Word::Dir, Word::Link];
+    pub const ALL: [Word; 7] = [
+        Word::Boot,
+        Word::Thread,
+        Word::Token,
+        Word::Dir,
+        Word::Link,
+        Word::Resident,
+        Word::Turn,
+    ];
 
     /// The word of the directive, as scripts and transcripts spell it.
     pub fn name(self) -> &'static [u8]
@@ -143,6 +153,8 @@ impl Word {
             Word::Token => b"token",
             Word::Dir => b"dir",
             Word::Link => b"link",
+            Word::Resident => b"resident",
+            Word::Turn => b"turn",
         }
     }
 }
@@ -309,6 +321,13 @@ impl Fields {
             Some(field) => Some(field.name),
             None => None,
         }
+    }
+
+    /// The fields in order.
+    pub fn as_slice(&self) -> &[Field]
+        ensures { result.now ≡ self.now }
+    {
+        self.list.as_slice()
     }
 
     /// The value of a field, none at or past the count.

@@ -1,6 +1,6 @@
 // Laws of the definitions alone.
 ghost use Rattle.std.specs.Prelude.{ℕ, List};
-ghost use Rattle.lpc_model.specs.World.{World};
+ghost use Rattle.lpc_model.specs.World.{World, no_rows};
 ghost use Rattle.lpc_model.specs.Accounts.{RunAccountsForDeaths, RunAccountsForMessages};
 ghost use Rattle.lpc_model.specs.Linked.{IsLinked, RunHoldsRows, StepsHoldRows};
 ghost use Rattle.lpc_model.specs.Standing.{NamesWhatStands, RunNamesWhatStands, StepsNameWhatStands};
@@ -16,7 +16,6 @@ ghost use Rattle.lpc_model.specs.SingleClosings.{HasSingleClosings, RunHasSingle
 ghost use Rattle.lpc_model.specs.Limits.{LimitsChildren, LimitsDatagrams, LimitsHandles, LimitsInfo, LimitsMessages, LimitsRegistrations, LimitsSections, LimitsThreads, LimitsTwoHandles, LimitsViews};
 ghost use Rattle.lpc_model.specs.Connected.{ConnectedPortsReachEachOther};
 ghost use Rattle.lpc_model.specs.Queues.{FirstWaiterTakes, QueuesAreFirstInFirstOut};
-ghost use Rattle.lpc_model.specs.Run.{first_state};
 ghost use Rattle.lpc_model.specs.SoundViews.{HasSoundOffers, HasSoundViews, RunKeepsOffers, RunKeepsViews, StepsKeepOffers, StepsKeepViews};
 ghost use Rattle.lpc_model.specs.SoundWaits.{HasSoundWaits, IsSoundWorld, RefusesCutPairsAlone, RunRefusesCutPairsAlone, RunStaysSound, StepsStaySound};
 
@@ -28,7 +27,7 @@ ghost use Rattle.lpc_model.specs.SoundWaits.{HasSoundWaits, IsSoundWorld, Refuse
 /// connection port, in whose queue its request stands until it is received; an accepted one has a pair, whose server
 /// port is open. That is so before the first line and behind each line.
 pub fn law_sound_waits()
-    ensures first { IsSoundWorld first_state }
+    ensures first { IsSoundWorld no_rows }
     ensures steps { StepsStaySound }
     ensures waits { (w : World) → IsSoundWorld w → HasSoundWaits w }
     ensures runs { (script : List ℕ) → RunStaysSound script }
@@ -66,10 +65,10 @@ pub fn law_impersonation_refuses_unserved()
 /// stands, and is owned by no port or by one that stands. So no row is left that names a port or a
 /// section that went. Before the first line none stands.
 pub fn law_held_objects()
-    ensures first { IsLinked first_state }
+    ensures first { IsLinked no_rows }
     ensures steps { StepsHoldRows }
     ensures runs { (script : List ℕ) → RunHoldsRows script }
-    ensures named_first { NamesWhatStands first_state }
+    ensures named_first { NamesWhatStands no_rows }
     ensures named_steps { StepsNameWhatStands }
     ensures named_runs { (script : List ℕ) → RunNamesWhatStands script }
 {}
@@ -83,7 +82,7 @@ pub fn law_held_objects()
 /// of each wait that isn't received, is that of an open port, before the first line and behind each
 /// line. Of a request that was received it says nothing: its queue's port may be closed.
 pub fn law_open_queues()
-    ensures first { HasOpenQueues first_state }
+    ensures first { HasOpenQueues no_rows }
     ensures steps { StepsKeepQueuesOpen }
     ensures runs { (script : List ℕ) → RunKeepsQueuesOpen script }
 {}
@@ -100,7 +99,7 @@ pub fn law_open_queues()
 pub fn law_closings_are_told()
     ensures runs { (script : List ℕ) → RunTellsClosings script }
     ensures creators { (script : List ℕ) → RunKeepsConnects script }
-    ensures single_closings_first { HasSingleClosings first_state }
+    ensures single_closings_first { HasSingleClosings no_rows }
     ensures single_closings_steps { StepsKeepSingleClosings }
     ensures single_closings_runs { (script : List ℕ) → RunHasSingleClosings script }
 {}
@@ -137,10 +136,10 @@ pub fn law_death()
 /// more than a section has that stands, and the section may be written. So before the first line,
 /// where there are none.
 pub fn law_views()
-    ensures first { HasSoundViews first_state }
+    ensures first { HasSoundViews no_rows }
     ensures steps { StepsKeepViews }
     ensures runs { (script : List ℕ) → RunKeepsViews script }
-    ensures offers_first { HasSoundOffers first_state }
+    ensures offers_first { HasSoundOffers no_rows }
     ensures offers_steps { StepsKeepOffers }
     ensures offers_runs { (script : List ℕ) → RunKeepsOffers script }
 {}
@@ -169,7 +168,7 @@ pub fn law_messages_are_accounted_for()
 /// their sections, and apart. A client port allows its server something, and the other end of a
 /// server port is a client port. What the calls that close and end ask of the rows is part of it.
 pub fn law_lawful_worlds()
-    ensures first { IsLawfulWorld first_state }
+    ensures first { IsLawfulWorld no_rows }
     ensures steps { StepsKeepLaws }
 {}
 

@@ -8,6 +8,7 @@ mod fields;
 mod laws;
 mod line;
 mod message;
+mod resident;
 
 pub use entry::{
     CallName, Entries, Entry, Field, FieldName, Fields, ObjectKind, Outcome, Value, Word,
@@ -23,5 +24,6 @@ pub use laws::{
     law_messages_are_accounted_for, law_open_queues, law_queues_keep_their_order, law_sound_waits,
     law_views,
 };
-pub use line::{Call, Line, ProcArg, ViewWord};
+pub use line::{Call, Kind, Line, ProcArg, ViewWord};
 pub use message::{Body, Message};
+pub use resident::{Asked, ClientView, Connect, Connection, Deed};

@@ -184,6 +184,13 @@ pub enum Call<'a> {
     },
 }
 
+/// The kinds of resident: what kind of server sits on a thread, spelled by a word.
+#[derive(Clone, Copy, PartialEq, Eq)]
+pub enum Kind {
+    /// `win32`: a server like the one that serves the Win32 interface.
+    Win32,
+}
+
 /// What one line of a script says. Process and thread numbers are from 1 to 2147483647. A path is a word as it stands;
 /// it is tested by the directive, not by the line.
 #[derive(Drop)]
@@ -211,6 +218,14 @@ pub enum Line<'a> {
         path: &'a [u8],
         target: &'a [u8],
     },
+    /// `resident TID KIND H`: puts a server of a kind on a thread, which serves the port of a handle.
+    Resident {
+        tid: u32,
+        kind: Kind,
+        handle: u32,
+    },
+    /// `turn TID`: lets the server on a thread make its next call.
+    Turn(u32),
     /// `TID CALL WORDS`: a thread makes a call.
     Run {
         tid: u32,

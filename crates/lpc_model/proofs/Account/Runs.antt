@@ -4,12 +4,12 @@ use Rattle.lpc_base.specs.Rows.{count}
 use Rattle.lpc_base.proofs.RowWords.{count-append}
 use Rattle.lpc_message.specs.Layout.{header_of}
 use Rattle.lpc_message.specs.declared.kind.TheConstants.{CLIENT_DIED, PORT_CLOSED}
-use Rattle.lpc_model.specs.World.{World}
+use Rattle.lpc_model.specs.World.{World, no_rows}
 use Rattle.lpc_model.specs.Message.{asks, message_of}
 use Rattle.lpc_model.specs.Basics.{posts_of}
 use Rattle.lpc_model.specs.Lines.{ScriptLine}
 use Rattle.lpc_model.specs.Machine.{step, steps}
-use Rattle.lpc_model.specs.Run.{all_posts, first_state, trace, world_behind}
+use Rattle.lpc_model.specs.Run.{all_posts, trace, world_behind}
 use Rattle.lpc_model.specs.Lawful.{IsLawfulWorld}
 use Rattle.lpc_model.proofs.Runs.{lawful_none, lawful_step}
 use Rattle.lpc_model.specs.Accounts.{RunAccountsForDeaths, RunAccountsForMessages, Receipt, has_receipt, lost_in, received_in, standing}
@@ -28,7 +28,7 @@ accounted-from s quiet w (Some line ∷ later) l =
     omega (arith, here, there, posts)
 
 pub messages-accounted : (script : List ℕ) → RunAccountsForMessages script
-messages-accounted script s quiet front back parts = let all = accounted-from s quiet first_state front lawful_none in omega (arith, all)
+messages-accounted script s quiet front back parts = let all = accounted-from s quiet no_rows front lawful_none in omega (arith, all)
 
 -- a message that tells of an end, or of a closed port, asks for no answer
 died-quiet : (bytes : List ℕ) → (header_of bytes).kind ≡ CLIENT_DIED → asks (message_of bytes) ≡ false

@@ -9,8 +9,8 @@ use Rattle.lpc_model.proofs.Calls.Outcomes.{Outcomes, service-does}
 use Rattle.lpc_model.proofs.Calls.Usable.{CanCall, can-call, live-number}
 use Rattle.lpc_model.specs.Basics.{AddsProcess, AddsThread, Basic, Binds, NamesToken, Tells, world_after}
 use Rattle.lpc_model.specs.Found.{is_live, live_thread, named_token, wait_of, was_process, was_thread}
-use Rattle.lpc_model.specs.Lines.{ScriptCall, ScriptLine, boot, dir, link, run, thread, token}
-use Rattle.lpc_model.specs.Machine.{bare_steps, boot_line, boot_steps, boot_token, token_line, dir_line, directive_birth, link_line, name_of_call, new_process, new_thread, ready_steps, service_of, step, thread_line, thread_steps, thread_test, unused_test}
+use Rattle.lpc_model.specs.Lines.{ScriptCall, ResidentLine, ScriptLine, boot, dir, hosts, link, moves, of_resident, run, thread, token}
+use Rattle.lpc_model.specs.Machine.{bare_steps, boot_line, boot_steps, boot_token, token_line, dir_line, directive_birth, idle_entry, link_line, resident_entry, name_of_call, new_process, new_thread, ready_steps, service_of, step, thread_line, thread_steps, thread_test, unused_test}
 use Rattle.lpc_model.specs.Named.{free_name, spelled_name}
 use Rattle.lpc_model.specs.Refusal.{refuse_if}
 use Rattle.lpc_model.specs.SoundWaits.{HasShutConnects, IsSoundWorld}
@@ -31,6 +31,17 @@ shows_status (entry.Directive named status) = true
 shows_status (entry.Busy who) = true
 shows_status (entry.NoThread who) = true
 shows_status e = false
+
+-- what is told of a resident is such an entry
+idle-shows : (tid : ℕ) (o : Option ThreadRow) (had : Bool) → shows_status (idle_entry tid o had) ≡ true
+idle-shows tid None had = refl
+idle-shows tid (Some t) false = refl
+idle-shows tid (Some t) true = refl
+
+pub resident-shows : (w : World) (tid : ℕ) (what : ResidentLine) (had : Bool) → shows_status (resident_entry w tid what had) ≡ true
+unfolding resident_entry
+resident-shows w tid (hosts kind handle) had = refl
+resident-shows w tid moves had = idle-shows tid (live_thread w tid) had
 
 -- nothing is known of the world before
 abbrev pub AnyWorld : World → Type 0
@@ -106,6 +117,7 @@ module _ (C : World → Type 0) (P : ScriptLine → World → List Basic → Typ
       (bind_holds (spelled_name target) _ (λ bs. Q (Tells (entry.Directive word.Link SUCCESS) ∷ bs)) (λ to _.
       bind_holds (free_name w text) _ (λ bs. Q (Tells (entry.Directive word.Link SUCCESS) ∷ bs)) (λ path free. k.links w text target path to free more)))
       (λ e. k.tells (link text target) w _ refl)
+  line-does (of_resident tid what had) = k.tells (of_resident tid what had) w _ (resident-shows w tid what had)
   line-does (run tid call) = thread-does tid call (live_thread w tid) refl
 
 -- Laws that steps keep which pass a test

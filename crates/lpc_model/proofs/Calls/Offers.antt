@@ -1,7 +1,7 @@
 -- What the tests of views find: the section's own row, a part of the section, and a place; and of what is given, which may be
 -- none.
-use Rattle.std.proofs.Common.{◌≡◌, ℕ, ◌≤◌, Bool, true, false, cond, not, Option, Some, None, refl, sym, subst, arith, ◌<◌, List, [], ◌∷◌}
-use Rattle.std.specs.Prelude.{◌==◌, ◌+◌, ◌-◌, ◌*◌, ◌%◌, ◌/◌, nat_le, Result, Ok, ◌&&◌, nat_lt, Err}
+use Rattle.std.proofs.Common.{◌≡◌, ℕ, ◌≤◌, Bool, true, false, cond, not, Option, Some, None, refl, sym, subst, arith, ◌<◌}
+use Rattle.std.specs.Prelude.{◌==◌, ◌+◌, ◌-◌, ◌*◌, ◌%◌, ◌/◌, nat_le, Result, Ok, nat_lt}
 use Rattle.std.proofs.lemmas.Bool.{and_from, eqb-true, not-false}
 use Rattle.std.proofs.lemmas.Bool.Decides.{nat_tests}
 use Rattle.lpc_base.specs.Views.{passes_section, view_size, whole_pages}

@@ -9,7 +9,7 @@ use Rattle.lpc_base.proofs.Births.{birth-same, birth-self, birth-turned}
 use Rattle.lpc_base.proofs.Bools.{or-last}
 use Rattle.lpc_model.specs.declared.entry.ObjectKind.TheVariants as kind
 use Rattle.lpc_model.specs.World.{Birth, ContentRow, Contents, Known, MessageRow, ObjectKind, ObjectName, PortRow, ProcessRow, SectionRow, ThreadRow, Unknown, World, TokenRow}
-use Rattle.lpc_model.specs.Found.{all_registrations, is_connected_to, is_content, is_paired_to, is_port, is_section, is_the, kind_rank, object_names, port_name, process_name, same_birth, same_kind, same_object, section_name, thread_name, token_name, is_token}
+use Rattle.lpc_model.specs.Found.{all_registrations, is_connected_to, is_content, is_paired_to, is_port, is_section, is_the, kind_rank, object_names, port_name, process_name, same_birth, same_kind, same_object, section_name, thread_name, token_name}
 use Rattle.lpc_model.specs.declared.entry.Entry.{Entry}
 use Rattle.lpc_model.specs.Lines.{ScriptLine}
 use Rattle.lpc_model.specs.Machine.{Stepped, bare_step, bare_steps, step}

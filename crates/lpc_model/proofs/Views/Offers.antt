@@ -9,7 +9,7 @@ use Rattle.lpc_base.proofs.RowWords.{every-change, every-more, every-push, every
 use Rattle.lpc_model.specs.declared.entry.ObjectKind.TheVariants as kind
 use Rattle.lpc_model.specs.World.{Acceptance, Birth, ObjectKind, ObjectName, Offer, SectionRow, ThreadRow, WaitRow, World}
 use Rattle.lpc_model.specs.Found.{all_views, handle_count, is_connect, is_section, offer_of, offers_section, pointer_count, same_birth, section_name, section_row, shows_section}
-use Rattle.lpc_model.specs.Basics.{Accepts, AddsSection, AddsHandle, Awaits, Basic, Dies, DrawsOrdinal, Frees, Receives, Wakes, accepted, basic, freed, received, world_after, Secures, Acts, AddsToken}
+use Rattle.lpc_model.specs.Basics.{Accepts, AddsSection, AddsHandle, Awaits, Basic, Dies, DrawsOrdinal, Frees, Receives, Wakes, accepted, basic, freed, received, world_after}
 use Rattle.lpc_model.specs.Close.{close_handle}
 use Rattle.lpc_model.specs.Connect.{client_port, connection_request, named_steps, unnamed_steps, connect_wait}
 use Rattle.lpc_model.specs.Death.{die}
@@ -32,7 +32,6 @@ use Rattle.lpc_model.proofs.Sound.Worlds.{by_kind}
 use Rattle.lpc_model.proofs.Steps.Ending.{AreEnding, die-ending, ending-enter, ending-receipt, handle-ending, is_ending}
 use Rattle.lpc_model.proofs.Steps.InTurn.{after-append, steps-keep}
 use Rattle.lpc_model.proofs.Views.Steps.{first-left}
-use Rattle.lpc_model.specs.Impersonation.{new_token}
 
 -- a step offers nothing, and frees no section
 abbrev keeps_offers : Basic → Bool
