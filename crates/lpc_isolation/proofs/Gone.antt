@@ -13,3 +13,6 @@ pub mod Grown
 pub mod ThinCalls
 pub mod Sweeps
 pub mod Swept
+pub mod Owned
+pub mod Restored
+pub mod Said

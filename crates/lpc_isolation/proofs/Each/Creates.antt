@@ -78,7 +78,7 @@ target-group : (m : Group) (c : ℕ) (w : World) (by : ThreadRow) (target : Proc
 target-group m c w by target pid f at = holds_ok (λ pid. m pid ≡ m by.process) (process_target w by target) pid (process-whose m c w by target f) at
 
 -- the owner of a number stays
-kept-owner : (us : List UsedThread) (u : UsedThread) (tid pid : ℕ) → option_map (λ (u : UsedThread). u.process) (first (is_used_thread tid) us) ≡ Some pid → option_map (λ (u : UsedThread). u.process) (first (is_used_thread tid) (us ++ u ∷ [])) ≡ Some pid
+pub kept-owner : (us : List UsedThread) (u : UsedThread) (tid pid : ℕ) → option_map (λ (u : UsedThread). u.process) (first (is_used_thread tid) us) ≡ Some pid → option_map (λ (u : UsedThread). u.process) (first (is_used_thread tid) (us ++ u ∷ [])) ≡ Some pid
 kept-owner us u tid pid own = at (first (is_used_thread tid) us) refl own
   where
     at : (o : Option UsedThread) → first (is_used_thread tid) us ≡ o → option_map (λ (u : UsedThread). u.process) o ≡ Some pid → option_map (λ (u : UsedThread). u.process) (first (is_used_thread tid) (us ++ u ∷ [])) ≡ Some pid

@@ -7,8 +7,8 @@ use Rattle.lpc_isolation.proofs.Views.Mine.{c-port_test, c-client, c-live, clien
 use Rattle.lpc_isolation.proofs.Each.Instances.{At}
 use Rattle.lpc_model.specs.Basics.{Basic}
 use Rattle.std.proofs.Common.{◌≡◌, ℕ, List, Bool, true, false, not, Option, Some, None, refl, ap, subst, sym, ◌∙◌, arith}
-use Rattle.std.specs.Prelude.{◌==◌, Result, Ok, Err, option_and_then, option_map}
-use Rattle.lpc_base.specs.Rows.{every, first}
+use Rattle.std.specs.Prelude.{◌==◌, Result, Ok, option_and_then, option_map}
+use Rattle.lpc_base.specs.Rows.{first}
 use Rattle.lpc_base.proofs.RowWords.{first-passes}
 use Rattle.lpc_base.proofs.RowMaps.{every-first}
 use Rattle.lpc_base.proofs.Births.{birth-same}
@@ -20,7 +20,7 @@ use Rattle.lpc_tokens.specs.declared.qos.Tracking.{Tracking}
 use Rattle.lpc_tokens.specs.declared.qos.Tracking.TheVariants.{Dynamic, Static}
 use Rattle.lpc_tokens.specs.declared.security.Security.TheVariants.{Allows, Guarded, Unsecured}
 use Rattle.lpc_model.specs.declared.entry.ObjectKind.TheVariants as kind
-use Rattle.lpc_model.specs.World.{Birth, Effective, Impersonation, PortRow, Qos, Security, ThreadRow, Token, TokenRow, WaitRow, World}
+use Rattle.lpc_model.specs.World.{Birth, Effective, Impersonation, PortRow, Qos, Security, ThreadRow, Token, WaitRow, World}
 use Rattle.lpc_model.specs.Found.{handle_at, handles_of, has_value, is_server_port, is_table, is_token, live_thread, same_kind, token_row, token_of, port_row, pair_of, is_the, names_wait, is_request, same_birth, is_port}
 use Rattle.lpc_model.specs.Impersonation.{THREAD_IMPERSONATION_TOKEN, TOKEN_RIGHT, allowed_by, is_served_by, nt_impersonate_client_of_port, nt_open_process_token, nt_open_thread_token, nt_query_information_token, nt_set_information_thread, own_test, token_test, told_of, told_steps, allowed, impersonate_steps, tracked}
 use Rattle.lpc_model.specs.declared.message.Message.{Message}

@@ -4,7 +4,7 @@ use Rattle.lpc_model.specs.World.{Birth, World, no_rows}
 use Rattle.lpc_model.specs.Lines.{ScriptLine}
 use Rattle.lpc_isolation.proofs.Gone.Served.{served_step, served_steps}
 use Rattle.lpc_model.specs.Run.{said_in}
-use Rattle.lpc_model.specs.Circle.{Event, Group, HasInnerViews, Ran, inputs, is_fine_line, is_seen, items, line_whose, told_event, members, ReadsInner, gave_event, given_in}
+use Rattle.lpc_model.specs.Circle.{Event, Group, HasInnerViews, Ran, full_inputs, is_fine_line, is_seen, full_items, line_whose, told_event, members, ReadsInner, gave_event, given_in}
 use Rattle.lpc_isolation.proofs.Views.Alone.{HasFineRows, WritesOuter, alone, ShowsOuter}
 
 -- what happens at a line, before rows go
@@ -53,5 +53,5 @@ abbrev pub BareIsolation : Type 0
 BareIsolation =
     (group : List ℕ) (c : ℕ) (outer other : Birth → Bool) (one two : List ℕ) → members group c ≡ true →
     IsBareCircleIn (members group) c outer one → IsBareCircleIn (members group) c other two →
-    inputs (members group) c (bare_events_of one) ≡ inputs (members group) c (bare_events_of two) →
-    items (alone c) (bare_events_of one) ≡ items (alone c) (bare_events_of two)
+    full_inputs (members group) c (bare_events_of one) ≡ full_inputs (members group) c (bare_events_of two) →
+    full_items (alone c) (bare_events_of one) ≡ full_items (alone c) (bare_events_of two)

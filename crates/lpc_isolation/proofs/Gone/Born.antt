@@ -34,9 +34,9 @@ use Rattle.lpc_model.specs.Grammar.{has_call_ids, has_ids}
 use Rattle.lpc_model.specs.Words.{is_id}
 use Rattle.lpc_model.specs.World.{Birth, ContentRow, Contents, Known, ProcessRow, ThreadRow, Unknown, UsedThread, WaitRow, World, no_rows, MessageRow, PortRow, SectionRow, Effective, Token}
 use Rattle.lpc_model.specs.Found.{is_content, is_live, is_live_thread, is_section, is_thread, live_thread, same_birth, wait_of, was_process, was_thread, free_handle, is_token, token_of, named_token}
-use Rattle.lpc_model.specs.Basics.{AddsProcess, AddsSection, AddsThread, Basic, Binds, Dies, DrawsIdentifier, DrawsOrdinal, Frees, Registers, Unregisters, Writes, basic, ended, freed, in_known, past_identifier, past_ordinal, registering, unregistering, world_after, written, zeros, Acts, AddsToken, NamesToken, Secures, acting}
+use Rattle.lpc_model.specs.Basics.{AddsProcess, AddsSection, AddsThread, Basic, Binds, Dies, DrawsIdentifier, DrawsOrdinal, Frees, Registers, Unregisters, Writes, basic, ended, freed, in_known, past_identifier, past_ordinal, registering, unregistering, world_after, written, zeros, Acts, AddsToken, NamesToken, acting}
 use Rattle.lpc_model.specs.Named.{free_name, spelled_name}
-use Rattle.lpc_model.specs.Lines.{ScriptCall, ScriptLine, boot, dir, link, run, thread, token}
+use Rattle.lpc_model.specs.Lines.{of_resident, ScriptCall, ScriptLine, boot, dir, link, run, thread, token}
 use Rattle.lpc_model.specs.Machine.{bare_steps, boot_line, dir_line, directive_birth, link_line, name_of_call, new_process, new_thread, thread_line, thread_test, unused_test, boot_token, token_line}
 use Rattle.lpc_model.specs.Creation.{second_birth, making_process, making_thread}
 use Rattle.lpc_model.specs.Tests.{next_birth}
@@ -515,6 +515,7 @@ line-born u (token name content) ids o = directed_holds (λ bs. Born (world_afte
 line-born u (thread tid pid) ids o = directed_holds (λ bs. Born (world_after u bs)) word.Thread (thread_line u tid pid) (further-born u tid pid (first-true _ _ ids) o) (λ _. o)
 line-born u (dir path) ids o = directed_holds (λ bs. Born (world_after u bs)) word.Dir (dir_line u path) (dir-born u path o) (λ _. o)
 line-born u (link path target) ids o = directed_holds (λ bs. Born (world_after u bs)) word.Link (link_line u path target) (link-born u path target o) (λ _. o)
+line-born u (of_resident tid what had) ids o = o
 line-born u (run tid call) ids o = thread-line-born u tid call (live_thread u tid) refl (second-true (is_id tid) _ ids) o
 
 pub born_none : Born no_rows

@@ -20,7 +20,7 @@ use Rattle.lpc_model.specs.Basics.{Basic, Steps, Tells}
 use Rattle.lpc_model.specs.Fields.{object_fields}
 use Rattle.lpc_model.specs.Standing.{is_near}
 use Rattle.lpc_model.specs.Tests.{own_handle, handles_test}
-use Rattle.lpc_model.specs.Lines.{ScriptCall, ScriptLine, boot, dir, link, query_object, run, thread, create_section, token}
+use Rattle.lpc_model.specs.Lines.{of_resident, ScriptCall, ScriptLine, boot, dir, link, query_object, run, thread, create_section, token}
 use Rattle.lpc_model.specs.Machine.{Stepped, bare_steps, landed, name_of_call, service_of, settled}
 
 -- What counts for an object
@@ -108,6 +108,7 @@ served_steps (token name content) w = bare_steps (token name content) w
 served_steps (thread tid pid) w = bare_steps (thread tid pid) w
 served_steps (dir path) w = bare_steps (dir path) w
 served_steps (link path target) w = bare_steps (link path target) w
+served_steps (of_resident tid what had) w = bare_steps (of_resident tid what had) w
 served_steps (run tid call) w = served_thread tid call (live_thread w tid) w
 
 abbrev pub served_step : World → ScriptLine → Stepped

@@ -17,7 +17,7 @@ use Rattle.lpc_model.specs.SoundViews.{HasSoundOffers, HasSoundViews}
 use Rattle.lpc_model.specs.Basics.{Basic, Tells}
 use Rattle.lpc_model.specs.Found.{live_thread, wait_of}
 use Rattle.lpc_model.specs.Linked.{IsLinked}
-use Rattle.lpc_model.specs.Lines.{ScriptCall, ScriptLine, boot, dir, link, run, thread, token}
+use Rattle.lpc_model.specs.Lines.{of_resident, ScriptCall, ScriptLine, boot, dir, link, run, thread, token}
 use Rattle.lpc_model.specs.Machine.{name_of_call}
 use Rattle.lpc_model.specs.SoundWaits.{HasShutConnects, IsSoundWorld}
 use Rattle.lpc_model.specs.Standing.{NamesWhatStands}
@@ -46,6 +46,7 @@ module _ (C : World → Type 0) (P : ScriptLine → World → List Basic → Typ
   served-line (thread tid pid) = line-does C P k w s more (thread tid pid)
   served-line (dir path) = line-does C P k w s more (dir path)
   served-line (link path target) = line-does C P k w s more (link path target)
+  served-line (of_resident tid what had) = line-does C P k w s more (of_resident tid what had)
   served-line (run tid call) = called tid call (live_thread w tid) refl
 
 pub served-firm : (u : World) (line : ScriptLine) → Firm u → Firm (served_step u line).world

@@ -6,7 +6,7 @@ use Rattle.lpc_isolation.proofs.Gone.Grown.{Grows, IsNew, boot-grows, either, ei
 use Rattle.lpc_isolation.proofs.Calls.Laws.{Room}
 use Rattle.lpc_model.specs.Grammar.{has_ids}
 use Rattle.lpc_isolation.proofs.Calls.Services.{lawful}
-use Rattle.std.proofs.Common.{◌≡◌, ℕ, List, [], ◌∷◌, ◌++◌, true, Option, Some, None, refl, ap, sym, subst, ◌∙◌}
+use Rattle.std.proofs.Common.{◌≡◌, ℕ, Bool, List, [], ◌∷◌, ◌++◌, true, Option, Some, None, refl, ap, sym, subst, ◌∙◌}
 use Rattle.std.specs.Prelude.{Ok, is_some}
 use Rattle.lpc_base.proofs.RowMaps.{every-both}
 use Rattle.lpc_model.specs.declared.entry.Entry.{Entry}
@@ -16,8 +16,8 @@ use Rattle.lpc_model.specs.Found.{handle_count, live_thread, wait_of, named_toke
 use Rattle.lpc_model.specs.Basics.{Basic, Tells, entries_of, world_after}
 use Rattle.lpc_model.specs.Tests.{own_handle}
 use Rattle.lpc_model.specs.Named.{free_name, spelled_name}
-use Rattle.lpc_model.specs.Lines.{ScriptCall, ScriptLine, boot, dir, link, query_object, run, thread, create_section, token}
-use Rattle.lpc_model.specs.Machine.{bare_steps, boot_line, dir_line, link_line, name_of_call, ready_steps, service_of, settled, step, thread_line, thread_steps, thread_test, unused_test, boot_token, token_line}
+use Rattle.lpc_model.specs.Lines.{of_resident, ResidentLine, hosts, moves, ScriptCall, ScriptLine, boot, dir, link, query_object, run, thread, create_section, token}
+use Rattle.lpc_model.specs.Machine.{resident_entry, idle_entry, hosting_status, bare_steps, boot_line, dir_line, link_line, name_of_call, ready_steps, service_of, settled, step, thread_line, thread_steps, thread_test, unused_test, boot_token, token_line}
 use Rattle.lpc_isolation.proofs.Gone.Served.{served, served_ready, served_step, served_steps, served_thread}
 use Rattle.lpc_model.specs.Sweep.{sweep}
 use Rattle.lpc_model.specs.SoundWaits.{IsSoundWorld}
@@ -26,7 +26,7 @@ use Rattle.lpc_model.specs.Counts.{nt_query_object}
 use Rattle.lpc_model.specs.Fields.{object_fields}
 use Rattle.lpc_base.specs.declared.status.TheConstants.{SUCCESS, OBJECT_NAME_COLLISION}
 use Rattle.lpc_model.specs.declared.entry.CallName.TheVariants.{NtQueryObject}
-use Rattle.lpc_model.specs.declared.entry.Entry.TheVariants.{Answer}
+use Rattle.lpc_model.specs.declared.entry.Entry.TheVariants.{Answer, Directive}
 use Rattle.lpc_model.proofs.Linked.Lines.{held_step}
 use Rattle.lpc_model.proofs.Calls.Usable.{live-number}
 use Rattle.lpc_isolation.proofs.Views.Seen.{bind-same}
@@ -53,6 +53,12 @@ thread-thin : (k : Alive) (u : World) (tid : ℕ) (call : ScriptCall) (o : Optio
 thread-thin k u tid call None live s c = refl
 thread-thin k u tid call (Some by) live s c = ready-thin k u by call (wait_of u tid) (own-live u tid by live) s c
 
+-- what is told of a resident
+resident-thin : (k : Alive) (u : World) (tid : ℕ) (what : ResidentLine) (had : Bool) → Closed k u → resident_entry (thin k u) tid what had ≡ resident_entry u tid what had
+unfolding resident_entry
+resident-thin k u tid (hosts kind handle) had c = ap (λ o. Directive word.Resident (hosting_status o had)) (live-thin k u tid c)
+resident-thin k u tid moves had c = ap (λ o. idle_entry tid o had) (live-thin k u tid c)
+
 pub line-thin : (k : Alive) (u : World) (line : ScriptLine) → IsSoundWorld u → Closed k u → served_steps line (thin k u) ≡ served_steps line u
 unfolding bare_steps boot_line token_line thread_line dir_line link_line
 line-thin k u (thread tid pid) s c = rw (is_live-thin k u pid c, threads-thin k u pid c) refl
@@ -62,6 +68,7 @@ line-thin k u (boot pid tid (Some name)) s c = refl
 line-thin k u (token name content) s c = refl
 line-thin k u (dir path) s c = refl
 line-thin k u (link path target) s c = refl
+line-thin k u (of_resident tid what had) s c = ap (λ e. Tells e ∷ []) (resident-thin k u tid what had c)
 
 ready-closed : (k : Alive) (u : World) (by : ThreadRow) (call : ScriptCall) (o : Option WaitRow) → live_thread u by.number ≡ Some by → IsSoundWorld u → Closed k u → Room k u by call → AreClosed k (served_ready by call o u)
 ready-closed k u by call (Some x) live s c new = refl
@@ -86,6 +93,7 @@ line-ready k u (token name content) s b c = same-ready k u _ c (directed_holds (
 line-ready k u (thread tid pid) s b c = thread-grows k u tid pid b c
 line-ready k u (dir path) s b c = same-ready k u _ c (directed_holds (AreClosed k) word.Dir (dir_line u path) (bind_holds (free_name u path) _ (AreClosed k) (λ _ _. refl)) (λ _. refl))
 line-ready k u (link path target) s b c = same-ready k u _ c (directed_holds (AreClosed k) word.Link (link_line u path target) (bind_holds (spelled_name target) _ (AreClosed k) (λ _ _. bind_holds (free_name u path) _ (AreClosed k) (λ _ _. refl))) (λ _. refl))
+line-ready k u (of_resident tid what had) s b c = same-ready k u (Tells (resident_entry u tid what had) ∷ []) c refl
 line-ready k u (run tid call) s b c = run-ready k u tid call (live_thread u tid) refl s b c
 
 -- What a query is told where each row is named by a row
@@ -135,6 +143,7 @@ line-sends u (token name content) s = directed_holds (λ bs. are_sent u bs ≡ t
 line-sends u (thread tid pid) s = directed_holds (λ bs. are_sent u bs ≡ true) word.Thread (thread_line u tid pid) (bind_holds (thread_test u tid pid) _ (λ bs. are_sent u bs ≡ true) (λ _ _. refl)) (λ _. refl)
 line-sends u (dir path) s = directed_holds (λ bs. are_sent u bs ≡ true) word.Dir (dir_line u path) (bind_holds (free_name u path) _ (λ bs. are_sent u bs ≡ true) (λ _ _. refl)) (λ _. refl)
 line-sends u (link path target) s = directed_holds (λ bs. are_sent u bs ≡ true) word.Link (link_line u path target) (bind_holds (spelled_name target) _ (λ bs. are_sent u bs ≡ true) (λ _ _. bind_holds (free_name u path) _ (λ bs. are_sent u bs ≡ true) (λ _ _. refl))) (λ _. refl)
+line-sends u (of_resident tid what had) s = refl
 line-sends u (run tid call) s = thread-sends u tid call (live_thread u tid) refl s
 
 -- where rows have gone, a message still was sent on a port that stands

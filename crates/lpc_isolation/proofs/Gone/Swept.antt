@@ -11,10 +11,10 @@ use Rattle.lpc_base.proofs.Bools.{first-true, second-true}
 use Rattle.lpc_model.specs.declared.entry.Entry.{Entry}
 use Rattle.lpc_model.specs.declared.entry.Entry.TheVariants as entry
 use Rattle.lpc_model.specs.declared.entry.Word.TheVariants as word
-use Rattle.lpc_model.specs.World.{Birth, ThreadRow, WaitRow, World, no_rows, Impersonation, ObjectName}
+use Rattle.lpc_model.specs.World.{Birth, ThreadRow, WaitRow, World, no_rows, ObjectName}
 use Rattle.lpc_model.specs.Found.{live_thread, wait_of, named_token}
 use Rattle.lpc_model.specs.Named.{free_name, spelled_name}
-use Rattle.lpc_model.specs.Lines.{ScriptCall, ScriptLine, accept_connect_port, boot, complete_connect_port, connect_port, create_port, dir, link, listen_port, reply_port, reply_wait_receive_port, request_port, request_wait_reply_port, run, thread, read_request_data, token}
+use Rattle.lpc_model.specs.Lines.{of_resident, ScriptCall, ScriptLine, accept_connect_port, boot, complete_connect_port, connect_port, create_port, dir, link, listen_port, reply_port, reply_wait_receive_port, request_port, request_wait_reply_port, run, thread, read_request_data, token}
 use Rattle.lpc_model.specs.Grammar.{has_ids}
 use Rattle.lpc_isolation.proofs.Gone.Born.{born_none}
 use Rattle.lpc_isolation.proofs.Rows.Ids.{script-says}
@@ -24,7 +24,7 @@ use Rattle.lpc_model.specs.Sweep.{sweep, free_unheld, unheld}
 use Rattle.lpc_model.specs.Machine.{bare_steps, boot_line, dir_line, link_line, name_of_call, step, steps, thread_line, thread_test, unused_test, boot_token, token_line}
 use Rattle.lpc_isolation.proofs.Gone.Served.{served, served_ready, served_step, served_steps, served_thread}
 use Rattle.lpc_model.specs.Run.{Along, said_in, world_behind}
-use Rattle.lpc_model.specs.Circle.{Event, Everyone, Group, HasInnerViews, IsCircleIn, IsFineAt, IsFineWorld, Isolation, Nobody, Of, Ran, Told, Whose, entry_whose, events, inputs, is_fine_call, is_fine_line, is_item, is_outer, is_outer_at, is_seen, is_write_of, item_of, items, line_events, line_whose, members, outsider_sees, owner, told_event, IsInnerAt, ReadsInner, gave_event, given_in, gave}
+use Rattle.lpc_model.specs.Circle.{events_of, Event, Everyone, Group, HasInnerViews, IsCircleIn, IsFineAt, IsFineWorld, Nobody, Of, Ran, Told, Whose, entry_whose, events, full_inputs, is_fine_call, is_fine_line, is_item, is_outer, is_outer_at, is_seen, is_write_of, item_of, full_items, line_events, line_whose, members, outsider_sees, owner, told_event, IsInnerAt, ReadsInner, gave_event, given_in, gave}
 use Rattle.lpc_isolation.proofs.Views.Alone.{HasFineRows, alone, WritesOuter}
 use Rattle.lpc_isolation.proofs.Gone.Bare.{BareIsolation, IsApartAt, IsBareCircle, bare_events, bare_line_events, HasViewsApart}
 use Rattle.lpc_model.proofs.Calls.Holding.{bind_holds, directed_holds, settled_holds}
@@ -47,6 +47,7 @@ whose-thin k u (token name content) = refl
 whose-thin k u (thread tid pid) = refl
 whose-thin k u (dir path) = refl
 whose-thin k u (link path target) = refl
+whose-thin k u (of_resident tid what had) = refl
 whose-thin k u (run tid call) = refl
 
 entry-thin : (k : Alive) (u : World) (d : Whose) (e : Entry) → entry_whose (thin k u) d e ≡ entry_whose u d e
@@ -67,13 +68,13 @@ append-nil : (bs : List Basic) → bs ++ [] ≡ bs
 append-nil [] = refl
 append-nil (b ∷ bs) = ap (λ bs. b ∷ bs) (append-nil bs)
 
-sweep-gives : (w : World) → given_in (sweep w) ≡ []
+pub sweep-gives : (w : World) → given_in (sweep w) ≡ []
 unfolding sweep
 sweep-gives w =
     let v = world_after w (free_unheld w) in
     frees-give (unheld w) (free_unheld v) ∙ (ap given_in (sym (append-nil (free_unheld v))) ∙ frees-give (unheld v) [])
 
-given-append : (bs cs : List Basic) → given_in cs ≡ [] → given_in (bs ++ cs) ≡ given_in bs
+pub given-append : (bs cs : List Basic) → given_in cs ≡ [] → given_in (bs ++ cs) ≡ given_in bs
 given-append [] cs none = none
 given-append (b ∷ bs) cs none = ap (λ gs. gave b ++ gs) (given-append bs cs none)
 
@@ -115,6 +116,7 @@ line-fine m c after u (token name content) f = λ _. directed_holds (AreFine m c
 line-fine m c after u (thread tid pid) f = λ _. directed_holds (AreFine m c) word.Thread (thread_line u tid pid) (bind_holds (thread_test u tid pid) _ (AreFine m c) (λ _ _. refl)) (λ _. refl)
 line-fine m c after u (dir path) f = λ _. directed_holds (AreFine m c) word.Dir (dir_line u path) (bind_holds (free_name u path) _ (AreFine m c) (λ _ _. refl)) (λ _. refl)
 line-fine m c after u (link path target) f = λ _. directed_holds (AreFine m c) word.Link (link_line u path target) (bind_holds (spelled_name target) _ (AreFine m c) (λ _ _. bind_holds (free_name u path) _ (AreFine m c) (λ _ _. refl))) (λ _. refl)
+line-fine m c after u (of_resident tid what had) f = λ _. refl
 line-fine m c after u (run tid call) f = thread-fine m c after u tid call (live_thread u tid) refl f
 
 -- The circle is one in the run whose rows never go
@@ -226,7 +228,7 @@ sides_none = record { firm = firm_none; ports = refl; sections = refl; bare = fi
 one-member : (c pid : ℕ) → members (c ∷ []) pid ≡ alone c pid
 one-member c pid = grind (arith, nat_tests)
 
-items-same : (m k : Group) → ((pid : ℕ) → m pid ≡ k pid) → (es : List Event) → items m es ≡ items k es
+items-same : (m k : Group) → ((pid : ℕ) → m pid ≡ k pid) → (es : List Event) → full_items m es ≡ full_items k es
 items-same m k same [] = refl
 items-same m k same (e ∷ es) = at (is_item m e) (is_item k e) (seen e.whose) (items-same m k same es)
   where
@@ -235,13 +237,20 @@ items-same m k same (e ∷ es) = at (is_item m e) (is_item k e) (seen e.whose) (
     seen Everyone = refl
     seen Nobody = refl
 
-    at : (a b : Bool) → a ≡ b → items m es ≡ items k es → map item_of (cond a (e ∷ which (is_item m) es) (which (is_item m) es)) ≡ map item_of (cond b (e ∷ which (is_item k) es) (which (is_item k) es))
+    at : (a b : Bool) → a ≡ b → full_items m es ≡ full_items k es → map item_of (cond a (e ∷ which (is_item m) es) (which (is_item m) es)) ≡ map item_of (cond b (e ∷ which (is_item k) es) (which (is_item k) es))
     at true true is rest = ap (λ is. item_of e ∷ is) rest
     at true false is rest = absurd (cc)
     at false true is rest = absurd (cc)
     at false false is rest = rest
 
-isolation_from : BareIsolation → Isolation
+-- In inputs and items that show whether a thread has a resident
+abbrev pub FullIsolation : Type 0
+FullIsolation =
+    (group : List ℕ) (c : ℕ) (one two : List ℕ) → IsCircleIn group c one → IsCircleIn group c two →
+    full_inputs (members group) c (events_of one) ≡ full_inputs (members group) c (events_of two) →
+    full_items (members (c ∷ [])) (events_of one) ≡ full_items (members (c ∷ [])) (events_of two)
+
+isolation_from : BareIsolation → FullIsolation
 isolation_from bare group c one two circle_one circle_two same =
     let m : Group = members group in
     let first_run : events no_rows (said_in one) ≡ bare_events no_rows (said_in one) = events-same no_rows no_rows (said_in one) (script-says one) sides_none in
@@ -249,10 +258,10 @@ isolation_from bare group c one two circle_one circle_two same =
     let outer : List ℕ → Birth → Bool = λ script. is_outer m no_rows (said_in script) in
     let inside : (script : List ℕ) → IsCircleIn group c script → IsBareCircle m c (outer script) no_rows (said_in script) = λ script circle. circle-same m c (outer script) no_rows no_rows (said_in script) (script-says script) sides_none (refl, refl) circle.1.0 circle.1.1 (λ b is. is) circle.1.2.0 circle.1.2.1 in
     items-same (members (c ∷ [])) (alone c) (one-member c) (events no_rows (said_in one))
-    ∙ ap (items (alone c)) first_run
-    ∙ bare group c (outer one) (outer two) one two circle_one.0 (inside one circle_one) (inside two circle_two) (sym (ap (inputs m c) first_run) ∙ same ∙ ap (inputs m c) second_run)
-    ∙ sym (ap (items (alone c)) second_run)
+    ∙ ap (full_items (alone c)) first_run
+    ∙ bare group c (outer one) (outer two) one two circle_one.0 (inside one circle_one) (inside two circle_two) (sym (ap (full_inputs m c) first_run) ∙ same ∙ ap (full_inputs m c) second_run)
+    ∙ sym (ap (full_items (alone c)) second_run)
     ∙ sym (items-same (members (c ∷ [])) (alone c) (one-member c) (events no_rows (said_in two)))
 
-pub isolation_law : Isolation
-isolation_law = isolation_from bare-isolation
+pub full_law : FullIsolation
+full_law = isolation_from bare-isolation

@@ -13,8 +13,8 @@ use Rattle.lpc_model.specs.declared.entry.Word.TheVariants as word
 use Rattle.lpc_model.specs.World.{Birth, Contents, ThreadRow, WaitRow, World, Token}
 use Rattle.lpc_model.specs.Found.{live_thread, wait_of, named_token}
 use Rattle.lpc_model.specs.Basics.{Basic, world_after}
-use Rattle.lpc_model.specs.Lines.{ScriptCall, ScriptLine, boot, dir, link, run, thread, token}
-use Rattle.lpc_model.specs.Machine.{bare_steps, boot_line, dir_line, link_line, name_of_call, settled, thread_line, thread_test, unused_test, boot_token, token_line, boot_steps}
+use Rattle.lpc_model.specs.Lines.{of_resident, ResidentLine, ScriptCall, ScriptLine, boot, dir, link, run, thread, token}
+use Rattle.lpc_model.specs.Machine.{bare_steps, boot_line, dir_line, link_line, name_of_call, settled, thread_line, thread_test, unused_test, boot_token, token_line}
 use Rattle.lpc_model.specs.Named.{free_name, spelled_name}
 use Rattle.lpc_model.proofs.Calls.Holding.{Holds, bind_holds, directed_holds, holds_ok}
 use Rattle.lpc_model.specs.Circle.{Group, Item, Whose, is_seen, line_whose, owner, thread_whose}
@@ -184,6 +184,10 @@ link-still : (w : World) (path target : List ℕ) → Still w (served_steps (lin
 unfolding bare_steps link_line
 link-still w path target = directed_holds (Still w) word.Link (link_line w path target) (bind_holds (spelled_name target) _ (Still w) (λ _ _. bind_holds (free_name w path) _ (Still w) (λ _ _. refl))) (λ _. refl)
 
+resident-still : (w : World) (tid : ℕ) (what : ResidentLine) (had : Bool) → Still w (served_steps (of_resident tid what had) w)
+unfolding bare_steps
+resident-still w tid what had = refl
+
 -- Lines
 -- behind a line, whether the group sees it or not
 pub record BytesKnown (m : Group) (c : ℕ) (outer : Birth → Bool) (w : World) (t : List Heard) (k : Contents) (line : ScriptLine) : Type 0 where
@@ -198,5 +202,6 @@ line-bytes_known m c outer w t k (run tid call) c_in st fine next ok shows apart
 line-bytes_known m c outer w t k (boot pid tid name) c_in st fine next ok shows apart a = let same = to-world m outer k w.contents _ (boot-still w pid tid name) a in record { hides = λ _. same; shows = λ _ _. same }
 line-bytes_known m c outer w t k (token name content) c_in st fine next ok shows apart a = let same = to-world m outer k w.contents _ (token-still w name content) a in record { hides = λ _. same; shows = λ _ _. same }
 line-bytes_known m c outer w t k (thread tid pid) c_in st fine next ok shows apart a = let same = to-world m outer k w.contents _ (thread-still w tid pid) a in record { hides = λ _. same; shows = λ _ _. same }
+line-bytes_known m c outer w t k (of_resident tid what had) c_in st fine next ok shows apart a = let same = to-world m outer k w.contents _ (resident-still w tid what had) a in record { hides = λ _. same; shows = λ _ _. same }
 line-bytes_known m c outer w t k (dir path) c_in st fine next ok shows apart a = let same = to-world m outer k w.contents _ (dir-still w path) a in record { hides = λ _. same; shows = λ _ _. same }
 line-bytes_known m c outer w t k (link path target) c_in st fine next ok shows apart a = let same = to-world m outer k w.contents _ (link-still w path target) a in record { hides = λ _. same; shows = λ _ _. same }

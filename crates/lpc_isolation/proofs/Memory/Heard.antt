@@ -19,7 +19,7 @@ use Rattle.lpc_model.specs.World.{Birth, MessageRow, PortRow, ThreadRow, UsedThr
 use Rattle.lpc_model.specs.Found.{is_listen, is_receive, live_thread, queue_of, wait_of, waits_as}
 use Rattle.lpc_model.specs.Basics.{Basic, entries_of, told}
 use Rattle.lpc_model.specs.Tests.{port_test}
-use Rattle.lpc_model.specs.Lines.{ScriptCall, ScriptLine, boot, dir, link, listen_port, reply_wait_receive_port, run, thread, token}
+use Rattle.lpc_model.specs.Lines.{of_resident, ScriptCall, ScriptLine, boot, dir, link, listen_port, reply_wait_receive_port, run, thread, token}
 use Rattle.lpc_model.specs.Circle.{Group, Item}
 use Rattle.lpc_isolation.proofs.Views.View.{our_wait, view}
 use Rattle.lpc_isolation.proofs.Rows.Fair.{is_sent}
@@ -109,6 +109,7 @@ line_memo m c v memo (token name content) is = memo
 line_memo m c v memo (thread tid pid) is = memo
 line_memo m c v memo (dir path) is = memo
 line_memo m c v memo (link path target) is = memo
+line_memo m c v memo (of_resident tid what had) is = memo
 
 -- an answer without a message tells nothing
 pub silent-memo : (m : Group) (v : World) (by : ThreadRow) (call : ScriptCall) (e : Entry) (memo : List Heard) → ((q : Birth) → taken_memo m e q memo ≡ memo) → call_memo m v by call e memo ≡ memo

@@ -1,4 +1,5 @@
 -- Each line keeps it that what is remembered of outsiders' connects is right.
+use Rattle.lpc_model.proofs.Calls.Lines.{resident-shows, shows_status}
 use Rattle.lpc_base.specs.declared.status.TheConstants.{OBJECT_NAME_COLLISION}
 use Rattle.lpc_model.specs.Refusal.{refuse_if}
 use Rattle.lpc_isolation.proofs.Views.Reads.{FineLine}
@@ -15,8 +16,8 @@ use Rattle.lpc_model.specs.World.{Contents, ThreadRow, WaitRow, World, Token}
 use Rattle.lpc_model.specs.Found.{live_thread, wait_of, named_token}
 use Rattle.lpc_model.specs.Basics.{Basic, Tells, world_after}
 use Rattle.lpc_model.specs.Named.{free_name, spelled_name}
-use Rattle.lpc_model.specs.Lines.{ScriptCall, ScriptLine, boot, dir, link, run, thread, token}
-use Rattle.lpc_model.specs.Machine.{bare_steps, boot_line, dir_line, link_line, name_of_call, settled, thread_line, thread_test, unused_test, boot_token, token_line, boot_steps}
+use Rattle.lpc_model.specs.Lines.{of_resident, ResidentLine, ScriptCall, ScriptLine, boot, dir, link, run, thread, token}
+use Rattle.lpc_model.specs.Machine.{resident_entry, bare_steps, boot_line, dir_line, link_line, name_of_call, settled, thread_line, thread_test, unused_test, boot_token, token_line}
 use Rattle.lpc_isolation.proofs.Gone.Served.{served, served_step, served_steps}
 use Rattle.lpc_model.proofs.Calls.Holding.{bind_holds, directed_holds, holds_ok}
 use Rattle.lpc_model.specs.Circle.{Group, Item, Whose, is_seen, line_whose, owner, thread_whose}
@@ -184,6 +185,20 @@ link-plain : (m : Group) (t : List Heard) (w : World) (path target : List ℕ) �
 unfolding bare_steps link_line
 link-plain m t w path target = directed_holds (Plain m t w) word.Link (link_line w path target) (bind_holds (spelled_name target) _ (Plain m t w) (λ _ _. bind_holds (free_name w path) _ (Plain m t w) (λ _ _. (refl, λ v. refl)))) (λ _. (refl, λ v. refl))
 
+resident-plain : (m : Group) (t : List Heard) (w : World) (tid : ℕ) (what : ResidentLine) (had : Bool) → Plain m t w (served_steps (of_resident tid what had) w)
+unfolding bare_steps
+resident-plain m t w tid what had = (refl, λ v. silent-entry v (resident_entry w tid what had) (resident-shows w tid what had))
+  where
+    silent-entry : (v : World) (e : Entry) → shows_status e ≡ true → every (is_silent_step v) (Tells e ∷ []) ≡ true
+    silent-entry v (entry.Answer who call status []) is = refl
+    silent-entry v (entry.Answer who call status (f ∷ fs)) is = absurd (cc)
+    silent-entry v (entry.Waits who call fields) is = absurd (cc)
+    silent-entry v (entry.Wakes who call status fields) is = absurd (cc)
+    silent-entry v (entry.Busy who) is = refl
+    silent-entry v (entry.NoThread who) is = refl
+    silent-entry v (entry.Died who status) is = absurd (cc)
+    silent-entry v (entry.Directive named status) is = refl
+
 pub line-known : (m : Group) (c : ℕ) (w : World) (t : List Heard) (k : Contents) (line : ScriptLine) → m c ≡ true → Stood m c w (record { seen = view m w; memo = t; bytes = k }) → HasFineRows m c w → HasFineRows m c (served_step w line).world → OnceUsed (served_step w line).world → FineLine m c k w line → Known m c w t k line
 line-known m c w t k (run tid call) c_in st fine next once ok = run-line_known m c w t k tid call c_in st fine next ok once
 line-known m c w t k (boot pid tid name) c_in st fine next once ok = directive-known m c w t k (boot pid tid name) (λ is. refl) st.known (boot-plain m t w pid tid name)
@@ -191,3 +206,4 @@ line-known m c w t k (token name content) c_in st fine next once ok = directive-
 line-known m c w t k (thread tid pid) c_in st fine next once ok = directive-known m c w t k (thread tid pid) (λ is. refl) st.known (thread-plain m t w tid pid)
 line-known m c w t k (dir path) c_in st fine next once ok = directive-known m c w t k (dir path) (λ is. refl) st.known (dir-plain m t w path)
 line-known m c w t k (link path target) c_in st fine next once ok = directive-known m c w t k (link path target) (λ is. refl) st.known (link-plain m t w path target)
+line-known m c w t k (of_resident tid what had) c_in st fine next once ok = directive-known m c w t k (of_resident tid what had) (λ is. refl) st.known (resident-plain m t w tid what had)

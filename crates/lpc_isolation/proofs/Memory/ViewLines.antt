@@ -9,11 +9,11 @@ use Rattle.lpc_base.specs.Rows.{every, first, has}
 use Rattle.lpc_base.proofs.RowMaps.{every-first}
 use Rattle.lpc_base.proofs.RowWords.{first-passes}
 use Rattle.lpc_model.specs.declared.entry.Word.TheVariants as word
-use Rattle.lpc_model.specs.World.{Birth, Contents, ThreadRow, ViewRow, ViewTable, WaitRow, World, Token}
+use Rattle.lpc_model.specs.World.{Birth, Contents, ThreadRow, ViewRow, ViewTable, WaitRow, World}
 use Rattle.lpc_model.specs.Found.{holds_range, is_live_thread, is_space, live_thread, views_in, views_of, wait_of, named_token}
 use Rattle.lpc_model.specs.Basics.{Basic, world_after}
-use Rattle.lpc_model.specs.Lines.{ScriptCall, ScriptLine, boot, dir, link, read_request_data, run, thread, token}
-use Rattle.lpc_model.specs.Machine.{bare_steps, boot_line, dir_line, link_line, thread_line, thread_test, unused_test, name_of_call, boot_token, token_line, boot_steps}
+use Rattle.lpc_model.specs.Lines.{of_resident, ScriptCall, ScriptLine, boot, dir, link, read_request_data, run, thread, token}
+use Rattle.lpc_model.specs.Machine.{bare_steps, boot_line, dir_line, link_line, thread_line, thread_test, unused_test, name_of_call, boot_token, token_line}
 use Rattle.lpc_model.specs.Named.{free_name, spelled_name}
 use Rattle.lpc_model.specs.Ranges.{asked_test, described_test}
 use Rattle.lpc_model.proofs.Calls.Holding.{bind_holds, directed_holds, holds_ok, settled_holds}
@@ -60,6 +60,7 @@ module _ (m : Group) (c : ℕ) (outer : Birth → Bool) (w : World) (s : State) 
 
   line_steps-known : (line : ScriptLine) → ShowsOuter m outer (served_step w line).world → AreKnown m outer (served_steps line w)
   unfolding bare_steps boot_line token_line thread_line dir_line link_line
+  line_steps-known (of_resident tid what had) next = refl
   line_steps-known (run tid call) next = run_steps-known tid call next
   line_steps-known (boot pid tid name) next = directed_holds (AreKnown m outer) word.Boot (boot_line w pid tid name) (bind_holds (boot_token w name) _ (AreKnown m outer) (λ _ _. bind_holds (unused_test w pid tid) _ (AreKnown m outer) (λ _ _. refl))) (λ _. refl)
   line_steps-known (token name content) next = directed_holds (AreKnown m outer) word.Token (token_line w name content) (bind_holds (refuse_if (is_some (named_token w name)) OBJECT_NAME_COLLISION) _ (AreKnown m outer) (λ _ _. refl)) (λ _. refl)

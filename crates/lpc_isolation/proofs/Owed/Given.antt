@@ -2,29 +2,25 @@
 use Rattle.lpc_base.proofs.Bools.{second-true}
 use Rattle.lpc_model.specs.Circle.{gave, given_in}
 use Rattle.lpc_model.specs.Tests.{next_birth}
-use Rattle.lpc_isolation.proofs.Views.Callers.{on_ok}
-use Rattle.lpc_model.specs.Ranges.{Described, described_test}
-use Rattle.lpc_model.specs.Found.{view_holding, free_handle}
-use Rattle.lpc_model.specs.Memory.{new_section, place_in, memory_test, write_steps}
-use Rattle.std.proofs.Common.{◌≡◌, List, [], ◌∷◌, Bool, true, not, Option, Some, None, refl, arith, ℕ, sym, ◌∙◌, ◌++◌, false}
-use Rattle.std.specs.Prelude.{Ok, length, ◌&&◌}
-use Rattle.lpc_base.specs.Rows.{every, which, given}
+use Rattle.lpc_model.specs.Found.{free_handle}
+use Rattle.std.proofs.Common.{◌≡◌, List, [], ◌∷◌, Bool, true, Option, Some, None, refl, ◌++◌, false}
+use Rattle.std.specs.Prelude.{Ok, ◌&&◌}
+use Rattle.lpc_base.specs.Rows.{every}
 use Rattle.lpc_base.proofs.RowWords.{every-append, every-more}
 use Rattle.lpc_message.specs.declared.kind.TheConstants.{DATAGRAM, REQUEST}
 use Rattle.lpc_model.specs.declared.message.Message.{Message}
-use Rattle.lpc_model.specs.World.{MessageRow, PortRow, ThreadRow, World, ViewRow, Impersonation}
-use Rattle.lpc_model.specs.Basics.{AddsSection, Basic, Frees, Writes, world_after, Acts}
+use Rattle.lpc_model.specs.World.{MessageRow, PortRow, ThreadRow, World, Impersonation}
+use Rattle.lpc_model.specs.Basics.{Basic, world_after, Acts}
 use Rattle.lpc_model.specs.Close.{close_handle, close_steps}
 use Rattle.lpc_model.specs.Connect.{client_port, connect_start, connect_steps, connection_request, listen_steps, accept_steps, allow_steps, create_steps, named_steps}
 use Rattle.lpc_model.specs.Entering.{enter, received_steps, row_of}
-use Rattle.lpc_model.specs.Lines.{ScriptCall, create_section, write_virtual_memory, write_request_data, impersonate_client_of_port}
+use Rattle.lpc_model.specs.Lines.{ScriptCall, impersonate_client_of_port}
 use Rattle.lpc_model.specs.Request.{datagram_start, datagram_steps, given_reply, receive_steps, reply_test, request_start, request_steps, sent_by}
 use Rattle.lpc_model.proofs.Calls.Holding.{Holds, bind_holds, holds_ok, holds-more}
-use Rattle.lpc_model.proofs.Calls.Outcomes.{Outcomes, EndCall, end_call, of_process, of_thread}
+use Rattle.lpc_model.proofs.Calls.Outcomes.{Outcomes}
 use Rattle.lpc_model.proofs.Steps.Ending.{answered_end, ending-enter, ending-receipt, handle-ending, is_ending, steps-end}
-use Rattle.lpc_isolation.proofs.Calls.Deeds.{served-does, memory-held, guarded}
+use Rattle.lpc_isolation.proofs.Calls.Deeds.{served-does, guarded}
 use Rattle.lpc_isolation.proofs.Gone.Served.{served}
-use Rattle.lpc_isolation.proofs.Views.Bytes.{is_byte_step}
 use Rattle.lpc_model.specs.Offers.{mapped}
 use Rattle.lpc_model.proofs.Calls.Sharing.{mapped-pass, shared-pass}
 

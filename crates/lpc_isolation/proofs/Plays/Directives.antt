@@ -11,7 +11,7 @@ use Rattle.lpc_model.specs.declared.entry.Word.{Word}
 use Rattle.lpc_model.specs.declared.entry.Word.TheVariants as word
 use Rattle.lpc_model.specs.World.{Path, World, Token}
 use Rattle.lpc_model.specs.Basics.{AddsProcess, AddsThread, Basic, Binds, basic, entries_of, world_after, NamesToken}
-use Rattle.lpc_model.specs.Lines.{ScriptLine, boot, dir, link, run, thread, token}
+use Rattle.lpc_model.specs.Lines.{of_resident, ScriptLine, boot, dir, link, run, thread, token}
 use Rattle.lpc_model.specs.Machine.{boot_line, dir_line, directed, directive_birth, link_line, new_process, new_thread, live_test, bare_steps, thread_line, thread_test, unused_test, unused_thread_test, boot_token, token_line, boot_steps}
 use Rattle.lpc_isolation.proofs.Gone.Served.{served_step, served_steps}
 use Rattle.lpc_model.specs.Named.{as_status, free_name, spelled_name}
@@ -22,7 +22,7 @@ use Rattle.lpc_model.proofs.Calls.Holding.{Holds, bind_holds}
 use Rattle.lpc_names.specs.Walk.{LinkTo, Stands, free_path}
 use Rattle.lpc_names.specs.declared.fault.NameFault.{NameFault}
 use Rattle.lpc_names.specs.declared.names.Found.TheVariants.{Directory}
-use Rattle.lpc_model.specs.Circle.{Everyone, Group, Item, Nobody, Of, Ran, Told, Whose, is_seen, item_of, items, line_whose, told_event, gave_event, given_in}
+use Rattle.lpc_model.specs.Circle.{is_turn, Everyone, Group, Item, Nobody, Of, Ran, Told, Whose, is_seen, item_of, full_items, line_whose, told_event, gave_event, given_in}
 use Rattle.lpc_isolation.proofs.Views.Alone.{alone}
 use Rattle.lpc_isolation.proofs.Gone.Bare.{bare_line_events}
 use Rattle.lpc_isolation.proofs.Views.View.{view}
@@ -50,6 +50,7 @@ effect v (token name content) = NamesToken (record { name = name; token = conten
 effect v (thread tid pid) = AddsThread (new_thread tid pid (directive_birth tid pid)) ∷ []
 effect v (dir path) = on_ok (free_name v path) (λ p. Binds p (Stands Directory) ∷ [])
 effect v (link path target) = on_ok (spelled_name target) (λ to. on_ok (free_name v path) (λ p. Binds p (LinkTo to) ∷ []))
+effect v (of_resident tid what had) = []
 effect v (run tid call) = []
 
 abbrev pub directive_turn : World → ScriptLine → List Item → List Basic
@@ -62,6 +63,7 @@ directive_shown c v line is = cond (is_seen (alone c) (line_whose v line)) (Ran 
 pub record Directs (m : Group) (w : World) (line : ScriptLine) (name : Word) (d : Whose) (r : Result (List Basic) Status) : Type 0 where
   pub is : served_steps line w ≡ directed name r
   pub whose : (v : World) → line_whose v line ≡ d
+  pub plain : is_turn name ≡ false
   pub silent : Holds (λ bs. entries_of bs ≡ []) r
   pub gives : Holds (λ bs. given_in bs ≡ []) r
   pub refuses : Refuses r
@@ -89,27 +91,27 @@ directed-gives : (name : Word) (r : Result (List Basic) Status) → Holds (λ bs
 directed-gives name (Ok bs) none = none
 directed-gives name (Err s) none = refl
 
-told-directive : (m : Group) (c : ℕ) (u : World) (d : Whose) (name : Word) (status : Status) → told_inputs m c u d (entry.Directive name status ∷ []) ≡ cond (is_seen m d) (entry.Directive name status ∷ []) []
-told-directive m c u (Of pid) name status = rw (and-false (pid == c)) (at (m pid))
+told-directive : (m : Group) (c : ℕ) (u : World) (d : Whose) (name : Word) (status : Status) → is_turn name ≡ false → told_inputs m c u d (entry.Directive name status ∷ []) ≡ cond (is_seen m d) (entry.Directive name status ∷ []) []
+told-directive m c u (Of pid) name status plain = rw (plain, and-false (pid == c)) (at (m pid))
   where
     at : (b : Bool) → ◌≡◌ {A = List Entry} (cond (b && true) (entry.Directive name status ∷ []) []) (cond b (entry.Directive name status ∷ []) [])
     at true = refl
     at false = refl
-told-directive m c u Everyone name status = refl
-told-directive m c u Nobody name status = refl
+told-directive m c u Everyone name status plain = refl
+told-directive m c u Nobody name status plain = refl
 
 -- what is told of it, and what c sees
 directive-told : (m : Group) (c : ℕ) (w : World) (line : ScriptLine) (name : Word) (d : Whose) (r : Result (List Basic) Status) → Directs m w line name d r → told_at m c w line ≡ cond (is_seen m d) (entry.Directive name (status_of r) ∷ []) []
 directive-told m c w line name d r o =
     ap (λ d. told_inputs m c (served_step w line).world d (served_step w line).entries) (o.whose w)
     ∙ ap (λ es. told_inputs m c (served_step w line).world d es) (ap entries_of o.is ∙ directed-entries name r o.silent)
-    ∙ told-directive m c (served_step w line).world d name (status_of r)
+    ∙ told-directive m c (served_step w line).world d name (status_of r) o.plain
 
-directive-items : (m : Group) (c : ℕ) (w : World) (line : ScriptLine) (name : Word) (d : Whose) (r : Result (List Basic) Status) → Directs m w line name d r → items (alone c) (bare_line_events w line) ≡ cond (is_seen (alone c) d) (Ran line ∷ Told (entry.Directive name (status_of r)) ∷ []) []
+directive-items : (m : Group) (c : ℕ) (w : World) (line : ScriptLine) (name : Word) (d : Whose) (r : Result (List Basic) Status) → Directs m w line name d r → full_items (alone c) (bare_line_events w line) ≡ cond (is_seen (alone c) d) (Ran line ∷ Told (entry.Directive name (status_of r)) ∷ []) []
 directive-items m c w line name d r o =
-    ap (λ d. items (alone c) (record { whose = d; item = Ran line } ∷ (map (told_event (served_step w line).world d) (served_step w line).entries ++ map (gave_event d) (given_in (served_steps line w))))) (o.whose w)
-    ∙ ap (λ es. items (alone c) (record { whose = d; item = Ran line } ∷ (map (told_event (served_step w line).world d) es ++ map (gave_event d) (given_in (served_steps line w))))) (ap entries_of o.is ∙ directed-entries name r o.silent)
-    ∙ ap (λ gs. items (alone c) (record { whose = d; item = Ran line } ∷ (map (told_event (served_step w line).world d) (entry.Directive name (status_of r) ∷ []) ++ map (gave_event d) gs))) (ap given_in o.is ∙ directed-gives name r o.gives)
+    ap (λ d. full_items (alone c) (record { whose = d; item = Ran line } ∷ (map (told_event (served_step w line).world d) (served_step w line).entries ++ map (gave_event d) (given_in (served_steps line w))))) (o.whose w)
+    ∙ ap (λ es. full_items (alone c) (record { whose = d; item = Ran line } ∷ (map (told_event (served_step w line).world d) es ++ map (gave_event d) (given_in (served_steps line w))))) (ap entries_of o.is ∙ directed-entries name r o.silent)
+    ∙ ap (λ gs. full_items (alone c) (record { whose = d; item = Ran line } ∷ (map (told_event (served_step w line).world d) (entry.Directive name (status_of r) ∷ []) ++ map (gave_event d) gs))) (ap given_in o.is ∙ directed-gives name r o.gives)
     ∙ at (is_seen (alone c) d)
   where
     at : (b : Bool) → map item_of (cond b (record { whose = d; item = Ran line } ∷ cond b (told_event (served_step w line).world d (entry.Directive name (status_of r)) ∷ []) []) (cond b (told_event (served_step w line).world d (entry.Directive name (status_of r)) ∷ []) [])) ≡ cond b (Ran line ∷ Told (entry.Directive name (status_of r)) ∷ []) []
@@ -121,7 +123,7 @@ directive-world m w line name d r o = ap (world_after w) o.is ∙ directed-world
 
 -- hidden, where it is an outsider's
 pub directive-hidden : (m : Group) (c : ℕ) (w : World) (line : ScriptLine) (name : Word) (d : Whose) (r : Result (List Basic) Status) → m c ≡ true → Directs m w line name d r → is_seen m d ≡ false
-    → (view m (served_step w line).world ≡ absorb_all (view m w) (told_at m c w line)) × (items (alone c) (bare_line_events w line) ≡ [])
+    → (view m (served_step w line).world ≡ absorb_all (view m w) (told_at m c w line)) × (full_items (alone c) (bare_line_events w line) ≡ [])
 directive-hidden m c w line name d r c_in o out = (
   ap (view m) (directive-world m w line name d r o) ∙ world r (o.hidden out)
       ∙ sym (ap (absorb_all (view m w)) (directive-told m c w line name d r o ∙ ap (λ b. cond b (entry.Directive name (status_of r) ∷ []) []) out)),
@@ -135,9 +137,9 @@ directive-hidden m c w line name d r c_in o out = (
 -- visible, where it is a member's or everyone's
 pub directive-visible : (m : Group) (c : ℕ) (w : World) (line : ScriptLine) (name : Word) (d : Whose) (r : Result (List Basic) Status) (is : List Item) → Directs m w line name d r → is_seen m d ≡ true
     → (view m (served_step w line).world ≡ absorb_all (world_after (view m w) (directive_turn (view m w) line (told_items (told_at m c w line) ++ is))) (told_at m c w line))
-    × (items (alone c) (bare_line_events w line) ≡ directive_shown c (view m w) line (told_items (told_at m c w line) ++ is))
+    × (full_items (alone c) (bare_line_events w line) ≡ directive_shown c (view m w) line (told_items (told_at m c w line) ++ is))
 directive-visible m c w line name d r is o seen =
-    subst (λ es. (view m (served_step w line).world ≡ absorb_all (world_after (view m w) (directive_turn (view m w) line (told_items es ++ is))) es) × (items (alone c) (bare_line_events w line) ≡ directive_shown c (view m w) line (told_items es ++ is))) (sym told) (
+    subst (λ es. (view m (served_step w line).world ≡ absorb_all (world_after (view m w) (directive_turn (view m w) line (told_items es ++ is))) es) × (full_items (alone c) (bare_line_events w line) ≡ directive_shown c (view m w) line (told_items es ++ is))) (sym told) (
       ap (view m) (directive-world m w line name d r o) ∙ world r o.refuses (o.seen seen),
       directive-items m c w line name d r o ∙ ap (λ d. cond (is_seen (alone c) d) (Ran line ∷ Told (entry.Directive name (status_of r)) ∷ []) []) (sym (o.whose (view m w))),
     )
@@ -164,6 +166,7 @@ unfolding bare_steps boot_line
 boot-directs m w pid tid name = record {
   is = refl;
   whose = λ v. refl;
+  plain = refl;
   silent = bind_holds (boot_token w name) _ (λ bs. entries_of bs ≡ []) (λ _ _. bind_holds (unused_test w pid tid) _ (λ bs. entries_of bs ≡ []) (λ _ _. refl));
   gives = bind_holds (boot_token w name) _ (λ bs. given_in bs ≡ []) (λ _ _. bind_holds (unused_test w pid tid) _ (λ bs. given_in bs ≡ []) (λ _ _. refl));
   refuses = bind (boot_token w name) _ (found-token w name) (λ _. bind (unused_test w pid tid) _ (if_refuses (was_process w pid || was_thread w tid) OBJECT_NAME_COLLISION refl) (λ _. tt));
@@ -180,6 +183,7 @@ unfolding bare_steps token_line
 token-directs m w name content = record {
   is = refl;
   whose = λ v. refl;
+  plain = refl;
   silent = bind_holds (refuse_if (is_some (named_token w name)) OBJECT_NAME_COLLISION) _ (λ bs. entries_of bs ≡ []) (λ _ _. refl);
   gives = bind_holds (refuse_if (is_some (named_token w name)) OBJECT_NAME_COLLISION) _ (λ bs. given_in bs ≡ []) (λ _ _. refl);
   refuses = bind (refuse_if (is_some (named_token w name)) OBJECT_NAME_COLLISION) _ (if_refuses (is_some (named_token w name)) OBJECT_NAME_COLLISION refl) (λ _. tt);
@@ -192,6 +196,7 @@ unfolding bare_steps thread_line
 thread-directs m w tid pid = record {
   is = refl;
   whose = λ v. refl;
+  plain = refl;
   silent = bind_holds (thread_test w tid pid) _ (λ bs. entries_of bs ≡ []) (λ _ _. refl);
   gives = bind_holds (thread_test w tid pid) _ (λ bs. given_in bs ≡ []) (λ _ _. refl);
   refuses = bind (thread_test w tid pid) _ (bind (live_test w pid) _ (if_refuses (not (is_live w pid)) INVALID_CID refl) (λ _. bind (unused_thread_test w tid) _ (if_refuses (was_thread w tid) OBJECT_NAME_COLLISION refl) (λ _. if_refuses (nat_le THREAD_LIMIT (live_count w pid)) QUOTA_EXCEEDED refl))) (λ _. tt);
@@ -211,6 +216,7 @@ unfolding bare_steps dir_line
 dir-directs m w text s = record {
   is = refl;
   whose = λ v. refl;
+  plain = refl;
   silent = bind_holds (free_name w text) _ (λ bs. entries_of bs ≡ []) (λ _ _. refl);
   gives = bind_holds (free_name w text) _ (λ bs. given_in bs ≡ []) (λ _ _. refl);
   refuses = bind (free_name w text) _ (named (free_path w.bindings text)) (λ _. tt);
@@ -224,6 +230,7 @@ unfolding bare_steps link_line
 link-directs m w text target s = record {
   is = refl;
   whose = λ v. refl;
+  plain = refl;
   silent = bind_holds (spelled_name target) _ (λ bs. entries_of bs ≡ []) (λ to _. bind_holds (free_name w text) _ (λ bs. entries_of bs ≡ []) (λ _ _. refl));
   gives = bind_holds (spelled_name target) _ (λ bs. given_in bs ≡ []) (λ to _. bind_holds (free_name w text) _ (λ bs. given_in bs ≡ []) (λ _ _. refl));
   refuses = bind (spelled_name target) _ (named (spelled target)) (λ to. bind (free_name w text) _ (named (free_path w.bindings text)) (λ _. tt));

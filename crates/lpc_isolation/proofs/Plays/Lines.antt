@@ -14,7 +14,7 @@ use Rattle.lpc_model.specs.Found.{is_used_thread, live_thread, waits_as}
 use Rattle.lpc_model.specs.Basics.{Basic, entries_of, world_after}
 use Rattle.lpc_model.specs.Lines.{ScriptCall, run, read_virtual_memory, read_request_data, ScriptLine}
 use Rattle.lpc_isolation.proofs.Gone.Served.{served_step, served_steps}
-use Rattle.lpc_model.specs.Circle.{Everyone, Event, Group, Item, Nobody, Of, Ran, Told, Whose, entry_whose, is_item, is_seen, is_told_to, item_of, items, owned, owner, thread_whose, told_event, Gave, gave_event, given_in}
+use Rattle.lpc_model.specs.Circle.{Everyone, Event, Group, Item, Nobody, Of, Ran, Told, Whose, entry_whose, is_item, is_seen, is_told_to, item_of, full_items, owned, owner, thread_whose, told_event, Gave, gave_event, given_in}
 use Rattle.lpc_isolation.proofs.Views.Alone.{alone}
 use Rattle.lpc_isolation.proofs.Gone.Bare.{bare_line_events}
 use Rattle.lpc_isolation.proofs.Views.Filters.{first-kept, first-none_kept}
@@ -127,11 +127,11 @@ quiet-inputs m c u d (e ∷ es) none = at (is_heard (alone c) u d e) refl none (
     at false off none rest = rw (same-input m c u d e off, rest none) refl
 
 -- c's items of a line's entries
-pub own-told : (c : ℕ) (u : World) (d : Whose) (es : List Entry) → items (alone c) (map (told_event u d) es) ≡ told_items (heard (alone c) u d es)
+pub own-told : (c : ℕ) (u : World) (d : Whose) (es : List Entry) → full_items (alone c) (map (told_event u d) es) ≡ told_items (heard (alone c) u d es)
 own-told c u d [] = refl
 own-told c u d (e ∷ es) = at (is_heard (alone c) u d e) (own-told c u d es)
   where
-    at : (b : Bool) → items (alone c) (map (told_event u d) es) ≡ told_items (heard (alone c) u d es)
+    at : (b : Bool) → full_items (alone c) (map (told_event u d) es) ≡ told_items (heard (alone c) u d es)
         → map item_of (cond b (told_event u d e ∷ which (is_item (alone c)) (map (told_event u d) es)) (which (is_item (alone c)) (map (told_event u d) es))) ≡ map Told (cond b (e ∷ heard (alone c) u d es) (heard (alone c) u d es))
     at true rest = ap (λ is. Told e ∷ is) rest
     at false rest = rest
@@ -211,7 +211,7 @@ pub record Owes (led : Leads) (m : Group) (c : ℕ) (w : World) (tid : ℕ) (cal
   pub done : every (is_done (served_step w (run tid call)).world) (served_step w (run tid call)).entries ≡ true
 
 -- c's tokens of a line
-own-gave : (c : ℕ) (d : Whose) (gs : List Impersonation) → items (alone c) (map (gave_event d) gs) ≡ gave_items (cond (is_seen (alone c) d) gs [])
+own-gave : (c : ℕ) (d : Whose) (gs : List Impersonation) → full_items (alone c) (map (gave_event d) gs) ≡ gave_items (cond (is_seen (alone c) d) gs [])
 own-gave c d [] = at (is_seen (alone c) d)
   where
     at : (b : Bool) → [] ≡ gave_items (cond b [] [])
@@ -219,7 +219,7 @@ own-gave c d [] = at (is_seen (alone c) d)
     at false = refl
 own-gave c d (own ∷ gs) = at (is_seen (alone c) d) (own-gave c d gs)
   where
-    at : (b : Bool) → items (alone c) (map (gave_event d) gs) ≡ gave_items (cond b gs [])
+    at : (b : Bool) → full_items (alone c) (map (gave_event d) gs) ≡ gave_items (cond b gs [])
         → map item_of (cond b (gave_event d own ∷ which (is_item (alone c)) (map (gave_event d) gs)) (which (is_item (alone c)) (map (gave_event d) gs))) ≡ gave_items (cond b (own ∷ gs) [])
     at true rest = ap (λ is. Gave own ∷ is) rest
     at false rest = rest
@@ -228,7 +228,7 @@ abbrev own_items : ℕ → World → Whose → List Basic → ScriptLine → Lis
 own_items c u d bs line = cond (is_seen (alone c) d) (Ran line ∷ []) [] ++ (told_items (heard (alone c) u d (entries_of bs)) ++ gave_items (cond (is_seen (alone c) d) (given_in bs) []))
 
 -- c's items of the line
-ran-own : (c : ℕ) (w : World) (tid : ℕ) (call : ScriptCall) → items (alone c) (bare_line_events w (run tid call)) ≡ own_items c (served_step w (run tid call)).world (thread_whose w tid) (served_steps (run tid call) w) (run tid call)
+ran-own : (c : ℕ) (w : World) (tid : ℕ) (call : ScriptCall) → full_items (alone c) (bare_line_events w (run tid call)) ≡ own_items c (served_step w (run tid call)).world (thread_whose w tid) (served_steps (run tid call) w) (run tid call)
 ran-own c w tid call = at (is_seen (alone c) (thread_whose w tid)) both
   where
     told_events : List Event
@@ -245,7 +245,7 @@ ran-own c w tid call = at (is_seen (alone c) (thread_whose w tid)) both
 
     both : map item_of (which (is_item (alone c)) es) ≡ said
     both = items-append (alone c) told_events gave_events
-        ∙ ap (λ is. is ++ items (alone c) gave_events) (own-told c (served_step w (run tid call)).world (thread_whose w tid) (served_step w (run tid call)).entries)
+        ∙ ap (λ is. is ++ full_items (alone c) gave_events) (own-told c (served_step w (run tid call)).world (thread_whose w tid) (served_step w (run tid call)).entries)
         ∙ ap (λ is. told_items (heard (alone c) (served_step w (run tid call)).world (thread_whose w tid) (served_step w (run tid call)).entries) ++ is) (own-gave c (thread_whose w tid) (given_in (served_steps (run tid call) w)))
 
     at : (b : Bool) → map item_of (which (is_item (alone c)) es) ≡ said
@@ -255,7 +255,7 @@ ran-own c w tid call = at (is_seen (alone c) (thread_whose w tid)) both
 
 -- an outsider's line is hidden
 pub run-hidden : (led : Leads) (m : Group) (c : ℕ) (w : World) (tid : ℕ) (call : ScriptCall) → m c ≡ true → Owes led m c w tid call → is_seen m (thread_whose w tid) ≡ false
-    → (view m (served_step w (run tid call)).world ≡ absorb_all (view m w) (told_at m c w (run tid call))) × (items (alone c) (bare_line_events w (run tid call)) ≡ [])
+    → (view m (served_step w (run tid call)).world ≡ absorb_all (view m w) (told_at m c w (run tid call))) × (full_items (alone c) (bare_line_events w (run tid call)) ≡ [])
 run-hidden led m c w tid call c_in o out =
     let u : World = (served_step w (run tid call)).world in
     let d : Whose = thread_whose w tid in
@@ -304,7 +304,7 @@ turned led m c w tid call is o once seen = subst (λ b. Turned m c w tid call (c
 
 pub run-visible : (led : Leads) (m : Group) (c : ℕ) (w : World) (tid : ℕ) (call : ScriptCall) (is : List Item) → m c ≡ true → Owes led m c w tid call → OnceUsed w → OnceUsed (served_step w (run tid call)).world → is_seen m (thread_whose w tid) ≡ true
     → (view m (served_step w (run tid call)).world ≡ absorb_all (world_after (view m w) (turn led c (view m w) tid call (told_items (told_at m c w (run tid call)) ++ (gave_items (given_at m c w (run tid call)) ++ is)))) (told_at m c w (run tid call)))
-    × (items (alone c) (bare_line_events w (run tid call)) ≡ shown_run led c (view m w) tid call (told_items (told_at m c w (run tid call)) ++ (gave_items (given_at m c w (run tid call)) ++ is)))
+    × (full_items (alone c) (bare_line_events w (run tid call)) ≡ shown_run led c (view m w) tid call (told_items (told_at m c w (run tid call)) ++ (gave_items (given_at m c w (run tid call)) ++ is)))
 run-visible led m c w tid call is c_in o once next seen =
     let u : World = (served_step w (run tid call)).world in
     let d : Whose = thread_whose w tid in

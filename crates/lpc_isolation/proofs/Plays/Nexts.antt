@@ -9,18 +9,17 @@ use Rattle.lpc_base.specs.Rows.{has}
 use Rattle.lpc_base.specs.declared.status.Status.{Status}
 use Rattle.lpc_model.specs.World.{Birth, ThreadRow, WaitRow, World, Token}
 use Rattle.lpc_model.specs.Found.{is_used_thread, live_thread, wait_of, was_process, was_thread, named_token}
-use Rattle.lpc_model.specs.Basics.{AddsProcess, AddsThread, Basic, Binds, used, world_after, NamesToken}
+use Rattle.lpc_model.specs.Basics.{AddsThread, Basic, Binds, used, world_after, NamesToken}
 use Rattle.lpc_model.specs.Named.{free_name, spelled_name}
 use Rattle.lpc_model.specs.Refusal.{refuse_if}
-use Rattle.lpc_model.specs.Then.{◌>>=◌}
 use Rattle.lpc_base.specs.declared.status.TheConstants.{OBJECT_NAME_COLLISION}
 use Rattle.lpc_model.specs.declared.entry.Word.{Word}
 use Rattle.lpc_model.specs.declared.entry.Word.TheVariants.{Boot, Dir, Link, Thread}
 use Rattle.lpc_model.specs.declared.entry.Word.TheVariants as word
 use Rattle.lpc_names.specs.Walk.{LinkTo, Stands}
 use Rattle.lpc_names.specs.declared.names.Found.TheVariants.{Directory}
-use Rattle.lpc_model.specs.Lines.{ScriptCall, ScriptLine, boot, dir, link, run, thread, token}
-use Rattle.lpc_model.specs.Machine.{boot_line, dir_line, directed, directive_birth, link_line, live_test, name_of_call, new_process, new_thread, settled, thread_count_test, thread_line, thread_test, unused_thread_test, boot_token, token_line, boot_steps}
+use Rattle.lpc_model.specs.Lines.{ResidentLine, of_resident, ScriptCall, ScriptLine, boot, dir, link, run, thread, token}
+use Rattle.lpc_model.specs.Machine.{bare_steps, boot_line, dir_line, directed, directive_birth, link_line, live_test, name_of_call, new_thread, settled, thread_count_test, thread_line, thread_test, unused_thread_test, boot_token, token_line, boot_steps}
 use Rattle.lpc_isolation.proofs.Gone.Served.{served, served_step}
 use Rattle.lpc_model.proofs.Calls.Holding.{Holds, bind_holds, holds_any, holds_ok, not_refused}
 use Rattle.lpc_model.specs.Circle.{Group}
@@ -124,10 +123,15 @@ run-next m c w s tid call ids c_in st fine next = at (live_thread w tid) refl
     at None none = subst (λ bs. Kept m c (world_after w bs)) (sym (nobody w tid call none)) st.kept
     at (Some by) live = ready by live (wait_of w tid) refl
 
+resident-next : (m : Group) (c : ℕ) (w : World) (tid : ℕ) (what : ResidentLine) (had : Bool) → Kept m c w → Kept m c (served_step w (of_resident tid what had)).world
+unfolding bare_steps
+resident-next m c w tid what had n = n
+
 pub line-next : (m : Group) (c : ℕ) (w : World) (s : State) (line : ScriptLine) → has_ids line ≡ true → m c ≡ true → Stood m c w s → HasFineRows m c w → HasFineRows m c (served_step w line).world → Kept m c (served_step w line).world
 line-next m c w s (run tid call) ids c_in st fine next = run-next m c w s tid call (second-true (is_id tid) _ ids) c_in st fine next
 line-next m c w s (boot pid tid name) ids c_in st fine next = subst (λ bs. Kept m c (world_after w bs)) (sym (boot-directs m w pid tid name).is) (directed-next m c w Boot (boot_line w pid tid name) st.kept (boot-next m c w pid tid name ids st.kept))
 line-next m c w s (token name content) ids c_in st fine next = subst (λ bs. Kept m c (world_after w bs)) (sym (token-directs m w name content).is) (directed-next m c w word.Token (token_line w name content) st.kept (token-next m c w name content st.kept))
 line-next m c w s (thread tid pid) ids c_in st fine next = subst (λ bs. Kept m c (world_after w bs)) (sym (thread-directs m w tid pid).is) (thread-next m c w tid pid ids st.kept (thread_line w tid pid) refl)
+line-next m c w s (of_resident tid what had) ids c_in st fine next = resident-next m c w tid what had st.kept
 line-next m c w s (dir path) ids c_in st fine next = subst (λ bs. Kept m c (world_after w bs)) (sym (dir-directs m w path (seen-names m w.bindings st.kept.names)).is) (directed-next m c w Dir (dir_line w path) st.kept (dir-next m c w path st.kept))
 line-next m c w s (link path target) ids c_in st fine next = subst (λ bs. Kept m c (world_after w bs)) (sym (link-directs m w path target (seen-names m w.bindings st.kept.names)).is) (directed-next m c w Link (link_line w path target) st.kept (link-next m c w path target st.kept))

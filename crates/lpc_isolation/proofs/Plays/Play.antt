@@ -11,7 +11,7 @@ use Rattle.lpc_model.specs.World.{Birth, World, no_rows, Impersonation}
 use Rattle.lpc_model.specs.Lines.{ScriptLine}
 use Rattle.lpc_isolation.proofs.Gone.Served.{served_step, served_steps}
 use Rattle.lpc_model.specs.Run.{said_in}
-use Rattle.lpc_model.specs.Circle.{Event, Everyone, Group, Item, Nobody, Of, Ran, Told, Whose, entry_whose, inputs, is_fine_line, is_input, is_item, is_seen, is_told_to, item_of, items, line_whose, members, told_event, Gave, gave_event, given_in}
+use Rattle.lpc_model.specs.Circle.{Event, Everyone, Group, Item, Nobody, Of, Ran, Told, Whose, entry_whose, full_inputs, is_fine_line, is_input, is_item, is_seen, is_told_to, item_of, full_items, line_whose, members, told_event, Gave, gave_event, given_in}
 use Rattle.lpc_isolation.proofs.Views.Alone.{HasFineRows, alone}
 use Rattle.lpc_isolation.proofs.Gone.Bare.{IsApartAt, IsBareCircle, BareIsolation, bare_events, bare_line_events, HasViewsApart}
 
@@ -70,38 +70,38 @@ given_at m c w line = given_inputs m c (line_whose w line) (given_in (served_ste
 pub record Hidden {S : Type 0} (p : Player S) (Stands : World → S → Type 0) (m : Group) (c : ℕ) (w : World) (v : S) (line : ScriptLine) : Type 0 where
   pub unseen : is_seen m (line_whose w line) ≡ false
   pub stands : Stands (served_step w line).world (absorbed p v (told_at m c w line))
-  pub silent : items (alone c) (bare_line_events w line) ≡ []
+  pub silent : full_items (alone c) (bare_line_events w line) ≡ []
 
 pub record Visible {S : Type 0} (p : Player S) (Stands : World → S → Type 0) (m : Group) (c : ℕ) (w : World) (v : S) (line : ScriptLine) : Type 0 where
   pub seen : is_seen m (line_whose w line) ≡ true
   pub stands : (is : List Item) → Stands (served_step w line).world (absorbed p (p.after v line (told_items (told_at m c w line) ++ (gave_items (given_at m c w line) ++ is))) (told_at m c w line))
-  pub shown : (is : List Item) → items (alone c) (bare_line_events w line) ≡ p.shown_at v line (told_items (told_at m c w line) ++ (gave_items (given_at m c w line) ++ is))
+  pub shown : (is : List Item) → full_items (alone c) (bare_line_events w line) ≡ p.shown_at v line (told_items (told_at m c w line) ++ (gave_items (given_at m c w line) ++ is))
 
 pub data Played {S : Type 0} (p : Player S) (Stands : World → S → Type 0) (m : Group) (c : ℕ) (w : World) (v : S) (line : ScriptLine) : Type 0 where
   hidden : Hidden p Stands m c w v line → Played p Stands m c w v line
   visible : Visible p Stands m c w v line → Played p Stands m c w v line
 
 -- Filters of one list of events
-pub items-append : (m : Group) (xs ys : List Event) → items m (xs ++ ys) ≡ items m xs ++ items m ys
+pub items-append : (m : Group) (xs ys : List Event) → full_items m (xs ++ ys) ≡ full_items m xs ++ full_items m ys
 items-append m xs ys = ap (map item_of) (filter-append (is_item m) xs ys) ∙ map-append item_of (which (is_item m) xs) (which (is_item m) ys)
 
-inputs-append : (m : Group) (c : ℕ) (xs ys : List Event) → inputs m c (xs ++ ys) ≡ inputs m c xs ++ inputs m c ys
+inputs-append : (m : Group) (c : ℕ) (xs ys : List Event) → full_inputs m c (xs ++ ys) ≡ full_inputs m c xs ++ full_inputs m c ys
 inputs-append m c xs ys = ap (map item_of) (filter-append (is_input m c) xs ys) ∙ map-append item_of (which (is_input m c) xs) (which (is_input m c) ys)
 
-told-inputs : (m : Group) (c : ℕ) (u : World) (d : Whose) (es : List Entry) → inputs m c (map (told_event u d) es) ≡ told_items (told_inputs m c u d es)
+told-inputs : (m : Group) (c : ℕ) (u : World) (d : Whose) (es : List Entry) → full_inputs m c (map (told_event u d) es) ≡ told_items (told_inputs m c u d es)
 told-inputs m c u d [] = refl
 told-inputs m c u d (e ∷ es) = at (is_told_input m c u d e) (told-inputs m c u d es)
   where
-    at : (b : Bool) → inputs m c (map (told_event u d) es) ≡ told_items (told_inputs m c u d es)
+    at : (b : Bool) → full_inputs m c (map (told_event u d) es) ≡ told_items (told_inputs m c u d es)
         → map item_of (cond b (told_event u d e ∷ which (is_input m c) (map (told_event u d) es)) (which (is_input m c) (map (told_event u d) es))) ≡ map Told (cond b (e ∷ told_inputs m c u d es) (told_inputs m c u d es))
     at true rest = ap (λ is. Told e ∷ is) rest
     at false rest = rest
 
-gave-inputs : (m : Group) (c : ℕ) (d : Whose) (gs : List Impersonation) → inputs m c (map (gave_event d) gs) ≡ gave_items (given_inputs m c d gs)
+gave-inputs : (m : Group) (c : ℕ) (d : Whose) (gs : List Impersonation) → full_inputs m c (map (gave_event d) gs) ≡ gave_items (given_inputs m c d gs)
 gave-inputs m c d [] = refl
 gave-inputs m c d (own ∷ gs) = at (is_given_input m c d own) (gave-inputs m c d gs)
   where
-    at : (b : Bool) → inputs m c (map (gave_event d) gs) ≡ gave_items (given_inputs m c d gs)
+    at : (b : Bool) → full_inputs m c (map (gave_event d) gs) ≡ gave_items (given_inputs m c d gs)
         → map item_of (cond b (gave_event d own ∷ which (is_input m c) (map (gave_event d) gs)) (which (is_input m c) (map (gave_event d) gs))) ≡ map Gave (cond b (own ∷ given_inputs m c d gs) (given_inputs m c d gs))
     at true rest = ap (λ is. Gave own ∷ is) rest
     at false rest = rest
@@ -115,7 +115,7 @@ ran-input m c Nobody line = refl
 abbrev said_at : Group → ℕ → World → ScriptLine → List Item
 said_at m c w line = told_items (told_at m c w line) ++ gave_items (given_at m c w line)
 
-line-inputs : (m : Group) (c : ℕ) (w : World) (line : ScriptLine) → inputs m c (bare_line_events w line) ≡ cond (is_seen m (line_whose w line)) (Ran line ∷ said_at m c w line) (said_at m c w line)
+line-inputs : (m : Group) (c : ℕ) (w : World) (line : ScriptLine) → full_inputs m c (bare_line_events w line) ≡ cond (is_seen m (line_whose w line)) (Ran line ∷ said_at m c w line) (said_at m c w line)
 line-inputs m c w line = subst (λ b. map item_of (cond b (record { whose = line_whose w line; item = Ran line } ∷ which (is_input m c) es) (which (is_input m c) es)) ≡ cond (is_seen m (line_whose w line)) (Ran line ∷ said) said) (sym (ran-input m c (line_whose w line) line)) (at (is_seen m (line_whose w line)) both)
   where
     told : List Event
@@ -132,7 +132,7 @@ line-inputs m c w line = subst (λ b. map item_of (cond b (record { whose = line
 
     both : map item_of (which (is_input m c) es) ≡ said
     both = inputs-append m c told gave
-        ∙ ap (λ is. is ++ inputs m c gave) (told-inputs m c (served_step w line).world (line_whose w line) (served_step w line).entries)
+        ∙ ap (λ is. is ++ full_inputs m c gave) (told-inputs m c (served_step w line).world (line_whose w line) (served_step w line).entries)
         ∙ ap (λ is. told_items (told_at m c w line) ++ is) (gave-inputs m c (line_whose w line) (given_in (served_steps line w)))
 
     at : (b : Bool) → map item_of (which (is_input m c) es) ≡ said → map item_of (cond b (record { whose = line_whose w line; item = Ran line } ∷ which (is_input m c) es) (which (is_input m c) es)) ≡ cond b (Ran line ∷ said) said
@@ -162,31 +162,31 @@ joined (x ∷ xs) ys zs = ap (λ is. x ∷ is) (joined xs ys zs)
 
 -- one line, and then the rest
 played-line : {S : Type 0} (p : Player S) (Stands : World → S → Type 0) (m : Group) (c : ℕ) (w : World) (v : S) (line : ScriptLine) (own rest : List Item) → Played p Stands m c w v line → ((v : S) → Stands (served_step w line).world v → own ≡ play p v rest)
-    → items (alone c) (bare_line_events w line) ++ own ≡ play p v (inputs m c (bare_line_events w line) ++ rest)
+    → full_items (alone c) (bare_line_events w line) ++ own ≡ play p v (full_inputs m c (bare_line_events w line) ++ rest)
 played-line p Stands m c w v line own rest (hidden h) later =
     let told = told_at m c w line in
     let gave = given_at m c w line in
-    let ins : inputs m c (bare_line_events w line) ≡ said_at m c w line = line-inputs m c w line ∙ ap (λ b. cond b (Ran line ∷ said_at m c w line) (said_at m c w line)) h.unseen in
+    let ins : full_inputs m c (bare_line_events w line) ≡ said_at m c w line = line-inputs m c w line ∙ ap (λ b. cond b (Ran line ∷ said_at m c w line) (said_at m c w line)) h.unseen in
     ap (λ is. is ++ own) h.silent ∙ later (absorbed p v told) h.stands ∙ sym (play-gave p (absorbed p v told) gave rest) ∙ sym (play-told p v told (gave_items gave ++ rest))
     ∙ ap (play p v) (sym (joined (told_items told) (gave_items gave) rest)) ∙ ap (λ is. play p v (is ++ rest)) (sym ins)
 played-line p Stands m c w v line own rest (visible h) later =
     let told = told_at m c w line in
     let gave = given_at m c w line in
     let items_at : List Item = told_items told ++ (gave_items gave ++ rest) in
-    let ins : inputs m c (bare_line_events w line) ≡ Ran line ∷ said_at m c w line = line-inputs m c w line ∙ ap (λ b. cond b (Ran line ∷ said_at m c w line) (said_at m c w line)) h.seen in
+    let ins : full_inputs m c (bare_line_events w line) ≡ Ran line ∷ said_at m c w line = line-inputs m c w line ∙ ap (λ b. cond b (Ran line ∷ said_at m c w line) (said_at m c w line)) h.seen in
     ap (λ is. is ++ own) (h.shown rest)
     ∙ ap (λ is. p.shown_at v line items_at ++ is) (later (absorbed p (p.after v line items_at) told) (h.stands rest) ∙ sym (play-gave p (absorbed p (p.after v line items_at) told) gave rest) ∙ sym (play-told p (p.after v line items_at) told (gave_items gave ++ rest)))
     ∙ ap (λ is. play p v (Ran line ∷ is)) (sym (joined (told_items told) (gave_items gave) rest))
     ∙ ap (λ is. play p v (is ++ rest)) (sym ins)
 
 -- the theorem of one run: c's items are a function of the inputs
-pub plays : {S : Type 0} (p : Player S) (Stands : World → S → Type 0) (ok : ScriptLine → Bool) (m : Group) (c : ℕ) (outer : Birth → Bool) → Keeps p Stands ok m c outer → (w : World) (v : S) (lines : List (Option ScriptLine)) → Stands w v → IsBareCircle m c outer w lines → are_ok ok lines ≡ true → items (alone c) (bare_events w lines) ≡ play p v (inputs m c (bare_events w lines))
+pub plays : {S : Type 0} (p : Player S) (Stands : World → S → Type 0) (ok : ScriptLine → Bool) (m : Group) (c : ℕ) (outer : Birth → Bool) → Keeps p Stands ok m c outer → (w : World) (v : S) (lines : List (Option ScriptLine)) → Stands w v → IsBareCircle m c outer w lines → are_ok ok lines ≡ true → full_items (alone c) (bare_events w lines) ≡ play p v (full_inputs m c (bare_events w lines))
 plays p Stands ok m c outer k w v [] is circle fit = refl
 plays p Stands ok m c outer k w v (None ∷ later) is circle fit = plays p Stands ok m c outer k w v later is circle fit
 plays p Stands ok m c outer k w v (Some line ∷ later) is circle fit =
     let next = head-fine m c outer (served_step w line).world later circle.4 in
     items-append (alone c) (bare_line_events w line) (bare_events (served_step w line).world later)
-    ∙ played-line p Stands m c w v line (items (alone c) (bare_events (served_step w line).world later)) (inputs m c (bare_events (served_step w line).world later)) (k w v line is circle.0 next.0 circle.1 next.1 circle.2 circle.3 (first-true _ _ fit))
+    ∙ played-line p Stands m c w v line (full_items (alone c) (bare_events (served_step w line).world later)) (full_inputs m c (bare_events (served_step w line).world later)) (k w v line is circle.0 next.0 circle.1 next.1 circle.2 circle.3 (first-true _ _ fit))
     (λ v is. plays p Stands ok m c outer k (served_step w line).world v later is circle.4 (second-true _ _ fit))
     ∙ ap (play p v) (sym (inputs-append m c (bare_line_events w line) (bare_events (served_step w line).world later)))
 

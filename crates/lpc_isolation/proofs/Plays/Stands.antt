@@ -10,12 +10,12 @@ use Rattle.lpc_model.specs.World.{Contents, ThreadRow, WaitRow, World}
 use Rattle.lpc_model.specs.Found.{live_thread, wait_of}
 use Rattle.lpc_model.specs.Basics.{world_after}
 use Rattle.lpc_model.specs.Connect.{ConnectAnswer, answer_test}
-use Rattle.lpc_model.specs.Lines.{ScriptCall, ScriptLine, boot, dir, link, run, thread, token}
+use Rattle.lpc_model.specs.Lines.{of_resident, ScriptCall, ScriptLine, boot, dir, link, run, thread, token}
 use Rattle.lpc_model.specs.Machine.{boot_line, dir_line, link_line, thread_line, token_line}
 use Rattle.lpc_isolation.proofs.Gone.Served.{served_step}
 use Rattle.lpc_model.proofs.Calls.Holding.{holds_ok}
 use Rattle.lpc_model.proofs.Calls.Usable.{live-number}
-use Rattle.lpc_model.specs.Circle.{Everyone, Group, Item, Of, is_fine_call, is_fine_line, is_seen, items, line_whose, owner}
+use Rattle.lpc_model.specs.Circle.{Everyone, Group, Item, Of, is_fine_call, is_fine_line, is_seen, full_items, line_whose, owner}
 use Rattle.lpc_isolation.proofs.Views.Alone.{HasFineRows, alone}
 use Rattle.lpc_isolation.proofs.Gone.Bare.{bare_line_events}
 use Rattle.lpc_isolation.proofs.Views.View.{view}
@@ -32,6 +32,7 @@ use Rattle.lpc_isolation.proofs.Plays.Lines.{OnceUsed, Owes, run-hidden, run-vis
 use Rattle.lpc_isolation.proofs.Calls.Lines.{owes-busy, owes-call, owes-none}
 use Rattle.lpc_isolation.proofs.Each.Instances.{At, leading}
 use Rattle.lpc_isolation.proofs.Rows.Kept.{owned-sound}
+use Rattle.lpc_isolation.proofs.Plays.Residents.{resident-hidden, resident-visible, resident_shown}
 use Rattle.lpc_isolation.proofs.Plays.Directives.{boot-directs, dir-directs, directive-hidden, directive-visible, directive_shown, directive_turn, link-directs, thread-directs, token-directs}
 use Rattle.lpc_model.specs.Connect.{reaches}
 use Rattle.lpc_model.specs.Found.{is_offered, names_wait}
@@ -54,6 +55,7 @@ played_view m c s (token name content) is = world_after s.seen (directive_turn s
 played_view m c s (thread tid pid) is = world_after s.seen (directive_turn s.seen (thread tid pid) is)
 played_view m c s (dir path) is = world_after s.seen (directive_turn s.seen (dir path) is)
 played_view m c s (link path target) is = world_after s.seen (directive_turn s.seen (link path target) is)
+played_view m c s (of_resident tid what had) is = s.seen
 
 abbrev pub played_items : Group → ℕ → State → ScriptLine → List Item → List Item
 played_items m c s (run tid call) is = shown_run (leading m (known_queue s.memo) s.bytes) c s.seen tid call is
@@ -62,6 +64,7 @@ played_items m c s (token name content) is = directive_shown c s.seen (token nam
 played_items m c s (thread tid pid) is = directive_shown c s.seen (thread tid pid) is
 played_items m c s (dir path) is = directive_shown c s.seen (dir path) is
 played_items m c s (link path target) is = directive_shown c s.seen (link path target) is
+played_items m c s (of_resident tid what had) is = resident_shown c s.seen tid what had
 
 abbrev pub played_bytes : Group → ℕ → State → ScriptLine → List Item → Contents
 played_bytes m c s (run tid call) is = contents_after s.bytes (written_turn (leading m (known_queue s.memo) s.bytes) c s.seen tid call is)
@@ -70,6 +73,7 @@ played_bytes m c s (token name content) is = s.bytes
 played_bytes m c s (thread tid pid) is = s.bytes
 played_bytes m c s (dir path) is = s.bytes
 played_bytes m c s (link path target) is = s.bytes
+played_bytes m c s (of_resident tid what had) is = s.bytes
 
 abbrev pub player : Group → ℕ → Player (State)
 player m c = record {
@@ -161,9 +165,9 @@ owes-line m c w s tid call c_in st fine next line = at (live_thread w tid) refl
 
 -- What each line leaves of a view, and what c sees of it
 pub record Line (m : Group) (c : ℕ) (w : World) (s : State) (line : ScriptLine) : Type 0 where
-  pub hides : is_seen m (line_whose w line) ≡ false → (view m (served_step w line).world ≡ absorb_all s.seen (told_at m c w line)) × (items (alone c) (bare_line_events w line) ≡ [])
+  pub hides : is_seen m (line_whose w line) ≡ false → (view m (served_step w line).world ≡ absorb_all s.seen (told_at m c w line)) × (full_items (alone c) (bare_line_events w line) ≡ [])
   pub shows : is_seen m (line_whose w line) ≡ true → (is : List Item) → (view m (served_step w line).world ≡ absorb_all (played_view m c s line (told_items (told_at m c w line) ++ (gave_items (given_at m c w line) ++ is))) (told_at m c w line))
-      × (items (alone c) (bare_line_events w line) ≡ played_items m c s line (told_items (told_at m c w line) ++ (gave_items (given_at m c w line) ++ is)))
+      × (full_items (alone c) (bare_line_events w line) ≡ played_items m c s line (told_items (told_at m c w line) ++ (gave_items (given_at m c w line) ++ is)))
 
 pub of-line : (m : Group) (c : ℕ) (w : World) (t : List Heard) (k : Contents) (line : ScriptLine) → m c ≡ true → Stood m c w (record { seen = view m w; memo = t; bytes = k }) → HasFineRows m c w → HasFineRows m c (served_step w line).world → OnceUsed (served_step w line).world → FineLine m c k w line → Line m c w (record { seen = view m w; memo = t; bytes = k }) line
 of-line m c w t k (run tid call) c_in st fine next once line =
@@ -178,6 +182,10 @@ of-line m c w t k (token name content) c_in st fine next once line =
 of-line m c w t k (thread tid pid) c_in st fine next once line =
     let o = thread-directs m w tid pid in
     record { hides = λ out. directive-hidden m c w (thread tid pid) _ (Of pid) (thread_line w tid pid) c_in o out; shows = λ seen is. directive-visible m c w (thread tid pid) _ (Of pid) (thread_line w tid pid) (gave_items (given_at m c w (thread tid pid)) ++ is) o seen }
+of-line m c w t k (of_resident tid what had) c_in st fine next once line = record {
+  hides = λ out. resident-hidden m c w tid what had c_in out;
+  shows = λ seen is. resident-visible m c w tid what had (told_items (told_at m c w (of_resident tid what had)) ++ (gave_items (given_at m c w (of_resident tid what had)) ++ is)) st.kept.fair st.kept.once seen;
+}
 of-line m c w t k (dir path) c_in st fine next once line =
     let o = dir-directs m w path (seen-names m w.bindings st.kept.names) in
     record { hides = λ out. directive-hidden m c w (dir path) _ Everyone (dir_line w path) c_in o out; shows = λ seen is. directive-visible m c w (dir path) _ Everyone (dir_line w path) (gave_items (given_at m c w (dir path)) ++ is) o seen }

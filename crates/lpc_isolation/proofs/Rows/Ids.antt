@@ -1,4 +1,7 @@
 -- The numbers of processes are below 2^31, so a message's client reads back from its bytes.
+use Rattle.lpc_subsys.specs.Clients.{History}
+use Rattle.lpc_model.specs.Residents.{State, win32}
+use Rattle.lpc_model.proofs.Residents.{done-ids}
 use Rattle.std.proofs.Common.{◌≡◌, ◌≤◌, ◌%◌, ◌/◌, ◌+◌, ◌*◌, ℕ, List, [], ◌∷◌, ◌++◌, Bool, true, false, not, Option, Some, None, refl, subst, arith}
 use Rattle.std.specs.Prelude.{◌&&◌, ◌==◌, codes, nat_le, nat_lt, length, Result, Ok, Err, if◌then◌else◌}
 use Rattle.std.proofs.lemmas.Bool.{and_from, eqb-true}
@@ -21,12 +24,12 @@ use Rattle.lpc_model.specs.Message.{bytes_of}
 use Rattle.lpc_model.specs.Then.{◌>>=◌}
 use Rattle.lpc_model.specs.World.{MessageRow, UsedThread, World}
 use Rattle.lpc_model.specs.Words.{begins, fault_if, id_word, info_word, is_id, message_word, number_word, words}
-use Rattle.lpc_model.specs.Grammar.{accept_word, access_word, call_line, call_named, call_words, four_words, handle_and_message, handle_and_reply, has_call_ids, one_handle, process_and_thread, qos_word, target_and_code, target_and_thread, target_word, view_word, directive_line, directive_named, directive_words, has_ids, one_word, is_printable, read_line, starts_call, thread_call, two_words, words_line, two_numbers, four_numbers, address_and_bytes, range_words, range_and_bytes, fixed_word, given_dacl, no_words, one_or_two_words, process_and_token, token_words, given_token, two_or_three_words}
+use Rattle.lpc_model.specs.Grammar.{kind_word, three_words, accept_word, access_word, call_line, call_named, call_words, four_words, handle_and_message, handle_and_reply, has_call_ids, one_handle, process_and_thread, qos_word, target_and_code, target_and_thread, target_word, view_word, directive_line, directive_named, directive_words, has_ids, one_word, is_printable, read_line, starts_call, thread_call, two_words, words_line, two_numbers, four_numbers, address_and_bytes, range_words, range_and_bytes, fixed_word, given_dacl, no_words, one_or_two_words, process_and_token, token_words, given_token, two_or_three_words}
 use Rattle.lpc_model.specs.declared.entry.CallName.{CallName}
 use Rattle.lpc_model.specs.declared.entry.CallName.TheVariants.{NtAcceptConnectPort, NtClose, NtCompleteConnectPort, NtConnectPort, NtCreatePort, NtCreateProcess, NtCreateThread, NtDuplicateObject, NtListenPort, NtQueryObject, NtRegisterThreadTerminatePort, NtReplyPort, NtReplyWaitReceivePort, NtRequestPort, NtRequestWaitReplyPort, NtTerminateProcess, NtTerminateThread, NtCreateSection, NtMapViewOfSection, NtUnmapViewOfSection, NtReadVirtualMemory, NtWriteVirtualMemory, NtReadRequestData, NtWriteRequestData, NtImpersonateClientOfPort, NtSetInformationThread, NtOpenThreadToken, NtOpenProcessToken, NtQueryInformationToken}
 use Rattle.lpc_model.specs.declared.line.ProcArg.{ProcArg}
 use Rattle.lpc_model.specs.Lines.{ScriptCall, ScriptLine}
-use Rattle.lpc_model.specs.Run.{numbered_line, said_from, said_in, unless_faulty}
+use Rattle.lpc_model.specs.Run.{first_state, state_behind, done_from, numbered_line, said_from, said_in, unless_faulty}
 use Rattle.lpc_model.specs.Script.{script_lines}
 use Rattle.std.specs.List.{list_all}
 use Rattle.lpc_model.specs.Found.{is_used_thread}
@@ -170,6 +173,8 @@ directive-says word.Token others = then_gives (token_words others) _ Ids (λ _ _
 directive-says Thread others = then_gives (two_words others) _ Ids (λ two _. then_gives (id_word two.0) _ Ids (λ tid one. then_gives (id_word two.1) _ Ids (λ pid other. and_from _ _ (gives_ok IsId (id_word two.0) tid (id-says two.0) one) (gives_ok IsId (id_word two.1) pid (id-says two.1) other))))
 directive-says Dir others = then_gives (one_word others) _ Ids (λ path _. refl)
 directive-says Link others = then_gives (two_words others) _ Ids (λ two _. refl)
+directive-says word.Resident others = then_gives (three_words others) _ Ids (λ three _. then_gives (id_word three.0) _ Ids (λ tid is. then_gives (kind_word three.1) _ Ids (λ _ _. then_gives (number_word three.2) _ Ids (λ _ _. gives_ok IsId (id_word three.0) tid (id-says three.0) is))))
+directive-says word.Turn others = then_gives (one_word others) _ Ids (λ front _. then_gives (id_word front) _ Ids (λ tid is. gives_ok IsId (id_word front) tid (id-says front) is))
 
 word-says : (front : List ℕ) (others : List (List ℕ)) → Gives Ids (directive_line front others)
 unfolding directive_line
@@ -214,5 +219,12 @@ unfolding said_from
 from-says n [] = refl
 from-says n (line ∷ lines) = said-says (numbered_line n line) (said_from (n + 1) lines) (numbered-says n line) (from-says (n + 1) lines)
 
+-- and so of what the lines come to
+done-says : (s : State (List History)) (lines : List (Option ScriptLine)) → are_ok has_ids lines ≡ true → are_ok has_ids (done_from win32 s lines) ≡ true
+done-says s [] is = refl
+done-says s (None ∷ later) is = done-says (state_behind win32 s None) later is
+done-says s (Some line ∷ later) is =
+    and_from _ _ (done-ids win32 s line (first-true _ _ is)) (done-says (state_behind win32 s (Some line)) later (second-true _ _ is))
+
 pub script-says : (script : List ℕ) → are_ok has_ids (said_in script) ≡ true
-script-says script = from-says 1 (script_lines script)
+script-says script = done-says first_state (said_from 1 (script_lines script)) (from-says 1 (script_lines script))

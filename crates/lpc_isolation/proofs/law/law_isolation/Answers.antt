@@ -1,4 +1,4 @@
-use Rattle.lpc_isolation.proofs.Gone.Swept.{isolation_law}
+use Rattle.lpc_isolation.proofs.Gone.Said.{isolation_law}
 use Rattle.lpc_isolation.proofs.law.law_isolation.Goals as goal
 
 pub returns : goal.returns
