@@ -1,0 +1,8 @@
+mod Clients
+mod Heard
+pub mod Kept
+mod Maps
+mod Outcomes
+mod Rows
+mod Told
+mod Turns
