@@ -4,7 +4,7 @@ ghost use Rattle.std.specs.List.{list_all};
 ghost use Rattle.std.specs.Option.{option_copied, option_map};
 ghost use Rattle.lpc_base.specs.declared.limits.TheConstants.{LINE_LIMIT};
 ghost use Rattle.lpc_model.specs.declared.entry.CallName.TheVariants.{NtAcceptConnectPort, NtConnectPort, NtCreatePort, NtCreateProcess, NtCreateSection, NtCreateThread, NtDuplicateObject, NtImpersonateClientOfPort, NtMapViewOfSection, NtQueryInformationToken, NtReadRequestData, NtReadVirtualMemory, NtSetInformationThread, NtTerminateProcess, NtTerminateThread, NtUnmapViewOfSection, NtWriteRequestData, NtWriteVirtualMemory};
-ghost use Rattle.lpc_model.specs.declared.entry.Word.TheVariants.{Boot, Thread, Token};
+ghost use Rattle.lpc_model.specs.declared.entry.Word.TheVariants.{Boot, Resident, Thread, Token};
 ghost use Rattle.lpc_model.specs.Lines.{call_of, line_of};
 ghost use Rattle.lpc_model.specs.Words.{is_id, words};
 ghost use Rattle.lpc_model.specs.Grammar.{call_words, directive_words, has_call_ids, has_ids};
@@ -15,10 +15,10 @@ use crate::access::given_dacl;
 use crate::scratch::Scratch;
 use crate::tokens::{process_and_token, quality, token_words};
 use lpc_base::limits::LINE_LIMIT;
-use lpc_model::{Call, CallName, Line, LineFault, ProcArg, ViewWord, Word};
+use lpc_model::{Call, CallName, Kind, Line, LineFault, ProcArg, ViewWord, Word};
 use lpc_words::{
     call_name, directive_name, four_words, id, next_word, no_words, number, one_or_two_words,
-    one_word, three_parts, two_words,
+    one_word, three_parts, three_words, two_words,
 };
 
 /// The word `null`; `Word` for any other.
@@ -566,6 +566,30 @@ fn token(text: &[u8]) -> Result<Line<'_>, LineFault>
     Ok(Line::Token { name, token })
 }
 
+/// The kind of a server; `Word` for any other word.
+#[tactic(auto, unfolding(lpc_model::specs::Grammar::kind_word))]
+fn kind(word: &[u8]) -> Result<Kind, LineFault>
+    ensures { Gives (λ kind. kind) result (grammar.kind_word word.now) }
+{
+    if word != b"win32".as_slice() {
+        return Err(LineFault::Word);
+    }
+    Ok(Kind::Win32)
+}
+
+/// A server on a thread.
+#[tactic(auto, unfolding(lpc_model::specs::Grammar::directive_words))]
+fn resident(text: &[u8]) -> Result<Line<'_>, LineFault>
+    ensures value { Gives line_of result (directive_words Resident (words text.now)) }
+    ensures ids { IfOk result (λ line. IsTrue (has_ids (line_of line))) }
+{
+    let (tid, word, handle) = three_words(text)?;
+    let tid = id(tid)?;
+    let kind = kind(word)?;
+    let handle = number(handle)?;
+    Ok(Line::Resident { tid, kind, handle })
+}
+
 /// A directive by the words behind it.
 #[tactic(auto, unfolding(lpc_model::specs::Grammar::directive_words))]
 fn directive(word: Word, text: &[u8]) -> Result<Line<'_>, LineFault>
@@ -583,6 +607,12 @@ fn directive(word: Word, text: &[u8]) -> Result<Line<'_>, LineFault>
         Word::Link => {
             let (path, target) = two_words(text)?;
             Ok(Line::Link { path, target })
+        }
+        Word::Resident => resident(text),
+        Word::Turn => {
+            let tid = one_word(text)?;
+            let tid = id(tid)?;
+            Ok(Line::Turn(tid))
         }
     }
 }

@@ -1,4 +1,5 @@
 -- What a storm comes to, in one line.
+use Rattle.lpc_model.specs.World.{no_rows}
 use Rattle.std.specs.Prelude.{ℕ, ◌%◌, ◌^◌, ◌==◌, ◌&&◌, Bool, true, false, List, ◌++◌, length, sum, count_by, codes, decimal}
 use Rattle.lpc_base.specs.declared.status.Status.{Status}
 use Rattle.lpc_base.specs.declared.status.TheConstants.{REPLY_MESSAGE_MISMATCH, SUCCESS}
@@ -7,7 +8,7 @@ use Rattle.lpc_model.specs.declared.entry.CallName.TheVariants.{NtRequestWaitRep
 use Rattle.lpc_model.specs.declared.entry.Entry.{Entry}
 use Rattle.lpc_model.specs.declared.entry.Entry.TheVariants.{Answer, Wakes}
 use Rattle.lpc_model.specs.Found.{objects}
-use Rattle.lpc_model.specs.Run.{all_entries, first_state, run_of, said_in, world_behind}
+use Rattle.lpc_model.specs.Run.{all_entries, run_of, said_in, world_behind}
 use Rattle.lpc_model.specs.Text.{eight_digits}
 use Rattle.lpc_model.specs.Transcript.{transcript}
 use Rattle.lpc_storm.specs.declared.summary.Summary.{Summary}
@@ -33,7 +34,7 @@ abbrev pub summary_of : List ℕ → Summary
 summary_of script = record {
   lines = length (run_of script);
   entries = length (all_entries (run_of script));
-  objects = objects (world_behind first_state (said_in script));
+  objects = objects (world_behind no_rows (said_in script));
   replies = count_by is_replied (all_entries (run_of script));
   mismatches = count_by is_mismatch (all_entries (run_of script));
   sum = sum (transcript script) % 2 ^ 32;

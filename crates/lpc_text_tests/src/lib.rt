@@ -11,6 +11,8 @@ mod model;
 #[cfg(test)]
 mod ranges;
 #[cfg(test)]
+mod residents;
+#[cfg(test)]
 mod script;
 #[cfg(test)]
 mod tokens;

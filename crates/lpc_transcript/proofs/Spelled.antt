@@ -153,6 +153,8 @@ directive_named-text word.Thread = refl
 directive_named-text word.Token = refl
 directive_named-text word.Dir = refl
 directive_named-text word.Link = refl
+directive_named-text word.Resident = refl
+directive_named-text word.Turn = refl
 
 pub word_name_unique : (a b : Word) → word_text a ≡ word_text b → a ≡ b
 word_name_unique a b e =
@@ -165,6 +167,8 @@ word_plain word.Thread = refl
 word_plain word.Token = refl
 word_plain word.Dir = refl
 word_plain word.Link = refl
+word_plain word.Resident = refl
+word_plain word.Turn = refl
 
 read_name : List ℕ → FieldName
 read_name text =

@@ -99,6 +99,20 @@ pub fn two_words(text: &[u8]) -> Result<(&[u8], &[u8]), LineFault>
     Ok((first, second))
 }
 
+/// The words of a text that has exactly three; `Count` where it has fewer or more.
+#[tactic(auto, unfolding(lpc_model::specs::Grammar::three_words))]
+pub fn three_words(text: &[u8]) -> Result<(&[u8], &[u8], &[u8]), LineFault>
+    ensures { Gives seen_three result (grammar.three_words (words text.now)) }
+{
+    let (first, rest) = next_word(text).ok_or(LineFault::Count)?;
+    let (second, rest) = next_word(rest).ok_or(LineFault::Count)?;
+    let (third, rest) = next_word(rest).ok_or(LineFault::Count)?;
+    if let Some((_, _)) = next_word(rest) {
+        return Err(LineFault::Count);
+    }
+    Ok((first, second, third))
+}
+
 /// The words of a text that has exactly four; `Count` where it has fewer or more.
 #[tactic(auto, unfolding(lpc_model::specs::Grammar::four_words))]
 pub fn four_words(text: &[u8]) -> Result<(&[u8], &[u8], &[u8], &[u8]), LineFault>
