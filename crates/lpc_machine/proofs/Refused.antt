@@ -4,9 +4,9 @@ use Rattle.std.specs.Prelude.{ℕ, Option, Some, None, Result, Ok, Err, IsErr, �
 use Rattle.lpc_base.specs.declared.status.Status.{Status}
 use Rattle.lpc_model.specs.Basics.{Basic, Tells, world_after}
 use Rattle.lpc_model.specs.Found.{live_thread, wait_of}
-use Rattle.lpc_model.specs.Lines.{ScriptCall, ScriptLine, boot, dir, link, run, thread, token}
+use Rattle.lpc_model.specs.Lines.{of_resident, ScriptCall, ScriptLine, boot, dir, link, run, thread, token}
 use Rattle.lpc_model.specs.Linked.{HasHeldRows}
-use Rattle.lpc_model.specs.Machine.{bare_steps, boot_line, dir_line, directed, link_line, name_of_call, ready_steps, service_of, settled, step, thread_line, thread_steps, token_line}
+use Rattle.lpc_model.specs.Machine.{resident_entry, bare_steps, boot_line, dir_line, directed, link_line, name_of_call, ready_steps, service_of, settled, step, thread_line, thread_steps, token_line}
 use Rattle.lpc_model.specs.Sweep.{sweep}
 use Rattle.lpc_model.specs.declared.entry.CallName.{CallName}
 use Rattle.lpc_model.specs.World.{ThreadRow, WaitRow, World}
@@ -19,9 +19,9 @@ use Rattle.lpc_rows.specs.Ready.{caller, thread_in}
 use Rattle.lpc_machine.specs.Memory.{Halts}
 
 -- one entry is told, and nothing else is done
-record TellsOne (bs : List Basic) : Type 0 where
-  entry : Entry
-  is : bs ≡ Tells entry ∷ []
+pub record TellsOne (bs : List Basic) : Type 0 where
+  pub entry : Entry
+  pub is : bs ≡ Tells entry ∷ []
 
 directed_one : (name : Word) (r : Result (List Basic) Status) → IsErr r → TellsOne (directed name r)
 directed_one name (Ok bs) is = absurd (cc)
@@ -39,13 +39,14 @@ thread_one : (w : World) (tid : ℕ) (call : ScriptCall) (o : Option ThreadRow) 
 thread_one w tid call None halts = record { entry = NoThread tid; is = refl }
 thread_one w tid call (Some by) halts = ready_one w by call (wait_of w tid) halts
 
-halts_one : (w : World) (line : ScriptLine) → Halts w line → TellsOne (bare_steps line w)
+pub halts_one : (w : World) (line : ScriptLine) → Halts w line → TellsOne (bare_steps line w)
 unfolding bare_steps caller
 halts_one w (boot pid tid name) halts = directed_one word.Boot (boot_line w pid tid name) halts
 halts_one w (thread tid pid) halts = directed_one word.Thread (thread_line w tid pid) halts
 halts_one w (token name content) halts = directed_one word.Token (token_line w name content) halts
 halts_one w (dir path) halts = directed_one word.Dir (dir_line w path) halts
 halts_one w (link path target) halts = directed_one word.Link (link_line w path target) halts
+halts_one w (of_resident tid what had) halts = record { entry = resident_entry w tid what had; is = refl }
 halts_one w (run tid call) halts = thread_one w tid call (live_thread w tid) halts
 
 -- and no row goes, where some row counts for each object

@@ -12,7 +12,7 @@ use Rattle.lpc_request.specs.Called.{was_registered}
 use Rattle.lpc_model.specs.Machine.{boot_line, dir_line, link_line, service_of, thread_line, token_line}
 use Rattle.lpc_rows.specs.Kept.{Kept, lacks_name_room, lacks_process_room, lacks_thread_room}
 use Rattle.lpc_rows.specs.Ready.{caller, is_ready}
-use Rattle.lpc_model.specs.Lines.{ScriptCall, ScriptLine, boot, thread, token, dir, link, run, accept_connect_port, connect_port, create_port, create_process, create_section, create_thread, duplicate_object, map_view_of_section, open_process_token, open_thread_token, register_thread_terminate_port, request_port}
+use Rattle.lpc_model.specs.Lines.{ScriptCall, ScriptLine, boot, thread, token, dir, link, of_resident, run, accept_connect_port, connect_port, create_port, create_process, create_section, create_thread, duplicate_object, map_view_of_section, open_process_token, open_thread_token, register_thread_terminate_port, request_port}
 
 -- the calls whose step may take memory: they make a port, a process, a thread, a section, a view, a token, a further
 -- handle, a message that no thread waits with, or a place for one that is to tell of a thread's end; a refusal of a
@@ -39,15 +39,17 @@ takes_memory (thread tid pid) = true
 takes_memory (token name content) = true
 takes_memory (dir path) = true
 takes_memory (link path target) = true
+takes_memory (of_resident tid what had) = false
 takes_memory (run tid call) = call_takes_memory call
 
--- the line makes a call: a directive does, and a call of a thread that lives and doesn't wait
+-- the line makes a call: a directive on the world does, and a call of a thread that lives and doesn't wait
 abbrev pub makes_call : World → ScriptLine → Bool
 makes_call w (boot pid tid name) = true
 makes_call w (thread tid pid) = true
 makes_call w (token name content) = true
 makes_call w (dir path) = true
 makes_call w (link path target) = true
+makes_call w (of_resident tid what had) = false
 makes_call w (run tid call) = is_ready w tid
 
 -- the line makes a call that isn't refused
@@ -57,6 +59,7 @@ GoesOn w (thread tid pid) = IsOk (thread_line w tid pid)
 GoesOn w (token name content) = IsOk (token_line w name content)
 GoesOn w (dir path) = IsOk (dir_line w path)
 GoesOn w (link path target) = IsOk (link_line w path target)
+GoesOn w (of_resident tid what had) = ⊥
 GoesOn w (run tid call) = (is_ready w tid ≡ true) × IsOk (service_of w (caller w tid) call)
 
 -- the line makes no call, or one that is refused
@@ -66,6 +69,7 @@ Halts w (thread tid pid) = IsErr (thread_line w tid pid)
 Halts w (token name content) = IsErr (token_line w name content)
 Halts w (dir path) = IsErr (dir_line w path)
 Halts w (link path target) = IsErr (link_line w path target)
+Halts w (of_resident tid what had) = Unit {0}
 Halts w (run tid call) = is_ready w tid ≡ true → IsErr (service_of w (caller w tid) call)
 
 -- There is no room for what a thread's call makes: a port with its handle, and its name; a client port with its handle,
@@ -98,4 +102,5 @@ lacks_room w (thread tid pid) = lacks_thread_room w
 lacks_room w (token name content) = lacks_token_name_room w
 lacks_room w (dir path) = lacks_name_room w
 lacks_room w (link path target) = lacks_name_room w
+lacks_room w (of_resident tid what had) = false
 lacks_room w (run tid call) = lacks_call_room w tid call

@@ -14,7 +14,7 @@ ghost use Rattle.lpc_model.specs.Deaths.{DeathsAreTold, HasLivingRegistrations, 
 ghost use Rattle.lpc_model.specs.Left.{LeavesNothing};
 ghost use Rattle.lpc_model.specs.SingleClosings.{HasSingleClosings};
 ghost use Rattle.lpc_base.specs.declared.limits.TheConstants.{LINES_LIMIT};
-ghost use Rattle.lpc_model.specs.Machine.{bare_steps, step, thread_steps};
+ghost use Rattle.lpc_model.specs.Machine.{bare_steps, hosting_status, step, thread_steps};
 ghost use Rattle.lpc_model.specs.SoundViews.{HasSoundOffers, HasSoundViews};
 ghost use Rattle.lpc_model.specs.SoundWaits.{HasSoundWaits};
 ghost use Rattle.lpc_model.specs.declared.entry.Entry.TheVariants as entry;
@@ -31,6 +31,7 @@ ghost use Rattle.lpc_rows.specs.Ready as ready;
 ghost use Rattle.lpc_rows.specs.Ready.{HasRoom, is_ready};
 
 use crate::reading::{Condition, condition_of, objects, room_needed};
+use lpc_base::status::{INVALID_CID, SUCCESS};
 use lpc_base::{OutOfMemory, Status};
 use lpc_closing::{nt_close, nt_duplicate_object, nt_query_object};
 use lpc_connect::{
@@ -258,8 +259,18 @@ fn run(world: &mut World, tid: u32, call: &Call<'_>, out: &mut Entries) -> Resul
     Ok(())
 }
 
+/// Whether a server may come to a thread that has none: the thread lives.
+fn hosting(world: &World, tid: u32) -> Status
+    ensures { result ≡ hosting_status (live_thread world.now.rows tid) false }
+{
+    match world.live_thread(tid) {
+        Some(_) => SUCCESS,
+        None => INVALID_CID,
+    }
+}
+
 /// What a line does on the world alone, before rows go.
-#[tactic(auto, unfolding(lpc_model::specs::Machine::bare_steps), using(crate::proofs::Asked::ports_within, crate::proofs::Asked::messages_within, crate::proofs::Asked::waits_within, crate::proofs::Asked::processes_within, crate::proofs::Asked::threads_within, crate::proofs::Asked::places_by_one, crate::proofs::Asked::places_by_two, crate::proofs::Asked::places_kept, crate::proofs::Asked::places_same))]
+#[tactic(auto, unfolding(lpc_model::specs::Machine::bare_steps), using(crate::proofs::Idle::hosts_alone, crate::proofs::Idle::turn_alone, crate::proofs::Asked::ports_within, crate::proofs::Asked::messages_within, crate::proofs::Asked::waits_within, crate::proofs::Asked::processes_within, crate::proofs::Asked::threads_within, crate::proofs::Asked::places_by_one, crate::proofs::Asked::places_by_two, crate::proofs::Asked::places_kept, crate::proofs::Asked::places_same))]
 fn take(world: &mut World, line: &Line<'_>, out: &mut Entries) -> Result<(), OutOfMemory>
     requires empty { out.old.list ≡ [] }
     requires unread { out.old.reads ≡ false }
@@ -327,6 +338,15 @@ fn take(world: &mut World, line: &Line<'_>, out: &mut Entries) -> Result<(), Out
             tell(Word::Link, status, out);
             Ok(())
         }
+        Line::Resident { tid, .. } => {
+            let status = hosting(world, *tid);
+            tell(Word::Resident, status, out);
+            Ok(())
+        }
+        Line::Turn(_) => {
+            tell(Word::Turn, INVALID_CID, out);
+            Ok(())
+        }
         Line::Run { tid, call } => run(world, *tid, call, out),
     }
 }
@@ -370,6 +390,8 @@ impl Machine {
     /// `out`, which is empty and has room for [`Machine::room_needed`] more. The line's process and thread numbers are
     /// from 1 to 2147483647, the name that it gives a token has at most 32 bytes, and fewer than 1,000,000 directives
     /// and service calls were made before it.
+    ///
+    /// A line about the server on a thread is told as where there is none: whoever keeps the servers tells the others.
     ///
     /// A line that is refused, or that no thread can run, leaves every row as it was. After want of memory nothing has
     /// changed but the room. Only directives, `NtCreatePort`, `NtConnectPort`, `NtAcceptConnectPort` to accept,

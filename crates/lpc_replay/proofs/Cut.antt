@@ -5,12 +5,12 @@ use Rattle.std.proofs.lemmas.List.{append-nil}
 use Rattle.lpc_base.specs.Streams.{Adds}
 use Rattle.lpc_model.specs.Lines.{ScriptLine}
 use Rattle.lpc_model.specs.Machine.{Stepped}
-use Rattle.lpc_model.specs.Run.{line_step, numbered_line, said_from, trace}
+use Rattle.lpc_model.specs.Run.{numbered_line, said_from, trace}
 use Rattle.lpc_model.specs.Transcript.{body_from}
-use Rattle.lpc_replay.specs.Playing.{Progress, behind_line, steps_of}
+use Rattle.lpc_replay.specs.Playing.{step_at, Progress, behind_line, steps_of}
 use Rattle.lpc_replay.specs.Sending.{TellsFirst}
 
-pub steps_go : (p : Progress) (line : List ℕ) (lines : List (List ℕ)) (said : Option ScriptLine) → numbered_line (p.lines + 1) line ≡ Ok said → steps_of p (line ∷ lines) ≡ line_step p.rows said ∷ steps_of (behind_line p said) lines
+pub steps_go : (p : Progress) (line : List ℕ) (lines : List (List ℕ)) (said : Option ScriptLine) → numbered_line (p.lines + 1) line ≡ Ok said → steps_of p (line ∷ lines) ≡ step_at p said ∷ steps_of (behind_line p said) lines
 unfolding said_from trace
 steps_go p line lines said is = rw is refl
 

@@ -1,11 +1,14 @@
 -- The laws of every script.
+use Rattle.lpc_model.specs.Residents.{win32}
+use Rattle.lpc_model.proofs.Residents.{done_bytes}
+use Rattle.lpc_model.specs.World.{no_rows}
 use Rattle.std.proofs.Common.{ℕ, List}
 use Rattle.lpc_model.specs.Script.{script_lines}
-use Rattle.lpc_model.specs.Run.{first_state, said_in}
+use Rattle.lpc_model.specs.Run.{first_state, said_from, said_in}
 use Rattle.lpc_model.specs.Replies.{MisfitsAreRefused, RefusedRepliesChangeNothing}
 use Rattle.lpc_model.proofs.GivenBytes.{said_bytes}
 use Rattle.lpc_model.proofs.Runs.{along-keeps, lawful_none}
-use Rattle.lpc_isolation.proofs.Gone.Swept.{isolation_law}
+use Rattle.lpc_isolation.proofs.Gone.Said.{isolation_law}
 use Rattle.lpc_replay.specs.Laws.{ClientsApart, ConnectsReturn, MisfitsRefused, RefusalsIdle, RefusalsStay, RequestsReturn, WaitsEnd}
 use Rattle.lpc_replay.specs.Waits.{WaitsEndAsTold}
 use Rattle.lpc_replay.proofs.Returning.{answers_along, returns_along}
@@ -15,23 +18,23 @@ use Rattle.lpc_replay.proofs.Waiting.{waits_told}
 
 pub every_request : (script : List ℕ) → RequestsReturn script
 unfolding RequestsReturn
-every_request script = returns_along first_state (said_in script) (said_bytes 1 (script_lines script)) tt lawful_none
+every_request script = returns_along no_rows (said_in script) (done_bytes win32 first_state (said_from 1 (script_lines script)) (said_bytes 1 (script_lines script))) tt lawful_none
 
 pub every_wait : (script : List ℕ) → WaitsEnd script
 unfolding WaitsEnd
-every_wait script = along-keeps WaitsEndAsTold (λ w line _. waits_told w line) first_state (said_in script) lawful_none
+every_wait script = along-keeps WaitsEndAsTold (λ w line _. waits_told w line) no_rows (said_in script) lawful_none
 
 pub every_connect : (script : List ℕ) → ConnectsReturn script
 unfolding ConnectsReturn
-every_connect script = answers_along first_state (said_in script) (said_bytes 1 (script_lines script)) tt lawful_none
+every_connect script = answers_along no_rows (said_in script) (done_bytes win32 first_state (said_from 1 (script_lines script)) (said_bytes 1 (script_lines script))) tt lawful_none
 
 pub every_misfit : (script : List ℕ) → MisfitsRefused script
 unfolding MisfitsRefused
-every_misfit script = along-keeps MisfitsAreRefused (λ w line _. misfits_refused w line) first_state (said_in script) lawful_none
+every_misfit script = along-keeps MisfitsAreRefused (λ w line _. misfits_refused w line) no_rows (said_in script) lawful_none
 
 pub every_refusal : (script : List ℕ) → RefusalsStay script
 unfolding RefusalsStay
-every_refusal script = along-keeps RefusedRepliesChangeNothing (λ w line r. refusals_stay w line r.held) first_state (said_in script) lawful_none
+every_refusal script = along-keeps RefusedRepliesChangeNothing (λ w line r. refusals_stay w line r.held) no_rows (said_in script) lawful_none
 
 pub every_removal : (script : List ℕ) → RefusalsIdle script
 unfolding RefusalsIdle

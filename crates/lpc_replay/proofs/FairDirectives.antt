@@ -1,14 +1,14 @@
 -- What a directive tells is right.
-use Rattle.std.proofs.Common.{List, ℕ, ◌∷◌}
+use Rattle.std.proofs.Common.{Bool, List, None, Some, [], false, true, ℕ, ◌∷◌}
 use Rattle.std.specs.Prelude.{Option, is_some}
 use Rattle.lpc_base.specs.declared.status.TheConstants.{OBJECT_NAME_COLLISION, SUCCESS}
 use Rattle.lpc_model.specs.Basics.{Tells}
-use Rattle.lpc_model.specs.Found.{named_token}
-use Rattle.lpc_model.specs.Lines.{ScriptLine}
-use Rattle.lpc_model.specs.Machine.{boot_line, boot_token, dir_line, link_line, thread_line, thread_test, token_line, unused_test}
+use Rattle.lpc_model.specs.Found.{live_thread, named_token}
+use Rattle.lpc_model.specs.Lines.{ResidentLine, ScriptLine, hosts, moves}
+use Rattle.lpc_model.specs.Machine.{boot_line, boot_token, dir_line, idle_entry, link_line, resident_entry, thread_line, thread_test, token_line, unused_test}
 use Rattle.lpc_model.specs.Named.{free_name, spelled_name}
 use Rattle.lpc_model.specs.Refusal.{refuse_if}
-use Rattle.lpc_model.specs.World.{Token, World}
+use Rattle.lpc_model.specs.World.{ThreadRow, Token, World}
 use Rattle.lpc_model.specs.declared.entry.Entry.TheVariants as entry
 use Rattle.lpc_model.specs.declared.entry.Word.TheVariants as word
 use Rattle.lpc_model.proofs.Calls.Holding.{Holds, bind_holds}
@@ -40,3 +40,13 @@ unfolding link_line
 link_fair w line path target =
     bind_holds (spelled_name target) _ (λ bs. AreFair w line (Tells (entry.Directive word.Link SUCCESS) ∷ bs)) (λ _ _.
     bind_holds (free_name w path) _ (λ bs. AreFair w line (Tells (entry.Directive word.Link SUCCESS) ∷ bs)) (λ _ _. ((tt, tt), (tt, tt))))
+
+pub resident_fair : (w : World) (line : ScriptLine) (tid : ℕ) (what : ResidentLine) (had : Bool) → AreFair w line (Tells (resident_entry w tid what had) ∷ [])
+unfolding resident_entry
+resident_fair w line tid (hosts kind handle) had = ((tt, tt), tt)
+resident_fair w line tid moves had = idle (live_thread w tid) had
+  where
+    idle : (o : Option ThreadRow) (had : Bool) → AreFair w line (Tells (idle_entry tid o had) ∷ [])
+    idle None had = ((tt, tt), tt)
+    idle (Some t) false = ((tt, tt), tt)
+    idle (Some t) true = ((tt, tt), tt)

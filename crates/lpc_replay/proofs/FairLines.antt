@@ -5,7 +5,7 @@ use Rattle.lpc_base.specs.declared.status.Status.{Status}
 use Rattle.lpc_model.specs.Basics.{Tells}
 use Rattle.lpc_model.specs.Connect.{nt_connect_port}
 use Rattle.lpc_model.specs.Found.{live_thread, wait_of}
-use Rattle.lpc_model.specs.Lines.{ScriptCall, ScriptLine, accept_connect_port, boot, close, complete_connect_port, connect_port, create_port, create_process, create_thread, dir, duplicate_object, link, listen_port, query_object, register_thread_terminate_port, reply_port, reply_wait_receive_port, request_port, request_wait_reply_port, run, terminate_process, terminate_thread, thread, token, create_section, map_view_of_section, read_virtual_memory, unmap_view_of_section, write_virtual_memory, read_request_data, write_request_data, impersonate_client_of_port, open_process_token, open_thread_token, query_information_token, set_information_thread}
+use Rattle.lpc_model.specs.Lines.{of_resident, ScriptCall, ScriptLine, accept_connect_port, boot, close, complete_connect_port, connect_port, create_port, create_process, create_thread, dir, duplicate_object, link, listen_port, query_object, register_thread_terminate_port, reply_port, reply_wait_receive_port, request_port, request_wait_reply_port, run, terminate_process, terminate_thread, thread, token, create_section, map_view_of_section, read_virtual_memory, unmap_view_of_section, write_virtual_memory, read_request_data, write_request_data, impersonate_client_of_port, open_process_token, open_thread_token, query_information_token, set_information_thread}
 use Rattle.lpc_model.specs.Machine.{bare_steps, boot_line, dir_line, link_line, name_of_call, ready_steps, service_of, steps, thread_line, thread_steps, token_line}
 use Rattle.lpc_model.specs.Request.{nt_request_wait_reply_port}
 use Rattle.lpc_model.specs.World.{ThreadRow, WaitRow, World}
@@ -24,7 +24,7 @@ use Rattle.lpc_replay.proofs.FairConnect.{connect_fails, connect_fair}
 use Rattle.lpc_replay.proofs.FairCounts.{create_process_fair, create_thread_fair, duplicate_fair, query_fair}
 use Rattle.lpc_replay.proofs.FairCreate.{create_fair}
 use Rattle.lpc_replay.proofs.FairDatagram.{datagram_fair}
-use Rattle.lpc_replay.proofs.FairDirectives.{boot_fair, dir_fair, further_fair, link_fair, token_fair}
+use Rattle.lpc_replay.proofs.FairDirectives.{resident_fair, boot_fair, dir_fair, further_fair, link_fair, token_fair}
 use Rattle.lpc_replay.proofs.FairListen.{listen_fair}
 use Rattle.lpc_replay.proofs.FairMemories.{create_section_fair, map_fair, read_fair, unmap_fair, write_fair}
 use Rattle.lpc_replay.proofs.FairRanges.{read_range_fair, write_range_fair}
@@ -114,6 +114,7 @@ unfolding bare_steps
 bare_fair w (boot pid tid name) are safe h = directed_holds (AreFair w (boot pid tid name)) word.Boot (boot_line w pid tid name) (boot_fair w _ pid tid name) (λ s. ((tt, tt), tt))
 bare_fair w (thread tid pid) are safe h = directed_holds (AreFair w (thread tid pid)) word.Thread (thread_line w tid pid) (further_fair w _ tid pid) (λ s. ((tt, tt), tt))
 bare_fair w (token name content) are safe h = directed_holds (AreFair w (token name content)) word.Token (token_line w name content) (token_fair w _ name content) (λ s. ((tt, tt), tt))
+bare_fair w (of_resident tid what had) are safe h = resident_fair w (of_resident tid what had) tid what had
 bare_fair w (dir path) are safe h = directed_holds (AreFair w (dir path)) word.Dir (dir_line w path) (dir_fair w _ path) (λ s. ((tt, tt), tt))
 bare_fair w (link path target) are safe h = directed_holds (AreFair w (link path target)) word.Link (link_line w path target) (link_fair w _ path target) (λ s. ((tt, tt), tt))
 bare_fair w (run tid name) are safe h = thread_fair w tid name (live_thread w tid) are refl safe h

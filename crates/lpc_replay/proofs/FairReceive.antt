@@ -13,7 +13,7 @@ use Rattle.lpc_model.specs.Request.{reply_test, given_reply, nt_reply_wait_recei
 use Rattle.lpc_model.specs.Tests.{port_test}
 use Rattle.lpc_model.specs.World.{MessageRow, PortRow, ThreadRow, World}
 use Rattle.lpc_model.specs.declared.message.Message.{Message}
-use Rattle.lpc_model.proofs.GivenBytes.{AreBytes, HasBytes}
+use Rattle.lpc_model.proofs.GivenBytes.{HasHeader, HasBytes}
 use Rattle.lpc_model.proofs.Calls.Holding.{Holds, bind_holds, holds_ok}
 use Rattle.lpc_replay.proofs.Fair.{AreFair, HaveTheirCalls, IsFair, take_fair}
 use Rattle.lpc_replay.proofs.FairReplies.{optional_holds, returned_fair}
@@ -25,7 +25,7 @@ receive_fair w line by port queue bs None fair = ((tt, tt), all_append (IsFair w
 receive_fair w line by port queue bs (Some m) fair = ((tt, tt), all_append (IsFair w line) bs (take_steps m) fair (take_fair w line m))
 
 -- the reply that a receive makes first
-given_message_fair : (w : World) (line : ScriptLine) (r : Reply) (by : ThreadRow) (port : PortRow) (m : Message) → HaveTheirCalls w → reply_of line ≡ Some r → AreBytes r.bytes → live_thread w r.by ≡ Some by → port_test w by r.handle ≡ Ok port → message_test r.bytes ≡ Ok m → Holds (AreFair w line) (given_reply w port (Some m))
+given_message_fair : (w : World) (line : ScriptLine) (r : Reply) (by : ThreadRow) (port : PortRow) (m : Message) → HaveTheirCalls w → reply_of line ≡ Some r → HasHeader r.bytes → live_thread w r.by ≡ Some by → port_test w by r.handle ≡ Ok port → message_test r.bytes ≡ Ok m → Holds (AreFair w line) (given_reply w port (Some m))
 given_message_fair w line r by port m h is_reply are live at is =
     bind_holds (reply_test w port m) _ (AreFair w line) (λ x fit.
     (holds_ok _ (reply_test w port m) x (returned_fair w line r by port m h is_reply are live at is) fit, tt))

@@ -20,7 +20,7 @@ use Rattle.lpc_model.specs.declared.entry.FieldName.TheVariants.{Msg}
 use Rattle.lpc_model.specs.declared.entry.ObjectKind.TheVariants as kind
 use Rattle.lpc_model.specs.declared.entry.Value.TheVariants.{Bytes}
 use Rattle.lpc_model.specs.declared.message.Message.{Message}
-use Rattle.lpc_model.proofs.GivenBytes.{AreBytes, written_back}
+use Rattle.lpc_model.proofs.GivenBytes.{HasHeader, written_back}
 use Rattle.lpc_model.proofs.Calls.Holding.{Holds, bind_holds, found_holds, found_ok, holds_ok, not_refused}
 use Rattle.lpc_model.proofs.Sound.Reply.{fits-request}
 use Rattle.lpc_replay.proofs.Fair.{HasItsCall, HaveTheirCalls, IsFair, reply_wakes, request_wakes}
@@ -72,7 +72,7 @@ read_holds bytes =
     (refl, none_is (fault_of bytes) (not_refused _ _ u whole))))
 
 -- and its bytes are those that were given
-pub bytes_again : (bytes : List ℕ) (m : Message) → AreBytes bytes → message_test bytes ≡ Ok m → bytes_of m ≡ bytes
+pub bytes_again : (bytes : List ℕ) (m : Message) → HasHeader bytes → message_test bytes ≡ Ok m → bytes_of m ≡ bytes
 bytes_again bytes m are is =
     let read = holds_ok _ (message_test bytes) m (read_holds bytes) is in
     ap bytes_of read.0 ∙ written_back bytes are read.1
@@ -90,7 +90,7 @@ fit_request true true false d e is = absurd (cc)
 fit_request true false c d e is = absurd (cc)
 fit_request false b c d e is = absurd (cc)
 
-pub returned_fair : (w : World) (line : ScriptLine) (r : Reply) (by : ThreadRow) (port : PortRow) (m : Message) → HaveTheirCalls w → reply_of line ≡ Some r → AreBytes r.bytes → live_thread w r.by ≡ Some by → port_test w by r.handle ≡ Ok port → message_test r.bytes ≡ Ok m → Holds (λ x. IsFair w line (reply x m)) (reply_test w port m)
+pub returned_fair : (w : World) (line : ScriptLine) (r : Reply) (by : ThreadRow) (port : PortRow) (m : Message) → HaveTheirCalls w → reply_of line ≡ Some r → HasHeader r.bytes → live_thread w r.by ≡ Some by → port_test w by r.handle ≡ Ok port → message_test r.bytes ≡ Ok m → Holds (λ x. IsFair w line (reply x m)) (reply_test w port m)
 returned_fair w line r by port m h is_reply are live at is =
     let P : WaitRow → Type 0 = λ x. IsFair w line (reply x m) in
     bind_holds (client_test w m.header.client) _ P (λ _ _.

@@ -8,12 +8,12 @@ use Rattle.lpc_model.specs.Replies.{Reply}
 use Rattle.lpc_model.specs.Request.{reply_test, nt_reply_port}
 use Rattle.lpc_model.specs.Tests.{port_test}
 use Rattle.lpc_model.specs.World.{ThreadRow, World}
-use Rattle.lpc_model.proofs.GivenBytes.{AreBytes}
+use Rattle.lpc_model.proofs.GivenBytes.{HasHeader}
 use Rattle.lpc_model.proofs.Calls.Holding.{Holds, bind_holds, holds_ok}
 use Rattle.lpc_replay.proofs.Fair.{AreFair, HaveTheirCalls}
 use Rattle.lpc_replay.proofs.FairReplies.{returned_fair}
 
-pub reply_fair : (w : World) (tid : ℕ) (by : ThreadRow) (handle : ℕ) (bytes : List ℕ) → AreBytes bytes → live_thread w tid ≡ Some by → HaveTheirCalls w → Holds (AreFair w (run tid (reply_port handle bytes))) (nt_reply_port w by handle bytes)
+pub reply_fair : (w : World) (tid : ℕ) (by : ThreadRow) (handle : ℕ) (bytes : List ℕ) → HasHeader bytes → live_thread w tid ≡ Some by → HaveTheirCalls w → Holds (AreFair w (run tid (reply_port handle bytes))) (nt_reply_port w by handle bytes)
 unfolding nt_reply_port
 reply_fair w tid by handle bytes are live h =
     let line = run tid (reply_port handle bytes) in

@@ -47,3 +47,4 @@ pub mod Resting
 pub mod Coming
 pub mod Spending
 pub mod ShortNames
+pub mod Serving

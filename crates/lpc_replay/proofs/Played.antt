@@ -7,10 +7,10 @@ use Rattle.lpc_base.specs.Streams.{Adds, Told}
 use Rattle.lpc_model.specs.declared.fault.LineFault.{LineFault}
 use Rattle.lpc_model.specs.Lines.{ScriptLine}
 use Rattle.lpc_model.specs.Script.{script_lines}
-use Rattle.lpc_model.specs.Run.{first_fault, is_well_formed, line_step, numbered_line, run_of, said_from, trace}
+use Rattle.lpc_model.specs.Run.{first_fault, is_well_formed, numbered_line, run_of, said_from, trace}
 use Rattle.lpc_model.specs.Transcript.{body, body_from, transcript}
 use Rattle.lpc_script.specs.Feeding.{has_end}
-use Rattle.lpc_replay.specs.Playing.{AreSoon, HasPlayed, Progress, RunsLine, after_line, begin, behind_line, behind_lines, body_text, line_text, steps_of, text_from}
+use Rattle.lpc_replay.specs.Playing.{step_at, AreSoon, HasPlayed, Progress, RunsLine, after_line, begin, behind_line, behind_lines, body_text, line_text, steps_of, text_from}
 use Rattle.lpc_replay.specs.Reading.{Reads, behind, ended_part, start}
 use Rattle.lpc_replay.specs.Sending.{AddsFront, IsFront, SentBut, TellsFirst}
 use Rattle.lpc_replay.specs.TopCall.{Begins, CutsShort, IsBegun, IsCutShort, IsInTime, IsReadInTime, ReadsInTime}
@@ -18,7 +18,7 @@ use Rattle.lpc_replay.proofs.Cut.{steps_go}
 use Rattle.lpc_replay.proofs.Ended.{ended_whole, lines_parts}
 use Rattle.lpc_replay.proofs.Limits.{behind_append, ended_line, all_lack, place_ends}
 use Rattle.lpc_replay.proofs.Tells.{front_but, front_on, told_same, told_then, told_weaker}
-use Rattle.lpc_replay.proofs.Turns.{body_goes, fault_goes, text_goes, transcript_is}
+use Rattle.lpc_replay.proofs.Turns.{body_goes, body_is, fault_goes, steps_is, text_goes, transcript_is}
 
 -- lines behind lines of which none is faulty
 pub record Behind (p : Progress) (lines : List (List ℕ)) (q : Progress) (later : List (List ℕ)) : Type 0 where
@@ -45,7 +45,7 @@ behind_case p (Ok said) line lines later q n is h =
     record {
       text = text_goes p line (lines ++ later) said n ∙ (ap (λ t. s ++ t) k.text ∙ (sym (append_assoc s (body_text (behind_line p said) lines) (text_from q later)) ∙ ap (λ b. b ++ text_from q later) (sym (body_goes p line lines said n))));
       tells = body_goes p line (lines ++ later) said n ∙ (ap (λ t. s ++ t) k.tells ∙ (sym (append_assoc s (body_text (behind_line p said) lines) (body_text q later)) ∙ ap (λ b. b ++ body_text q later) (sym (body_goes p line lines said n))));
-      steps = steps_go p line (lines ++ later) said n ∙ (ap (λ t. line_step p.rows said ∷ t) k.steps ∙ ap (λ b. b ++ steps_of q later) (sym (steps_go p line lines said n)));
+      steps = steps_go p line (lines ++ later) said n ∙ (ap (λ t. step_at p said ∷ t) k.steps ∙ ap (λ b. b ++ steps_of q later) (sym (steps_go p line lines said n)));
       fault = ap is_none (fault_goes (p.lines + 1) line (lines ++ later) said n) ∙ k.fault;
       runs = runs_on p line (lines ++ later) said n ∙ k.runs;
     }
@@ -91,7 +91,8 @@ body_grows front more q runs =
     let lines : script_lines (front ++ 10 ∷ more) ≡ script_lines ended ++ script_lines more = ap script_lines whole ∙ rw (ended_whole front) at (lines_parts ended more) in
     let first = behind_prefix begin (script_lines ended) (script_lines more) q (rw lines at runs) in
     let all = behind_all begin (script_lines ended) (script_lines more) first.0 first.1 in
-    let same : body (front ++ 10 ∷ more) ≡ body ended ++ body_text first.0 (script_lines more) = ap (λ ls. body_text begin ls) lines ∙ all.tells in
+    let same : body (front ++ 10 ∷ more) ≡ body ended ++ body_text first.0 (script_lines more) =
+    sym (body_is (front ++ 10 ∷ more)) ∙ (ap (λ ls. body_text begin ls) lines ∙ (all.tells ∙ ap (λ b. b ++ body_text first.0 (script_lines more)) (body_is ended))) in
     let size = length-append (body ended) (body_text first.0 (script_lines more)) in
     rw same (omega arith)
 
@@ -134,11 +135,15 @@ goes_on left left' a b p tail later h = behind_all begin (script_lines h.ended) 
 
 pub transcript_from : (left left' a b : Option (List ℕ)) (p : Progress) (tail later : List ℕ) → (h : HasPlayed left left' a b p tail) → transcript (h.ended ++ later) ≡ body h.ended ++ text_from p (script_lines later)
 transcript_from left left' a b p tail later h =
-    sym (transcript_is (h.ended ++ later)) ∙ (ap (λ ls. text_from begin ls) (lines_of left left' a b p tail later h) ∙ (goes_on left left' a b p tail later h).text)
+    sym (transcript_is (h.ended ++ later))
+    ∙ (ap (λ ls. text_from begin ls) (lines_of left left' a b p tail later h)
+    ∙ ((goes_on left left' a b p tail later h).text ∙ ap (λ b. b ++ text_from p (script_lines later)) (body_is h.ended)))
 
 pub run_from : (left left' a b : Option (List ℕ)) (p : Progress) (tail later : List ℕ) → (h : HasPlayed left left' a b p tail) → run_of (h.ended ++ later) ≡ run_of h.ended ++ steps_of p (script_lines later)
 run_from left left' a b p tail later h =
-    ap (λ ls. steps_of begin ls) (lines_of left left' a b p tail later h) ∙ (goes_on left left' a b p tail later h).steps
+    sym (steps_is (h.ended ++ later))
+    ∙ (ap (λ ls. steps_of begin ls) (lines_of left left' a b p tail later h)
+    ∙ ((goes_on left left' a b p tail later h).steps ∙ ap (λ run. run ++ steps_of p (script_lines later)) (steps_is h.ended)))
 
 pub formed_from : (left left' a b : Option (List ℕ)) (p : Progress) (tail later : List ℕ) → (h : HasPlayed left left' a b p tail) → is_well_formed (script_lines (h.ended ++ later)) ≡ is_none (first_fault (p.lines + 1) (script_lines later))
 formed_from left left' a b p tail later h =
@@ -252,7 +257,9 @@ line_run left left' a b c p q line piece text h lacks limit few runs sent short 
     let bytes : h.ended ++ (line ++ 10 ∷ piece) ≡ (h.ended ++ more) ++ piece = simp append_assoc refl in
     let place : behind start (h.ended ++ more) ≡ Some (record { lines = q.lines; column = 0 }) = behind_append start h.ended more ∙ rw (h.place, place_ends p.lines line lacks limit few, runs.2) refl in
     let last : body_text p (line ∷ []) ≡ text = body_goes p line [] runs.0 runs.1 ∙ (append-nil (line_text p runs.0) ∙ sym runs.3) in
-    let tells : body (h.ended ++ more) ≡ body h.ended ++ text = ap (λ ls. body_text begin ls) lines ∙ (on.tells ∙ ap (λ t. body h.ended ++ t) (ap (λ ls. body_text p ls) one ∙ last)) in
+    let tells : body (h.ended ++ more) ≡ body h.ended ++ text =
+    sym (body_is (h.ended ++ more)) ∙ (ap (λ ls. body_text begin ls) lines
+    ∙ (on.tells ∙ (ap (λ b. b ++ body_text p (script_lines more)) (body_is h.ended) ∙ ap (λ t. body h.ended ++ t) (ap (λ ls. body_text p ls) one ∙ last)))) in
     record {
       ended = h.ended ++ more;
       whole = rw whole at (ended_whole (h.ended ++ line));

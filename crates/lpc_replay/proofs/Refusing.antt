@@ -7,7 +7,7 @@ use Rattle.lpc_base.specs.declared.status.Status.{Status}
 use Rattle.lpc_model.specs.Basics.{Basic, Tells, entries_of, going_on, posts_of, world_after}
 use Rattle.lpc_model.specs.Fields.{info}
 use Rattle.lpc_model.specs.Found.{is_live_thread, live_thread, wait_of}
-use Rattle.lpc_model.specs.Lines.{ScriptCall, ScriptLine, accept_connect_port, boot, close, complete_connect_port, connect_port, create_port, create_process, create_thread, dir, duplicate_object, link, listen_port, query_object, register_thread_terminate_port, reply_port, reply_wait_receive_port, request_port, request_wait_reply_port, run, terminate_process, terminate_thread, thread, token, create_section, map_view_of_section, read_virtual_memory, unmap_view_of_section, write_virtual_memory, read_request_data, write_request_data, impersonate_client_of_port, open_process_token, open_thread_token, query_information_token, set_information_thread}
+use Rattle.lpc_model.specs.Lines.{ScriptCall, ScriptLine, accept_connect_port, boot, close, complete_connect_port, connect_port, create_port, create_process, create_thread, dir, duplicate_object, link, listen_port, query_object, register_thread_terminate_port, reply_port, reply_wait_receive_port, request_port, request_wait_reply_port, run, terminate_process, terminate_thread, thread, token, create_section, map_view_of_section, read_virtual_memory, unmap_view_of_section, write_virtual_memory, read_request_data, write_request_data, impersonate_client_of_port, open_process_token, open_thread_token, query_information_token, set_information_thread, of_resident}
 use Rattle.lpc_model.specs.Linked.{HasHeldRows}
 use Rattle.lpc_model.specs.Machine.{bare_steps, name_of_call, ready_steps, service_of, settled, step, thread_steps}
 use Rattle.lpc_model.specs.Replies.{ChangesNothing, IsRefused, MisfitsAreRefused, RefusedRepliesChangeNothing, Reply, fitted_wait, reply_of}
@@ -55,7 +55,7 @@ unfolding bare_steps
 misfit_steps w r receives misfit = misfit_thread w r receives (live_thread w r.by) refl misfit
 
 -- what holds of each reply call holds of each line that is one
-each_reply : (P : ScriptLine → Reply → Type 0) → ((r : Reply) (receives : Bool) → P (run r.by (replying receives r)) r) → (line : ScriptLine) (r : Reply) → reply_of line ≡ Some r → P line r
+pub each_reply : (P : ScriptLine → Reply → Type 0) → ((r : Reply) (receives : Bool) → P (run r.by (replying receives r)) r) → (line : ScriptLine) (r : Reply) → reply_of line ≡ Some r → P line r
 each_reply P h (run tid (reply_port handle bytes)) r is =
     let q : Reply = record { by = tid; handle = handle; bytes = bytes } in
     let same : q ≡ r = cc in
@@ -95,6 +95,7 @@ each_reply P h (run tid (query_information_token handle class)) r is = absurd (c
 each_reply P h (boot pid tid name) r is = absurd (cc)
 each_reply P h (thread tid pid) r is = absurd (cc)
 each_reply P h (token name content) r is = absurd (cc)
+each_reply P h (of_resident tid what had) r is = absurd (cc)
 each_reply P h (dir path) r is = absurd (cc)
 each_reply P h (link path target) r is = absurd (cc)
 

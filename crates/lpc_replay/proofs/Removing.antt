@@ -1,19 +1,24 @@
 -- Without the line of a refused reply, the other lines tell the same.
-use Rattle.std.proofs.Common.{◌≡◌, ℕ, ◌+◌, ◌≤◌, false, List, [], ◌∷◌, ◌++◌, length, map, refl, ap, ◌∙◌, arith, length-append}
+use Rattle.lpc_model.specs.declared.entry.Entry.{Entry}
+use Rattle.lpc_model.specs.declared.entry.Entry.TheVariants.{Answer, Busy, Died, Directive, NoThread, Waits, Wakes}
+use Rattle.lpc_model.specs.Linked.{HasHeldRows}
+use Rattle.lpc_subsys.specs.Clients.{History}
+use Rattle.lpc_model.specs.Residents.{line_done, heard, Resident, State, win32}
+use Rattle.std.proofs.Common.{Bool, true, sym, subst, fold, ◌≡◌, ℕ, ◌+◌, ◌≤◌, false, List, [], ◌∷◌, ◌++◌, length, map, refl, ap, ◌∙◌, arith, length-append}
 use Rattle.std.specs.Prelude.{Option, Some, None, Result, Ok, Err, nat_lt}
 use Rattle.std.proofs.lemmas.Bool.Decides.{nat_tests}
 use Rattle.std.proofs.lemmas.List.{length-map, map-append}
 use Rattle.lpc_base.specs.declared.limits.TheConstants.{LINES_LIMIT}
 use Rattle.lpc_model.specs.declared.fault.LineFault.{LineFault}
-use Rattle.lpc_model.specs.World.{World}
-use Rattle.lpc_model.specs.Lines.{ScriptLine}
+use Rattle.lpc_model.specs.World.{World, no_rows}
+use Rattle.lpc_model.specs.Lines.{run, ScriptLine}
 use Rattle.lpc_model.specs.Machine.{Stepped, step}
 use Rattle.lpc_model.specs.Grammar.{read_line}
-use Rattle.lpc_model.specs.Run.{faulty_or, first_fault, first_state, line_step, numbered_line, said_from, trace, unless_faulty, world_behind}
-use Rattle.lpc_model.specs.Replies.{IsIdle, IsRefusedReplyAt, RefusedRepliesAreIdle}
+use Rattle.lpc_model.specs.Run.{said_done, first_state, state_behind, done_in, done_from, faulty_or, first_fault, line_step, numbered_line, said_from, trace, unless_faulty, world_behind}
+use Rattle.lpc_model.specs.Replies.{reply_of, Reply, is_refusal, ChangesNothing, IsRefused, IsIdle, IsRefusedReplyAt, RefusedRepliesAreIdle}
 use Rattle.lpc_model.proofs.Runs.{lawful_none}
 use Rattle.lpc_replay.proofs.HeldWorlds.{lawful_behind}
-use Rattle.lpc_replay.proofs.Refusing.{refusals_stay}
+use Rattle.lpc_replay.proofs.Refusing.{each_reply, replying, refusals_stay}
 
 -- the lines behind lines without a fault
 said_more : (n m : ℕ) (r : Result (Option ScriptLine) LineFault) (ls : List (List ℕ)) (more rest : List (Option ScriptLine)) → faulty_or n r (first_fault m ls) ≡ None → (first_fault m ls ≡ None → more ≡ said_from m ls ++ rest) → unless_faulty r more ≡ unless_faulty r (said_from m ls) ++ rest
@@ -71,27 +76,98 @@ trace_line w says later stays = rw stays refl
 told_append : (w : World) (front back : List (Option ScriptLine)) → map (λ (s : Stepped). s.entries) (trace w (front ++ back)) ≡ map (λ (s : Stepped). s.entries) (trace w front) ++ map (λ (s : Stepped). s.entries) (trace (world_behind w front) back)
 told_append w front back = rw (trace_append w front back) (map-append (λ (s : Stepped). s.entries) (trace w front) (trace (world_behind w front) back))
 
+-- Residents
+-- the state behind lines, and what lines in two parts come to
+abbrev state_after : State (List History) → List (Option ScriptLine) → State (List History)
+state_after s [] = s
+state_after s (said ∷ later) = state_after (state_behind win32 s said) later
+
+done_append : (s : State (List History)) (front back : List (Option ScriptLine)) → done_from win32 s (front ++ back) ≡ done_from win32 s front ++ done_from win32 (state_after s front) back
+done_append s [] back = refl
+done_append s (said ∷ later) back = ap (λ lines. said_done win32 s said ∷ lines) (done_append (state_behind win32 s said) later back)
+
+done_length : (s : State (List History)) (lines : List (Option ScriptLine)) → length (done_from win32 s lines) ≡ length lines
+done_length s [] = refl
+done_length s (said ∷ later) = let e = done_length (state_behind win32 s said) later in omega arith
+
+world_after_lines : (s : State (List History)) (lines : List (Option ScriptLine)) → (state_after s lines).world ≡ world_behind s.world (done_from win32 s lines)
+unfolding world_behind
+world_after_lines s [] = refl
+world_after_lines s (said ∷ later) = world_after_lines (state_behind win32 s said) later
+
+-- a reply call is what it says, and where it is refused no resident hears of it
+unheard-own : (rs : List (Resident (List History))) (tid : ℕ) (own : Entry) → is_refusal tid own ≡ true → fold (heard win32) rs (own ∷ []) ≡ rs
+unheard-own rs tid (Answer by call status fields) is = refl
+unheard-own rs tid (Busy by) is = refl
+unheard-own rs tid (NoThread by) is = refl
+unheard-own rs tid (Waits by call fields) is = absurd (cc)
+unheard-own rs tid (Wakes by call status fields) is = absurd (cc)
+unheard-own rs tid (Died by status) is = absurd (cc)
+unheard-own rs tid (Directive name status) is = absurd (cc)
+
+only-own : (entries : List Entry) → length entries ≡ 1 → (tid : ℕ) → IsRefused tid entries → (own : Entry) × ((entries ≡ own ∷ []) × (is_refusal tid own ≡ true))
+only-own [] one tid r = absurd (cc)
+only-own (e ∷ []) one tid r = let told = r.told in let same : r.own ≡ e = cc in (e, (refl, subst (λ x. is_refusal tid x ≡ true) same r.refusal))
+only-own (e ∷ f ∷ es) one tid r = absurd (omega (arith, one))
+
+unheard : (rs : List (Resident (List History))) (entries : List Entry) → length entries ≡ 1 → (tid : ℕ) → IsRefused tid entries → fold (heard win32) rs entries ≡ rs
+unheard rs entries one tid r =
+    let only = only-own entries one tid r in
+    subst (λ es. fold (heard win32) rs es ≡ rs) (sym only.1.0) (unheard-own rs tid only.0 only.1.1)
+
+-- the state stays
+stays-at : (s : State (List History)) (r : Reply) (receives : Bool) → (let line = run r.by (replying receives r) in IsRefused r.by (step s.world line).entries → ChangesNothing s.world line → state_behind win32 s (Some line) ≡ s)
+stays-at s r true refused nothing = λ i. record { world = nothing.stays i; residents = unheard s.residents _ nothing.alone r.by refused i }
+stays-at s r false refused nothing = λ i. record { world = nothing.stays i; residents = unheard s.residents _ nothing.alone r.by refused i }
+
+says-itself : (s : State (List History)) (line : ScriptLine) (r : Reply) → reply_of line ≡ Some r → line_done win32 s line ≡ line
+says-itself s = each_reply (λ line r. line_done win32 s line ≡ line) (λ r receives. itself r receives)
+  where
+    itself : (r : Reply) (receives : Bool) → line_done win32 s (run r.by (replying receives r)) ≡ run r.by (replying receives r)
+    itself r true = refl
+    itself r false = refl
+
+refused-stays : (s : State (List History)) (line : ScriptLine) (r : Reply) → reply_of line ≡ Some r → IsRefused r.by (step s.world line).entries → ChangesNothing s.world line → state_behind win32 s (Some line) ≡ s
+refused-stays s = each_reply (λ line r. IsRefused r.by (step s.world line).entries → ChangesNothing s.world line → state_behind win32 s (Some line) ≡ s) (λ r receives refused nothing. stays-at s r receives refused nothing)
+
 refusal_idle : (front : List (List ℕ)) (line : List ℕ) (back : List (List ℕ)) → IsRefusedReplyAt front line back → IsIdle front line back
 refusal_idle front line back r =
-    let w = world_behind first_state (said_from 1 front) in
+    let start : State (List History) = first_state in
+    let said = said_from 1 front in
+    let s = state_after start said in
+    let here : s.world ≡ world_behind no_rows (done_in front) = world_after_lines start said in
     let n = 1 + length front in
     let long : length (front ++ line ∷ back) ≡ length front + length (line ∷ back) = length-append front (line ∷ back) in
     let more : length (line ∷ back) ≡ 1 + length back = omega arith in
     let few = r.few in
-    let reached = lawful_behind first_state (said_from 1 front) lawful_none in
-    let nothing = refusals_stay w r.says reached.held r.reply r.is_reply r.refused in
+    let reached = lawful_behind no_rows (done_in front) lawful_none in
+    let refused : IsRefused r.reply.by (step s.world r.says).entries = subst (λ w. IsRefused r.reply.by (step w r.says).entries) (sym here) r.refused in
+    let held : HasHeldRows s.world = subst HasHeldRows (sym here) reached.held in
+    let nothing = refusals_stay s.world r.says held r.reply r.is_reply refused in
+    let stays = refused-stays s r.says r.reply r.is_reply refused nothing in
+    let rest = said_from n back in
+    let told : List Stepped → List (List Entry) = map (λ (t : Stepped). t.entries) in
+    let before = told (trace no_rows (done_in front)) in
+    let one : done_from win32 s (Some r.says ∷ rest) ≡ Some r.says ∷ done_from win32 s rest =
+    ap (λ says. Some says ∷ done_from win32 (state_behind win32 s (Some r.says)) rest) (says-itself s r.says r.reply r.is_reply)
+    ∙ ap (λ (t : State (List History)). Some r.says ∷ done_from win32 t rest) stays in
     record {
-      before = map (λ (s : Stepped). s.entries) (trace first_state (said_from 1 front));
-      own = (step w r.says).entries;
-      after = map (λ (s : Stepped). s.entries) (trace w (said_from n back));
-      place = length-map (trace first_state (said_from 1 front)) (λ (s : Stepped). s.entries) ∙ (trace_length first_state (said_from 1 front) ∙ said_length 1 front r.sound);
+      before = before;
+      own = (step s.world r.says).entries;
+      after = told (trace s.world (done_from win32 s rest));
+      place = length-map (trace no_rows (done_in front)) (λ (t : Stepped). t.entries) ∙ (trace_length no_rows (done_in front) ∙ (done_length start said ∙ said_length 1 front r.sound));
       with_it =
-          ap (λ lines. map (λ (s : Stepped). s.entries) (trace first_state lines)) (said_append 1 front (line ∷ back) r.sound)
-          ∙ (told_append first_state (said_from 1 front) (said_from n (line ∷ back))
-          ∙ rw (said_line n line back r.says (omega (arith, long, more, few)) r.reads, trace_line w r.says (said_from (n + 1) back) nothing.stays, said_shift n back (omega (arith, long, more, few))) refl);
+          ap (λ lines. told (trace no_rows (done_from win32 start lines))) (said_append 1 front (line ∷ back) r.sound)
+          ∙ (ap (λ lines. told (trace no_rows (done_from win32 start (said ++ lines)))) (said_line n line back r.says (omega (arith, long, more, few)) r.reads ∙ ap (λ lines. Some r.says ∷ lines) (said_shift n back (omega (arith, long, more, few))))
+          ∙ (ap (λ lines. told (trace no_rows lines)) (done_append start said (Some r.says ∷ rest))
+          ∙ (told_append no_rows (done_in front) (done_from win32 s (Some r.says ∷ rest))
+          ∙ (ap (λ w. before ++ told (trace w (done_from win32 s (Some r.says ∷ rest)))) (sym here)
+          ∙ (ap (λ lines. before ++ told (trace s.world lines)) one
+          ∙ ap (λ steps. before ++ told steps) (trace_line s.world r.says (done_from win32 s rest) nothing.stays))))));
       without_it =
-          ap (λ lines. map (λ (s : Stepped). s.entries) (trace first_state lines)) (said_append 1 front back r.sound)
-          ∙ told_append first_state (said_from 1 front) (said_from n back);
+          ap (λ lines. told (trace no_rows (done_from win32 start lines))) (said_append 1 front back r.sound)
+          ∙ (ap (λ lines. told (trace no_rows lines)) (done_append start said rest)
+          ∙ (told_append no_rows (done_in front) (done_from win32 s rest) ∙ ap (λ w. before ++ told (trace w (done_from win32 s rest))) (sym here)));
     }
 
 pub refusals_idle : (lines : List (List ℕ)) → RefusedRepliesAreIdle lines

@@ -4,10 +4,10 @@ use Rattle.std.specs.Prelude.{None, Option, Some, Result, Ok, Err, codes, nat_le
 use Rattle.std.specs.List.{list_all}
 use Rattle.std.specs.Option.{ok_or}
 use Rattle.lpc_base.specs.declared.limits.TheConstants.{LINE_LIMIT}
-use Rattle.lpc_model.specs.Grammar.{call_line, directive_line, directive_named, directive_words, each_word, is_name_byte, is_printable, one_word, process_and_token, read_line, sid_word, starts_call, thread_call, token_word, token_words, two_and_more_words, two_words, words_line}
+use Rattle.lpc_model.specs.Grammar.{three_words, kind_word, call_line, directive_line, directive_named, directive_words, each_word, is_name_byte, is_printable, one_word, process_and_token, read_line, sid_word, starts_call, thread_call, token_word, token_words, two_and_more_words, two_words, words_line}
 use Rattle.lpc_model.specs.Lines.{ScriptLine}
 use Rattle.lpc_model.specs.Then.{◌>>=◌}
-use Rattle.lpc_model.specs.Words.{begins, fault_if, id_word, words}
+use Rattle.lpc_model.specs.Words.{begins, fault_if, id_word, words, number_word}
 use Rattle.lpc_model.specs.World.{Token}
 use Rattle.lpc_model.specs.declared.entry.Word.TheVariants as word
 use Rattle.lpc_model.specs.declared.entry.Word.{Word}
@@ -51,6 +51,8 @@ short_directive word.Token others =
     then_gives (token_words others) _ HasShortName (λ named is. gives_ok (λ (named : List ℕ × Token). IsShort named.0) (token_words others) named (short_token others) is)
 short_directive word.Dir others = then_gives (one_word others) _ HasShortName (λ _ _. refl)
 short_directive word.Link others = then_gives (two_words others) _ HasShortName (λ two _. refl)
+short_directive word.Resident others = then_gives (three_words others) _ HasShortName (λ three _. then_gives (id_word three.0) _ HasShortName (λ _ _. then_gives (kind_word three.1) _ HasShortName (λ _ _. then_gives (number_word three.2) _ HasShortName (λ _ _. refl))))
+short_directive word.Turn others = then_gives (one_word others) _ HasShortName (λ front _. then_gives (id_word front) _ HasShortName (λ _ _. refl))
 
 short_call : (front : List ℕ) (others : List (List ℕ)) → Gives HasShortName (call_line front others)
 unfolding call_line

@@ -26,7 +26,7 @@ use Rattle.lpc_replay.proofs.Limits.{all_lack, begun_line, behind_append, ended_
 use Rattle.lpc_replay.proofs.Played.{Grows, begins_as, behind_all, cuts_as, formed_from, goes_on, grows_front, lines_of, sent_but, tells_here, told_in_time}
 use Rattle.lpc_replay.proofs.Cut.{all_told}
 use Rattle.lpc_replay.proofs.Tells.{front_all, front_last, sent_last, sent_on, told_then, told_weaker}
-use Rattle.lpc_replay.proofs.Turns.{body_front, fault_stops, text_stops}
+use Rattle.lpc_replay.proofs.Turns.{body_is, body_front, fault_stops, text_stops}
 
 -- what the first line of some bytes says where it is faulty
 pub begins_text : (p : Progress) (bytes : List ℕ) (f : LineFault) → BeginsFaulty p bytes f → text_from p (script_lines bytes) ≡ last_text p (Some f)
@@ -209,7 +209,9 @@ last_rest left left' a b c p q rest r end e =
     let whole : lines ++ [] ≡ lines = append-nil lines in
     let text : text_from p lines ≡ body_text p lines ++ last_text q None = rw whole at on.text ∙ ap (λ t. body_text p lines ++ t) (ends_text q) in
     let sound : is_well_formed (script_lines (h.ended ++ rest)) ≡ true = formed_from left left' a b p rest rest h ∙ (rw whole at on.fault ∙ ends_sound q) in
-    let tells : body (h.ended ++ rest) ≡ body h.ended ++ body_text p lines = ap (λ ls. body_text begin ls) (lines_of left left' a b p rest rest h) ∙ (goes_on left left' a b p rest rest h).tells in
+    let tells : body (h.ended ++ rest) ≡ body h.ended ++ body_text p lines =
+    sym (body_is (h.ended ++ rest)) ∙ (ap (λ ls. body_text begin ls) (lines_of left left' a b p rest rest h)
+    ∙ ((goes_on left left' a b p rest rest h).tells ∙ ap (λ b. b ++ body_text p lines) (body_is h.ended))) in
     let sent : Adds a c (body (h.ended ++ rest)) = told_then a b c (λ old new. new ≡ old ++ body h.ended) (λ old new. new ≡ old ++ body_text p lines) (λ old new. new ≡ old ++ body (h.ended ++ rest))
     (λ x y z s t. t ∙ (ap (λ w. w ++ body_text p lines) s ∙ (append_assoc x (body h.ended) (body_text p lines) ∙ ap (λ w. x ++ w) (sym tells)))) h.told e.told in
     record {

@@ -1,4 +1,7 @@
 -- A storm's tally: over lists of lines, and what it comes to for the whole script.
+use Rattle.lpc_model.specs.Machine.{Stepped}
+use Rattle.lpc_residents.specs.Kept.{kept}
+use Rattle.lpc_model.specs.World.{no_rows}
 use Rattle.std.proofs.Common.{◌≡◌, ℕ, ◌+◌, ◌%◌, ◌^◌, List, [], ◌∷◌, ◌++◌, length, refl, sym, ap, ◌∙◌, arith, length-append, drop, take, get_or, ◌<◌, ◌≤◌, ◌-◌, suc, Bool, true, false}
 use Rattle.std.specs.Prelude.{Option, Some, None, Result, Ok, Err, is_some, map, sum, count_by, cond}
 use Rattle.std.specs.List.{All, flat_map}
@@ -13,16 +16,16 @@ use Rattle.lpc_model.specs.Found.{objects}
 use Rattle.lpc_model.specs.Lines.{ScriptLine}
 use Rattle.lpc_model.specs.Listed.{Aside, shown_entry}
 use Rattle.lpc_model.specs.Script.{script_lines}
-use Rattle.lpc_model.specs.Run.{all_entries, first_state, line_step, numbered_line, run_of, said_from, said_in, trace, world_behind}
+use Rattle.lpc_model.specs.Run.{done_from, all_entries, numbered_line, run_of, said_from, said_in, trace, world_behind}
 use Rattle.lpc_model.specs.Transcript.{transcript}
 use Rattle.lpc_storm.specs.declared.line.StormLine.{StormLine}
 use Rattle.lpc_storm.specs.Generated.{Course, behind_round, clients, connecting, ending, generated, line_text, next_round, opening, rounds, start, storm_lines}
 use Rattle.lpc_storm.specs.Summary.{is_mismatch, is_replied, summary_of}
 use Rattle.lpc_storm.proofs.Printable.{HadFew, lines_are, small_storm}
-use Rattle.lpc_replay.specs.Playing.{Progress, RunsLine, begin, behind_line, entries_told, last_text, line_text as text_of, steps_of, text_from}
+use Rattle.lpc_replay.specs.Playing.{step_at, state_at, Progress, RunsLine, begin, behind_line, entries_told, last_text, line_text as text_of, steps_of, text_from}
 use Rattle.lpc_replay.specs.Storming.{Tally, behind_said, behind_storm, behind_text, behind_texts, calm, tallied, unless_stopped}
 use Rattle.lpc_replay.proofs.Cut.{steps_go}
-use Rattle.lpc_replay.proofs.Turns.{text_goes, text_stops, transcript_is}
+use Rattle.lpc_replay.proofs.Turns.{done_is, steps_is, text_goes, text_stops, transcript_is}
 
 -- a running sum of bytes
 pub sum_goes : (total now next : ℕ) (bytes : List ℕ) (i : ℕ) → i < length bytes → now ≡ (total + sum (take i bytes)) % 2 ^ 32 → next ≡ (now + get_or bytes i 0) % 2 ^ 32 → next ≡ (total + sum (take (i + 1) bytes)) % 2 ^ 32
@@ -57,7 +60,7 @@ stays p f r m s (line ∷ lines) = stays p f r m s lines
 record Comes (p : Progress) (r m s : ℕ) (lines : List (List ℕ)) (u : Tally) : Type 0 where
   ran : u.at.lines ≡ p.lines + length (steps_of p lines)
   told : u.at.told ≡ p.told + length (all_entries (steps_of p lines))
-  rows : u.at.rows ≡ world_behind p.rows (said_from (p.lines + 1) lines)
+  rows : u.at.rows ≡ world_behind p.rows (done_from kept (state_at p) (said_from (p.lines + 1) lines))
   replied : u.replies ≡ r + count_by is_replied (all_entries (steps_of p lines))
   missed : u.mismatches ≡ m + count_by is_mismatch (all_entries (steps_of p lines))
   summed : (u.total + sum (last_text u.at u.fault)) % 2 ^ 32 ≡ (s + sum (text_from p lines)) % 2 ^ 32
@@ -66,11 +69,11 @@ steps_stop : (p : Progress) (line : List ℕ) (lines : List (List ℕ)) (f : Lin
 unfolding said_from trace
 steps_stop p line lines f is = rw is refl
 
-world_stops : (p : Progress) (line : List ℕ) (lines : List (List ℕ)) (f : LineFault) → numbered_line (p.lines + 1) line ≡ Err f → p.rows ≡ world_behind p.rows (said_from (p.lines + 1) (line ∷ lines))
+world_stops : (p : Progress) (line : List ℕ) (lines : List (List ℕ)) (f : LineFault) → numbered_line (p.lines + 1) line ≡ Err f → p.rows ≡ world_behind p.rows (done_from kept (state_at p) (said_from (p.lines + 1) (line ∷ lines)))
 unfolding said_from world_behind
 world_stops p line lines f is = rw is refl
 
-world_goes : (p : Progress) (line : List ℕ) (lines : List (List ℕ)) (said : Option ScriptLine) → numbered_line (p.lines + 1) line ≡ Ok said → world_behind p.rows (said_from (p.lines + 1) (line ∷ lines)) ≡ world_behind (behind_line p said).rows (said_from (p.lines + 1 + 1) lines)
+world_goes : (p : Progress) (line : List ℕ) (lines : List (List ℕ)) (said : Option ScriptLine) → numbered_line (p.lines + 1) line ≡ Ok said → world_behind p.rows (done_from kept (state_at p) (said_from (p.lines + 1) (line ∷ lines))) ≡ world_behind (behind_line p said).rows (done_from kept (state_at (behind_line p said)) (said_from (p.lines + 1 + 1) lines))
 unfolding said_from world_behind
 world_goes p line lines said is = rw is refl
 
@@ -98,10 +101,10 @@ comes_stop p r m s line lines f is =
     }
 
 comes_on : (p : Progress) (r m s : ℕ) (line : List ℕ) (lines : List (List ℕ)) (said : Option ScriptLine) (u : Tally) → numbered_line (p.lines + 1) line ≡ Ok said
-    → Comes (behind_line p said) (r + count_by is_replied (line_step p.rows said).entries) (m + count_by is_mismatch (line_step p.rows said).entries) ((s + sum (text_of p said)) % 2 ^ 32) lines u → Comes p r m s (line ∷ lines) u
+    → Comes (behind_line p said) (r + count_by is_replied (step_at p said).entries) (m + count_by is_mismatch (step_at p said).entries) ((s + sum (text_of p said)) % 2 ^ 32) lines u → Comes p r m s (line ∷ lines) u
 comes_on p r m s line lines said u is h =
     let q = behind_line p said in
-    let first = (line_step p.rows said).entries in
+    let first = (step_at p said).entries in
     let later = all_entries (steps_of q lines) in
     let goes = steps_go p line lines said is in
     let size = length-append first later in
@@ -126,7 +129,7 @@ comes_case : (p : Progress) (r m s : ℕ) (line : List ℕ) (lines : List (List 
     → ((q : Progress) (a b c : ℕ) → Comes q a b c lines (behind_texts (going q a b c) lines)) → Comes p r m s (line ∷ lines) (behind_texts (behind_said (going p r m s) said) lines)
 comes_case p r m s line lines (Err f) is h = rw (stays p f r m s lines) (comes_stop p r m s line lines f is)
 comes_case p r m s line lines (Ok said) is h =
-    comes_on p r m s line lines said _ is (h (behind_line p said) (r + count_by is_replied (line_step p.rows said).entries) (m + count_by is_mismatch (line_step p.rows said).entries) ((s + sum (text_of p said)) % 2 ^ 32))
+    comes_on p r m s line lines said _ is (h (behind_line p said) (r + count_by is_replied (step_at p said).entries) (m + count_by is_mismatch (step_at p said).entries) ((s + sum (text_of p said)) % 2 ^ 32))
 
 comes : (p : Progress) (r m s : ℕ) (lines : List (List ℕ)) → Comes p r m s lines (behind_texts (going p r m s) lines)
 unfolding behind_texts
@@ -140,11 +143,17 @@ tallied_is script =
     let u = behind_texts calm lines in
     let h = comes begin 0 0 0 lines in
     let run = run_of script in
-    let ran : u.at.lines ≡ length run = h.ran ∙ omega arith in
-    let told : u.at.told ≡ length (all_entries run) = h.told ∙ omega arith in
-    let rows : objects u.at.rows ≡ objects (world_behind first_state (said_in script)) = ap objects h.rows in
-    let replied : u.replies ≡ count_by is_replied (all_entries run) = h.replied ∙ omega arith in
-    let missed : u.mismatches ≡ count_by is_mismatch (all_entries run) = h.missed ∙ omega arith in
+    let first = steps_of begin lines in
+    let runs : first ≡ run = steps_is script in
+    let ran_first : u.at.lines ≡ length first = h.ran ∙ omega arith in
+    let ran : u.at.lines ≡ length run = ran_first ∙ ap length runs in
+    let told_first : u.at.told ≡ length (all_entries first) = h.told ∙ omega arith in
+    let told : u.at.told ≡ length (all_entries run) = told_first ∙ ap (λ (r : List Stepped). length (all_entries r)) runs in
+    let rows : objects u.at.rows ≡ objects (world_behind no_rows (said_in script)) = ap objects (h.rows ∙ ap (λ done. world_behind no_rows done) (done_is lines)) in
+    let replied_first : u.replies ≡ count_by is_replied (all_entries first) = h.replied ∙ omega arith in
+    let replied : u.replies ≡ count_by is_replied (all_entries run) = replied_first ∙ ap (λ (r : List Stepped). count_by is_replied (all_entries r)) runs in
+    let missed_first : u.mismatches ≡ count_by is_mismatch (all_entries first) = h.missed ∙ omega arith in
+    let missed : u.mismatches ≡ count_by is_mismatch (all_entries run) = missed_first ∙ ap (λ (r : List Stepped). count_by is_mismatch (all_entries r)) runs in
     let none : 0 + sum (text_from begin lines) ≡ sum (transcript script) = omega arith ∙ ap sum (transcript_is script) in
     let summed : (u.total + sum (last_text u.at u.fault)) % 2 ^ 32 ≡ sum (transcript script) % 2 ^ 32 = h.summed ∙ ap (λ n. n % 2 ^ 32) none in
     λ i. record { lines = ran i; entries = told i; objects = rows i; replies = replied i; mismatches = missed i; sum = summed i }
@@ -256,7 +265,7 @@ pub line_runs : (b o : Option LineFault) (p q : Progress) (r m s a c z : ℕ) (l
 line_runs (Some g) o p q r m s a c z line text aside listed told none clear runs tells shows x y w = absurd (cc)
 line_runs None (Some f) p q r m s a c z line text aside listed told none clear runs tells shows x y w = absurd (cc)
 line_runs None None p q r m s a c z line text aside listed told none clear runs tells shows x y w =
-    let entries = (line_step p.rows runs.0).entries in
+    let entries = (step_at p runs.0).entries in
     let all : map (shown_entry aside) listed ≡ entries = shows ∙ (tells ∙ rw runs.1 refl) in
     let one : a ≡ count_by is_replied entries = x ∙ (sym (count_shown aside is_replied (replied_same aside) listed) ∙ ap (λ es. count_by is_replied es) all) in
     let two : c ≡ count_by is_mismatch entries = y ∙ (sym (count_shown aside is_mismatch (missed_same aside) listed) ∙ ap (λ es. count_by is_mismatch es) all) in

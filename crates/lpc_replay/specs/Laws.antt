@@ -1,27 +1,28 @@
 -- What holds of the run of every script.
+use Rattle.lpc_model.specs.World.{no_rows}
 use Rattle.std.specs.Prelude.{◌≡◌, ℕ, List, [], ◌∷◌}
 use Rattle.lpc_model.specs.Circle.{IsCircleIn, inputs_of, items_of}
 use Rattle.lpc_model.specs.Script.{script_lines}
-use Rattle.lpc_model.specs.Run.{Along, first_state, said_in}
+use Rattle.lpc_model.specs.Run.{Along, said_in}
 use Rattle.lpc_model.specs.Replies.{MisfitsAreRefused, RefusedRepliesAreIdle, RefusedRepliesChangeNothing, RequestsReturnByReply}
 use Rattle.lpc_replay.specs.Connects.{ConnectsReturnByAnswer}
 use Rattle.lpc_replay.specs.Waits.{WaitsEndAsTold}
 
 -- the lines of a script before its first faulty one: each request returns only by a reply that fits it
 unfoldable pub RequestsReturn : List ℕ → Type 0
-RequestsReturn script = Along RequestsReturnByReply first_state (said_in script)
+RequestsReturn script = Along RequestsReturnByReply no_rows (said_in script)
 
 -- each wait ends only as its thread is told: by a wake, or with the thread
 unfoldable pub WaitsEnd : List ℕ → Type 0
-WaitsEnd script = Along WaitsEndAsTold first_state (said_in script)
+WaitsEnd script = Along WaitsEndAsTold no_rows (said_in script)
 
 -- each reply that fits no wait is refused
 unfoldable pub MisfitsRefused : List ℕ → Type 0
-MisfitsRefused script = Along MisfitsAreRefused first_state (said_in script)
+MisfitsRefused script = Along MisfitsAreRefused no_rows (said_in script)
 
 -- each refused reply changes nothing
 unfoldable pub RefusalsStay : List ℕ → Type 0
-RefusalsStay script = Along RefusedRepliesChangeNothing first_state (said_in script)
+RefusalsStay script = Along RefusedRepliesChangeNothing no_rows (said_in script)
 
 -- without the line of a refused reply, the other lines tell the same
 unfoldable pub RefusalsIdle : List ℕ → Type 0
@@ -29,7 +30,7 @@ RefusalsIdle script = RefusedRepliesAreIdle (script_lines script)
 
 -- each connect returns only by its answer or by a closing
 unfoldable pub ConnectsReturn : List ℕ → Type 0
-ConnectsReturn script = Along ConnectsReturnByAnswer first_state (said_in script)
+ConnectsReturn script = Along ConnectsReturnByAnswer no_rows (said_in script)
 
 -- a process with a circle in this script and in another one, and with the same inputs in both, does and is told the
 -- same

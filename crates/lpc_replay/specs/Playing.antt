@@ -3,13 +3,16 @@ use Rattle.std.specs.Prelude.{◌≡◌, ℕ, ◌+◌, ◌*◌, ◌^◌, ◌≤�
 use Rattle.lpc_base.specs.declared.limits.TheConstants.{LINES_LIMIT}
 use Rattle.lpc_model.specs.declared.entry.Entry.{Entry}
 use Rattle.lpc_model.specs.declared.fault.LineFault.{LineFault}
-use Rattle.lpc_model.specs.World.{World}
+use Rattle.lpc_model.specs.World.{World, no_rows}
 use Rattle.lpc_model.specs.Found.{objects}
 use Rattle.lpc_model.specs.Lines.{ScriptLine}
 use Rattle.lpc_model.specs.Machine.{Stepped}
 use Rattle.lpc_model.specs.Script.{kind_number, script_lines}
 use Rattle.lpc_model.specs.Text.{end_text, entries_text, stop_text}
-use Rattle.lpc_model.specs.Run.{first_state, line_step, numbered_line, said_from, trace}
+use Rattle.lpc_model.specs.Run.{done_from, line_step, numbered_line, residents_told, said_done, said_from, trace}
+use Rattle.lpc_model.specs.Residents.{Resident, State}
+use Rattle.lpc_subsys.specs.Clients.{ClientRow}
+use Rattle.lpc_residents.specs.Kept.{kept, state_of}
 use Rattle.lpc_model.specs.Transcript.{body, body_from, transcript}
 use Rattle.lpc_base.specs.Streams.{Adds, Told}
 use Rattle.lpc_replay.specs.declared.play.Ending.{Ending}
@@ -19,15 +22,17 @@ use Rattle.lpc_replay.specs.declared.play.Stop.{Stop}
 use Rattle.lpc_replay.specs.declared.play.Stop.TheVariants.{End, SourceFailed, Fault}
 use Rattle.lpc_replay.specs.Reading.{Reads, behind, ended_part, has_fault, passes_limit, start}
 
--- how far a script has run: the world that its lines so far left, how many they are, and how many entries they told
+-- how far a script has run: the world and the residents that its lines so far left, how many they are, and how many entries
+-- they told
 pub record Progress : Type 0 where
   pub rows : World
+  pub residents : List (Resident (List ClientRow))
   pub lines : ℕ
   pub told : ℕ
 
 -- before the first line
 abbrev pub begin : Progress
-begin = record { rows = first_state; lines = 0; told = 0 }
+begin = record { rows = no_rows; residents = []; lines = 0; told = 0 }
 
 -- how far a script has run, what the line that was run last told, and the text of what is to be sent next
 pub record Played : Type 0 where
@@ -35,22 +40,30 @@ pub record Played : Type 0 where
   pub entries : List Entry
   pub text : List ℕ
 
+-- the state that a script has run to, and the step of a line from there
+abbrev pub state_at : Progress → State (List ClientRow)
+state_at p = state_of p.rows p.residents
+
+abbrev pub step_at : Progress → Option ScriptLine → Stepped
+step_at p said = line_step p.rows (said_done kept (state_at p) said)
+
 -- behind one line more
 abbrev pub behind_line : Progress → Option ScriptLine → Progress
 behind_line p said = record {
-  rows = (line_step p.rows said).world;
+  rows = (step_at p said).world;
+  residents = residents_told kept (state_at p) said (step_at p said).entries;
   lines = p.lines + 1;
-  told = p.told + length (line_step p.rows said).entries;
+  told = p.told + length (step_at p said).entries;
 }
 
 -- what a line tells; a faulty one tells nothing
 abbrev pub entries_told : Progress → Result (Option ScriptLine) LineFault → List Entry
 entries_told p (Err fault) = []
-entries_told p (Ok said) = (line_step p.rows said).entries
+entries_told p (Ok said) = (step_at p said).entries
 
 -- the text of a line
 abbrev pub line_text : Progress → Option ScriptLine → List ℕ
-line_text p said = entries_text (p.lines + 1) (line_step p.rows said).entries
+line_text p said = entries_text (p.lines + 1) (step_at p said).entries
 
 -- the last line, at the end of a script or at a faulty line
 unfoldable pub last_text : Progress → Option LineFault → List ℕ
@@ -68,7 +81,7 @@ text_from p (line ∷ lines) = line_and_later p (numbered_line (p.lines + 1) lin
 
 -- the steps of these lines up to the first faulty one, and the text of what they tell
 abbrev pub steps_of : Progress → List (List ℕ) → List Stepped
-steps_of p lines = trace p.rows (said_from (p.lines + 1) lines)
+steps_of p lines = trace p.rows (done_from kept (state_at p) (said_from (p.lines + 1) lines))
 
 abbrev pub body_text : Progress → List (List ℕ) → List ℕ
 body_text p lines = body_from (p.lines + 1) (steps_of p lines)

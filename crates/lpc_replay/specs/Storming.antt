@@ -3,12 +3,12 @@ use Rattle.std.specs.Prelude.{ℕ, ◌+◌, ◌%◌, ◌^◌, List, [], ◌∷�
 use Rattle.lpc_model.specs.declared.fault.LineFault.{LineFault}
 use Rattle.lpc_model.specs.Found.{objects}
 use Rattle.lpc_model.specs.Lines.{ScriptLine}
-use Rattle.lpc_model.specs.Run.{line_step, numbered_line}
+use Rattle.lpc_model.specs.Run.{numbered_line}
 use Rattle.lpc_storm.specs.declared.line.StormLine.{StormLine}
 use Rattle.lpc_storm.specs.declared.summary.Summary.{Summary}
 use Rattle.lpc_storm.specs.Generated.{line_text}
 use Rattle.lpc_storm.specs.Summary.{is_mismatch, is_replied}
-use Rattle.lpc_replay.specs.Playing.{Progress, begin, behind_line, last_text, line_text as text_of}
+use Rattle.lpc_replay.specs.Playing.{Progress, begin, behind_line, last_text, line_text as text_of, step_at}
 
 -- how far a storm has run, the fault of its last line, if any, and so far: the requests that returned with their reply,
 -- the replies that fitted none, and the sum of all bytes that were printed, modulo 2^32
@@ -30,8 +30,8 @@ behind_said t (Err fault) =
 behind_said t (Ok said) = record {
   at = behind_line t.at said;
   fault = None;
-  replies = t.replies + count_by is_replied (line_step t.at.rows said).entries;
-  mismatches = t.mismatches + count_by is_mismatch (line_step t.at.rows said).entries;
+  replies = t.replies + count_by is_replied (step_at t.at said).entries;
+  mismatches = t.mismatches + count_by is_mismatch (step_at t.at said).entries;
   total = (t.total + sum (text_of t.at said)) % 2 ^ 32;
 }
 

@@ -8,6 +8,7 @@ ghost use Rattle.lpc_model.specs.WorkedEndings.{WorkedEndings};
 ghost use Rattle.lpc_model.specs.WorkedNeighbours.{WorkedNeighbours};
 ghost use Rattle.lpc_model.specs.WorkedOffers.{WorkedOffers};
 ghost use Rattle.lpc_model.specs.WorkedRanges.{WorkedRanges};
+ghost use Rattle.lpc_model.specs.WorkedResidents.{WorkedResidents};
 ghost use Rattle.lpc_model.specs.WorkedTokens.{WorkedTokens};
 ghost use Rattle.lpc_model.specs.WorkedViews.{WorkedViews};
 ghost use Rattle.lpc_replay.specs.Laws.{ConnectsReturn, MisfitsRefused, RefusalsIdle, RefusalsStay, RequestsReturn, WaitsEnd};
@@ -51,5 +52,6 @@ pub fn law_worked_transcripts()
     ensures offers { WorkedOffers }
     ensures ranges { WorkedRanges }
     ensures tokens { WorkedTokens }
+    ensures residents { WorkedResidents }
     ensures neighbours { WorkedNeighbours }
 {}

@@ -7,6 +7,7 @@ mod playback;
 mod reading;
 mod replay;
 mod sending;
+mod step;
 mod storm;
 
 pub use laws::{law_completion, law_worked_transcripts};

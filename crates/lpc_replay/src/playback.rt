@@ -1,19 +1,21 @@
 // A script is run and printed line by line.
-ghost use Rattle.std.specs.Prelude.{◌≡◌, ◌<◌, ◌≤◌, ◌+◌, ◌++◌, [], length, nat_le, true, IfOk, OnOk};
+ghost use Rattle.std.specs.Prelude.{◌≡◌, ◌<◌, ◌≤◌, ◌+◌, ◌++◌, [], length, nat_le, true, Some, IfOk, OnOk};
 ghost use Rattle.lpc_base.specs.declared.limits.TheConstants.{LINES_LIMIT};
 ghost use Rattle.lpc_machine.specs.Short.{has_short_name};
 ghost use Rattle.lpc_model.specs.Grammar.{has_ids};
 ghost use Rattle.lpc_model.specs.Lines.{line_of};
-ghost use Rattle.lpc_model.specs.Machine as model;
 ghost use Rattle.lpc_model.specs.Text.{entries_text};
 ghost use Rattle.lpc_model.specs.Found as found;
-ghost use Rattle.lpc_model.specs.Run.{numbered_line};
+ghost use Rattle.lpc_model.specs.Run.{line_step, numbered_line, said_done, state_behind};
+ghost use Rattle.lpc_residents.specs.Kept.{kept, state_of};
 ghost use Rattle.lpc_replay.specs.Playing.{RunsLine, begin, entries_told, last_text};
 
+use crate::step::step;
 use lpc_base::OutOfMemory;
 use lpc_base::limits::LINES_LIMIT;
 use lpc_machine::Machine;
 use lpc_model::{Entries, Line, LineFault};
+use lpc_residents::Residents;
 use lpc_script::{Scratch, read_line};
 use lpc_transcript::{print, print_end, print_stop};
 use std::alloc::Global;
@@ -23,6 +25,7 @@ use std::marker::Model;
 #[derive(Drop)]
 pub struct Playback {
     machine: Machine,
+    residents: Residents,
     out: Entries,
     text: Vec<u8>,
     lines: u32,
@@ -35,7 +38,7 @@ impl Model for Playback {
     ghost Value = { Played };
 
     ghost view = { λ p. record {
-      at = record { rows = p.machine.rows; lines = p.lines; told = p.told };
+      at = record { rows = p.machine.rows; residents = p.residents; lines = p.lines; told = p.told };
       entries = p.out.list;
       text = p.text.items;
     } };
@@ -53,6 +56,7 @@ impl Playback {
         let out = Entries::new(alloc)?;
         Ok(Playback {
             machine: Machine::new(alloc),
+            residents: Residents::new(alloc),
             out,
             text: Vec::new(alloc),
             lines: 0,
@@ -132,6 +136,7 @@ impl Playback {
         if let Some(said) = said {
             let told = tell(
                 &mut self.machine,
+                &mut self.residents,
                 &mut self.out,
                 self.lines,
                 &said,
@@ -164,9 +169,11 @@ impl Playback {
     }
 }
 
-/// Takes the step of a line of this number and appends its text. Answers how many entries it told.
+/// Takes the step of a line of this number, over the machine and the servers on threads, and appends its text. Answers
+/// how many entries it told.
 fn tell(
     machine: &mut Machine,
+    residents: &mut Residents,
     out: &mut Entries,
     number: u32,
     said: &Line<'_>,
@@ -175,14 +182,19 @@ fn tell(
     requires few { machine.old.calls < LINES_LIMIT }
     requires ids { has_ids (line_of said.now) ≡ true }
     requires named { has_short_name (line_of said.now) ≡ true }
-    ensures rows { OnOk result (machine.new.rows ≡
-        (model.step machine.old.rows (line_of said.now)).world) }
-    ensures text { OnOk result (text.new.items ≡ text.old.items
-        ++ entries_text number (model.step machine.old.rows (line_of said.now)).entries) }
-    ensures entries { OnOk result (out.new.list ≡
-        (model.step machine.old.rows (line_of said.now)).entries) }
-    ensures told { IfOk result (λ told. told ≡
-        length (model.step machine.old.rows (line_of said.now)).entries) }
+    ensures rows { let s = state_of machine.old.rows residents.old in
+        OnOk result (machine.new.rows ≡ (state_behind kept s (Some (line_of said.now))).world) }
+    ensures residents { let s = state_of machine.old.rows residents.old in
+        OnOk result (residents.new ≡ (state_behind kept s (Some (line_of said.now))).residents) }
+    ensures text { let s = state_of machine.old.rows residents.old in
+        let step = line_step s.world (said_done kept s (Some (line_of said.now))) in
+        OnOk result (text.new.items ≡ text.old.items ++ entries_text number step.entries) }
+    ensures entries { let s = state_of machine.old.rows residents.old in
+        let step = line_step s.world (said_done kept s (Some (line_of said.now))) in
+        OnOk result (out.new.list ≡ step.entries) }
+    ensures told { let s = state_of machine.old.rows residents.old in
+        let step = line_step s.world (said_done kept s (Some (line_of said.now))) in
+        IfOk result (λ told. told ≡ length step.entries) }
     ensures calls { machine.new.calls ≤ machine.old.calls + 1 }
 {
     out.clear();
@@ -191,7 +203,7 @@ fn tell(
         // Twice as much, since it would have to grow with each thread that is made otherwise.
         out.reserve(needed.saturating_mul(2))?;
     }
-    machine.step(said, out)?;
+    step(machine, residents, said, out)?;
     print(number, out, text)?;
     Ok(out.list().len())
 }

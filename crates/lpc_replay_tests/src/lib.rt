@@ -21,6 +21,8 @@ mod memory;
 #[cfg(test)]
 mod replay;
 #[cfg(test)]
+mod residents;
+#[cfg(test)]
 mod storms;
 #[cfg(test)]
 mod tokens;

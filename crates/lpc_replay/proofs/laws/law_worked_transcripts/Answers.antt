@@ -5,6 +5,7 @@ use Rattle.lpc_model.proofs.Worked.Endings.{worked_endings}
 use Rattle.lpc_model.proofs.Worked.Neighbours.{worked_neighbours}
 use Rattle.lpc_model.proofs.Worked.Offers.{worked_offers}
 use Rattle.lpc_model.proofs.Worked.Ranges.{worked_ranges}
+use Rattle.lpc_model.proofs.Worked.Residents.{worked_residents}
 use Rattle.lpc_model.proofs.Worked.Tokens.{worked_tokens}
 use Rattle.lpc_model.proofs.Worked.Transcripts.{worked_transcripts}
 use Rattle.lpc_model.proofs.Worked.Views.{worked_views}
@@ -36,6 +37,9 @@ returns-clause-ranges c = worked_ranges
 
 pub returns-clause-tokens : goal.returns-clause-tokens
 returns-clause-tokens c = worked_tokens
+
+pub returns-clause-residents : goal.returns-clause-residents
+returns-clause-residents c = worked_residents
 
 pub returns-clause-neighbours : goal.returns-clause-neighbours
 returns-clause-neighbours c = worked_neighbours
