@@ -11,6 +11,8 @@ DIRECTIVES = {
     "token": ("TOKEN", "USER", *["[GROUP]"] * MOST_GROUPS),
     "dir": ("PATH",),
     "link": ("PATH", "TARGET"),
+    "resident": ("TID", "win32", "H"),
+    "turn": ("TID",),
 }
 CALLS = {
     "NtCreatePort": ("NAME", "[DACL]"),
@@ -72,6 +74,7 @@ WORDS = {
     "QOS": ("a quality of service: - for q:2:d, or q:L:s or q:L:d", "-"),
     "CLASS": ("a class: a number from 0 to 4294967295", "5"),
     "null": ("the word null", "null"),
+    "win32": ("a kind of server: win32", "win32"),
     "VIEW": ("a view: - for none, or w:H:OFFSET:SIZE", "-"),
     "ACCESS|same": ("rights: a number from 0 to 4294967295, or same", "same"),
     "accept|refuse": ("accept or refuse", "accept"),

@@ -15,7 +15,7 @@ TYPES = {
     9: "error event",
     10: "connection request",
 }
-PORT_CLOSED, CLIENT_DIED = 5, 6
+PORT_CLOSED, CLIENT_DIED, CONNECTION_REQUEST = 5, 6, 10
 LAYOUT = struct.Struct("<HHHHIIII")
 HEADER_SIZE = LAYOUT.size
 RANGE = struct.Struct("<II")

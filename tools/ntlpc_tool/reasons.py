@@ -62,6 +62,11 @@ REFUSALS = {
         *PATH,
         ("c0000035", "something stands at the path already"),
     ),
+    "resident": (
+        ("c000000b", "no live thread has the number"),
+        ("c0000035", "a server is on the thread already"),
+    ),
+    "turn": (("c000000b", "no live thread has the number, or no server is on it"),),
     "NtCreatePort": (*PATH, ("c0000035", "something stands there already"), *QUOTA),
     "NtConnectPort": (
         *OFFERED,
@@ -215,7 +220,7 @@ FAULTS = f"{SCRIPTS}, Faulty lines"
 
 def of_call(call):
     """The heading of a call or directive."""
-    return f"{SERVICES}, {'Directives' if call in ('boot', 'thread', 'token', 'dir', 'link') else call}"
+    return f"{SERVICES}, {'Directives' if call in ('boot', 'thread', 'token', 'dir', 'link', 'resident', 'turn') else call}"
 
 
 _OLDEST_TAKER = (

@@ -6,7 +6,7 @@ doesn't show isn't drawn: a message that nobody is shown has a note, `not receiv
 import dataclasses
 from typing import Optional, Tuple
 
-from ntlpc_tool import describe, facts, message, script_lines, statuses, transcript
+from ntlpc_tool import describe, facts, message, script_lines, statuses, transcript, turns
 
 SENDERS = ("NtRequestPort", "NtRequestWaitReplyPort", "NtConnectPort")
 SENT = {"NtRequestPort": "datagram", "NtRequestWaitReplyPort": "request", "NtConnectPort": "connection request"}
@@ -73,6 +73,7 @@ class Picture:
         self.participants = [Participant(it, self.processes.get(it)) for it in _threads(found, self.processes)]
         self.events = []
         self._waiting = set()
+        self._asking = {}
         self._received = _received(found)
         self._draw(found)
 
@@ -95,7 +96,7 @@ class Picture:
         of the first that dies. None where there is none."""
         owns = [it for it in step if it.kind != "wake"]
         words = self.script.words(step[0].line) if self.script else []
-        caller = script_lines.number(words[0]) if words else None
+        caller = (turns.thread_of(words) or script_lines.number(words[0])) if words else None
         return next((it for it in owns if caller and it.thread == caller), owns[0] if owns else None)
 
     # Parts of events.
@@ -119,6 +120,8 @@ class Picture:
     def _words(self, entry):
         """The line's call and words, or the call alone where the script isn't there."""
         words = self.script.words(entry.line) if self.script else []
+        if entry.thread is not None and turns.thread_of(words):
+            return f"{entry.call} by the server"
         words = words[1:] if entry.thread is not None else words
         return " ".join(map(_short, words)) if words and words[0] == entry.call else entry.call
 
@@ -191,6 +194,8 @@ class Picture:
         shown = entry.message()
         context = int(entry.field("ctx") or "0", 16)
         told = f" context {context}" * bool(context)
+        if shown.type == message.CONNECTION_REQUEST:
+            self._asking[entry.thread] = shown.thread
         self._arrow(shown.thread, entry.thread, "send", f"{entry.line} {_message_text(shown)}{told}")
         if entry.kind == "wake" and shown.type_name() in (SENT["NtRequestWaitReplyPort"], SENT["NtConnectPort"]):
             self._begin(shown.thread, "")
@@ -209,6 +214,8 @@ class Picture:
     def _named_client(self, entry):
         """The thread that the message of an accept names, where the script tells it."""
         words = self.script.words(entry.line) if self.script else []
+        if turns.thread_of(words):
+            return self._asking.get(entry.thread)
         parts = words[3][2:].split(":")[0].split(".") if len(words) > 3 and words[3].startswith("r:") else []
         return script_lines.number(parts[1]) if len(parts) == 3 else None
 

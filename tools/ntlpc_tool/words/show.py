@@ -4,6 +4,8 @@ A message's header is told field by field, the type by its name; data, and the i
 their bytes where they are printable ASCII or UTF-16LE. At the end stands which threads still wait, since which line and
 in which call.
 
+With the script a turn of the server on a thread is told as what the server did.
+
 The transcript comes from TRANSCRIPT, from the standard input, or, with --script alone, from the program, which is run
 over that script. With --script each line of the script stands above what it gave.
 
@@ -11,7 +13,7 @@ Exit status: 0; 2 where something can't be read, or where the program ended with
 """
 import sys
 
-from ntlpc_tool import describe, faults, inputs, program, transcript
+from ntlpc_tool import describe, faults, inputs, program, transcript, turns
 
 NAME = "show"
 WIDTH = 88
@@ -60,17 +62,27 @@ def transcript_of(name, script):
 
 def told(found, script=None):
     """The lines that tell a transcript."""
-    last = None
+    last, steps = None, {}
+    for entry in found.entries:
+        steps.setdefault(entry.line, []).append(entry)
     for entry in found.entries:
         if script is not None and entry.line != last:
             last = entry.line
-            yield f"line {last}: {words_of(script, last)}"
+            yield f"line {last}: {words_of(script, last)}{turn_told(script, steps[last])}"
         first, *others = describe.of_entry(entry)
         front = " " * 4 if script is not None else f"line {entry.line:<6}"
         yield front + first
         yield from (" " * len(front) + it for it in others)
     yield from closing_told(found.closing, script)
     yield from waits_told(transcript.still_waiting(found), script)
+
+
+def turn_told(script, step):
+    """What the server on a thread did in a line that is its turn, in brackets; nothing for every other line."""
+    number = step[0].line
+    words = inputs.shown(script[number - 1]).split() if number <= len(script) else []
+    told = turns.deed(words, step)
+    return f" ({told})" if told else ""
 
 
 def words_of(script, number):
