@@ -169,6 +169,19 @@ def impersonations(lines):
         yield f"24 NtReplyPort 8 r:32.36.{identifier}:43"
 
 
+def turns(lines):
+    """64 clients ask the server on a thread in turn: each asks for its level, and the server's turn answers."""
+    yield from ("boot 20 24", "24 NtCreatePort \\S", "resident 24 win32 4", "turn 24")
+    clients = range(100, 164)
+    for client in clients:
+        yield f"boot {client} {client}"
+        yield f"{client} NtConnectPort \\S - - -"
+        yield from ["turn 24"] * 3
+    for round_ in range((lines - 4 - 5 * len(clients)) // 2):
+        yield f"{clients[round_ % len(clients)]} NtRequestWaitReplyPort 4 d:07000000"
+        yield "turn 24"
+
+
 def boots(lines):
     """Processes are made, and stay: each with a thread and an empty table of handles."""
     for process in range(1, lines + 1):
@@ -243,6 +256,7 @@ def main():
             (large_views, LONG),
             (described, LONG),
             (impersonations, LONG),
+            (turns, LONG),
             (boots, LONG),
             (connects, SHORT),
         )
