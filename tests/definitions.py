@@ -14,6 +14,8 @@ STANDING_ROW = re.compile(r"found_or \((?:port_row|section_row|token_row|first \
 # How the name space is walked: what each of its calls refuses, in order. `walk` is met from the root on.
 FORM = ["PathSyntax", "NameInvalid"]
 WALK = [*FORM, "PathNotFound", "NameInvalid"]
+# The lines about the server on a thread, which the machine answers by whether there is one.
+RESIDENT_LINES = {"resident": "hosting_status", "turn": "idle_entry"}
 NAME_CALLS = {
     "spelled": FORM,
     "free_path": [*WALK, "Collision"],
@@ -92,7 +94,7 @@ def services():
     text = text_of("lpc_model", "specs", "antt")
     calls = re.findall(r"^service_of w by \(?[\w ]+\)? =\s+(\w+) w by", text, re.M)
     lines = re.findall(r"^bare_steps \((\w+) [\w ]+\) w = directed word\.\w+ \((\w+) w ", text, re.M)
-    return {camel(it): it for it in calls}, dict(lines)
+    return {camel(it): it for it in calls}, dict(lines) | RESIDENT_LINES
 
 
 def camel(name):

@@ -33,9 +33,9 @@ SERVICES = (pages.DOCS / "SERVICES.md").read_text(encoding="utf-8")
 STATUS = re.compile(r"\b[0-9A-F]{8}\b")
 CODE = re.compile(r"`([^`]*)`")
 # How many there are: who adds one changes the number.
-STATUS_COUNT, SHARED_COUNT, CALL_COUNT, DIRECTIVE_COUNT, LIMIT_COUNT = 29, 5, 29, 5, 9
+STATUS_COUNT, SHARED_COUNT, CALL_COUNT, DIRECTIVE_COUNT, LIMIT_COUNT = 29, 5, 29, 7, 9
 WORKED_ROWS = {"README.md": 8, "docs/CONNECTIONS.md": 30, "docs/SECURITY.md": 45, "docs/VIEWS.md": 22}
-CLAIM_COUNT = 59
+CLAIM_COUNT = 60
 NAMED_IN = {"ARCHITECTURE.md": 700, "DECISIONS.md": 150, "DEFINITIONS.md": 1_300, "ISOLATION.md": 200, "PROOFS.md": 400}
 # What the pages name that is none of these: a tool with its words.
 PLACEHOLDERS = ("gate_seconds",)
