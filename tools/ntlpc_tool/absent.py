@@ -13,4 +13,4 @@ CALLS = {
     "NtSetInformationProcess",
     "raise",
 }
-DIRECTIVES = {"resident", "rule", "tick", "turn", "version"}
+DIRECTIVES = {"rule", "tick", "version"}

@@ -10,6 +10,8 @@ LEFT_OUT = {
     "NtReadRequestData",
     "NtWriteRequestData",
     "token",
+    "resident",
+    "turn",
     "NtImpersonateClientOfPort",
     "NtSetInformationThread",
     "NtOpenThreadToken",

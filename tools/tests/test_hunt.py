@@ -29,11 +29,14 @@ GREATER = 'ran.stdout.replace(b"NtDuplicateObject 00000000 h=", b"NtDuplicateObj
 class Following(unittest.TestCase):
     def test_who_waits_is_known_in_each_example(self):
         for path in support.EXAMPLES:
-            shown = transcript.load(str(path.with_suffix(".transcript")))
+            script, shown = path.read_bytes(), transcript.load(str(path.with_suffix(".transcript")))
+            # A turn's call stands in its entries alone; `hunt` makes no turns.
+            if any(needs.name_in(line) == "turn" for line in script.splitlines()):
+                continue
             world, entries = following.World(), {}
             for entry in shown.entries:
                 entries.setdefault(entry.line, []).append(entry)
-            for number, line in enumerate(path.read_text(encoding="ascii").splitlines(), 1):
+            for number, line in enumerate(script.decode("ascii").splitlines(), 1):
                 world.tell(line, entries.get(number, ()))
             with self.subTest(path.name):
                 self.assertEqual(sorted(world.waits), sorted(it.thread for it in transcript.still_waiting(shown)))

@@ -84,7 +84,7 @@ class Skips(unittest.TestCase):
     def test_what_is_not_built_is_left_out_and_counted_apart(self):
         ran = run("--built", "--only", "thread/*", *EXAMPLE)
         self.assertEqual((ran.returncode, last(ran)), (1, "8 passed, 1 failed, 2 skipped"))
-        self.assertIn("left out: what needs token, dir, link, NtConnectPort, ", ran.stdout)
+        self.assertIn("left out: what needs token, dir, link, resident, turn, NtConnectPort, ", ran.stdout)
         self.assertEqual(ran.stdout.count("of the transcript differs"), 1)
 
     def test_without_takes_names_and_may_stand_twice(self):
