@@ -1,4 +1,4 @@
--- What calls come to, for all laws: what their tests find (Usable, Tested, Creating), their outcomes (Outcomes), the acts
+-- What calls come to, for all laws: what their tests find (Usable, Tested, Creating, Raising), their outcomes (Outcomes), the acts
 -- of which outcomes are made (Acts, Taking), and the lines that run them (Lines).
 pub mod Holding
 pub mod Usable
@@ -7,6 +7,7 @@ pub mod Tested
 pub mod Taking
 pub mod Offers
 pub mod Sharing
+pub mod Raising
 pub mod Outcomes
 pub mod Lines
 pub mod Acts

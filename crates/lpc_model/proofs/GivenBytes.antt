@@ -24,8 +24,8 @@ use Rattle.lpc_model.specs.declared.fault.LineFault.TheVariants as fault
 use Rattle.lpc_model.specs.Then.{◌>>=◌}
 use Rattle.lpc_model.specs.Message.{bytes_of, message_of}
 use Rattle.lpc_model.specs.Lines.{ScriptCall, ScriptLine, accept_connect_port, reply_port, reply_wait_receive_port, request_port, request_wait_reply_port, run, write_virtual_memory, read_request_data, write_request_data, impersonate_client_of_port}
-use Rattle.lpc_model.specs.Words.{made_message, begins, split_once, hex_message, hex_or_fault, hex_word, id_word, info_word, message_word, number_word, parts, reply_message, three_parts, words}
-use Rattle.lpc_model.specs.Grammar.{accept_word, access_word, call_line, call_named, call_words, directive_line, directive_named, directive_words, four_words, given_message, kind_word, three_words, handle_and_message, handle_and_reply, is_printable, one_handle, one_or_two_words, one_word, qos_word, read_line, starts_call, process_and_thread, target_and_code, target_and_thread, thread_call, two_words, view_word, words_line, address_and_bytes, range_words, range_and_bytes, four_numbers, two_numbers, fixed_word, given_dacl, no_words, process_and_token, token_words}
+use Rattle.lpc_model.specs.Words.{begins, split_once, hex_message, hex_or_fault, hex_word, id_word, info_word, message_word, number_word, parts, reply_message, three_parts, words, made_message}
+use Rattle.lpc_model.specs.Grammar.{accept_word, access_word, call_line, call_named, call_words, directive_line, directive_named, directive_words, four_words, given_message, handle_and_message, handle_and_reply, is_printable, one_handle, one_or_two_words, one_word, qos_word, read_line, starts_call, process_and_thread, target_and_code, target_and_thread, thread_call, two_words, view_word, words_line, address_and_bytes, range_words, range_and_bytes, four_numbers, two_numbers, fixed_word, given_dacl, no_words, process_and_token, token_words, handled_word, target_word, three_words, kind_word}
 use Rattle.lpc_model.specs.Run.{numbered_line, said_from, unless_faulty}
 
 abbrev pub AreBytes : List ℕ → Type 0
@@ -242,6 +242,11 @@ call_gives call.NtCreateProcess others = then_gives (process_and_thread others) 
 call_gives call.NtCreateThread others = then_gives (target_and_thread others) _ HasBytes (λ _ _. tt)
 call_gives call.NtTerminateThread others = then_gives (target_and_code others) _ HasBytes (λ _ _. tt)
 call_gives call.NtTerminateProcess others = then_gives (target_and_code others) _ HasBytes (λ _ _. tt)
+call_gives call.NtSetInformationProcess others =
+    then_gives (three_words others) _ HasBytes (λ three _. then_gives (target_word three.0) _ HasBytes (λ target _.
+    then_gives (number_word three.1) _ HasBytes (λ class _. then_gives (number_word three.2) _ HasBytes (λ port _. tt))))
+call_gives call.Raise others =
+    then_gives (two_words others) _ HasBytes (λ two _. then_gives (number_word two.0) _ HasBytes (λ code _. then_gives (handled_word two.1) _ HasBytes (λ handled _. tt)))
 call_gives call.NtCreateSection others = then_gives (two_numbers others) _ HasBytes (λ _ _. tt)
 call_gives call.NtMapViewOfSection others = then_gives (four_numbers others) _ HasBytes (λ _ _. tt)
 call_gives call.NtUnmapViewOfSection others = then_gives (one_handle others) _ HasBytes (λ _ _. tt)

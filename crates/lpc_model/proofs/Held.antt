@@ -1,4 +1,5 @@
 -- Some row counts for each object, behind each line: the sweep takes away all that no row counts for.
+pub mod Events
 pub mod Ports
 pub mod Lives
 pub mod FreedPort

@@ -4,7 +4,7 @@ use Rattle.std.specs.Prelude.{Option, Some, None}
 use Rattle.std.specs.List.{AllByRecursion}
 use Rattle.lpc_model.specs.World.{World, no_rows}
 use Rattle.lpc_model.specs.Lines.{ScriptLine}
-use Rattle.lpc_model.specs.Machine.{Stepped, step, steps}
+use Rattle.lpc_model.specs.Machine.{Stepped, step, steps, own_steps}
 use Rattle.lpc_model.specs.Run.{Along, line_step, said_in, trace}
 use Rattle.lpc_model.specs.Closings.{ClosingsAreTold, RunTellsClosings}
 use Rattle.lpc_model.specs.Creators.{KeepsConnects, RunKeepsConnects}
@@ -14,7 +14,7 @@ use Rattle.lpc_model.specs.Standing.{NamesWhatStands, RunNamesWhatStands}
 use Rattle.lpc_model.specs.SingleClosings.{HasSingleClosings, RunHasSingleClosings}
 use Rattle.lpc_model.specs.SoundWaits.{HasSoundWaits, RefusesCutPairsAlone, RunRefusesCutPairsAlone, RunStaysSound}
 use Rattle.lpc_model.proofs.Sound.Pairs.{refuses_cut_pairs}
-use Rattle.lpc_model.proofs.Sound.Lines.{sound_none, sound_step, sound_waits}
+use Rattle.lpc_model.proofs.Sound.Lines.{sound_none, sound_waits}
 use Rattle.lpc_model.proofs.Linked.Lines.{held_step, linked_none, linked_step}
 use Rattle.lpc_model.proofs.Standing.Lines.{names_none, names_step}
 use Rattle.lpc_model.proofs.Queues.Open.{queues_none, queues_step}
@@ -25,9 +25,9 @@ use Rattle.lpc_model.proofs.Queues.Withdrawn.{line_withdraws}
 use Rattle.lpc_model.specs.Leaving.{EmptiesWithHandles, RunEmptiesWithHandles, RunWithdrawsWithWaits, WithdrawsWithWaits}
 use Rattle.lpc_model.proofs.Closings.SingleLines.{untold_none, untold_step}
 use Rattle.lpc_model.specs.Deaths.{DeathsAreTold, HasLivingRegistrations, HasSingleRegistrations, RunHasLivingRegistrations, RunHasSingleRegistrations, RunTellsDeaths}
-use Rattle.lpc_model.proofs.Lives.ThreadsOnce.{once_step}
-use Rattle.lpc_model.proofs.Deaths.Lines.{deaths_told}
-use Rattle.lpc_model.specs.Lawful.{IsLawfulWorld}
+use Rattle.lpc_model.proofs.Lives.ThreadsOnce.{once_step, once_line}
+use Rattle.lpc_model.proofs.Settling.Deaths.{deaths_told}
+use Rattle.lpc_model.specs.Lawful.{IsLawfulWorld, HasThreadsOnce}
 use Rattle.lpc_model.specs.Left.{LeavesNothing, RunLeavesNothing}
 use Rattle.lpc_model.proofs.Sound.Terminate.{IsSafe}
 use Rattle.lpc_model.proofs.Lives.Handles.{living_step}
@@ -42,6 +42,10 @@ use Rattle.lpc_model.specs.Clients.{HasAllowingClients, HasClientEnds, RefusesUn
 use Rattle.lpc_model.proofs.Clients.Allowing.{allowing_step}
 use Rattle.lpc_model.proofs.Clients.Ends.{ends_step}
 use Rattle.lpc_model.proofs.Clients.Refusal.{refuses_unserved}
+use Rattle.lpc_model.proofs.Settling.Lines.{ready-line, settled_step}
+use Rattle.lpc_model.proofs.Settling.Settled.{IsReady}
+use Rattle.lpc_model.specs.AtRest.{IsAtRest, StepsHoldRows, StepsKeepOffers, StepsKeepQueuesOpen, StepsKeepSingleClosings, StepsKeepViews, StepsNameWhatStands, StepsSettle, StepsStaySound}
+use Rattle.lpc_model.specs.Basics.{world_after}
 
 -- before the first line
 pub lawful_none : IsLawfulWorld no_rows
@@ -63,29 +67,84 @@ lawful_none = record {
   pairs = refl;
   clients = refl;
   ends = refl;
+  ports = refl;
+  settled = record { marks = refl; doomed = refl };
 }
+
+-- the world is ready to settle behind the own steps of a line
+pub lawful-ready : (w : World) (line : ScriptLine) → IsAtRest w → IsReady (world_after w (own_steps line w))
+lawful-ready w line t = ready-line w line t.sound t.names t.single_closings t.settled.marks
+
+pub resting : (w : World) → IsLawfulWorld w → IsAtRest w
+resting w t = record { sound = t.sound; names = t.names; single_closings = t.single_closings; settled = t.settled }
+
+pub lawful-once : (w : World) (line : ScriptLine) → IsLawfulWorld w → HasThreadsOnce (world_after w (own_steps line w))
+lawful-once w line t = let shut = t.single_closings in once_line w line t.sound shut.connects t.threads
+
+pub lawful-readied : (w : World) (line : ScriptLine) → IsLawfulWorld w → IsReady (world_after w (own_steps line w))
+lawful-readied w line t = lawful-ready w line (resting w t)
+
+-- what the step of each line keeps of a world at rest
+pub sound_step : StepsStaySound
+sound_step w line t = (settled_step w line t.sound t.names t.single_closings t.settled.marks).0
+
+pub settles_step : StepsSettle
+settles_step w line t = (settled_step w line t.sound t.names t.single_closings t.settled.marks).1
+
+pub rows_step : StepsHoldRows
+rows_step w line t l e =
+    let ready = lawful-ready w line t in
+    let shut = t.single_closings in
+    let living = living_step w line (record { sound = t.sound; shut = shut.connects }) e.threads (once_line w line t.sound shut.connects e.threads) ready (record { handles = e.handles; views = e.views; ports = e.ports }) in
+    let bare = living.0 in (linked_step w line t.sound ready l, held_step w line t.sound bare.ports l)
+
+pub naming_step : StepsNameWhatStands
+naming_step w line t l offers = let shut = t.single_closings in names_step w line t.sound shut.connects l offers (lawful-ready w line t) t.names
+
+pub open_step : StepsKeepQueuesOpen
+open_step w line t l q = let shut = t.single_closings in queues_step w line t.sound shut.connects l (lawful-ready w line t) q
+
+pub closings_step : StepsKeepSingleClosings
+closings_step w line t = untold_step w line t.sound t.names (lawful-ready w line t) t.single_closings
+
+pub viewing_step : StepsKeepViews
+viewing_step w line t offers v = let shut = t.single_closings in views_step w line t.sound shut.connects offers (lawful-ready w line t) v
+
+pub offering_step : StepsKeepOffers
+offering_step w line t views o = let shut = t.single_closings in offers_step w line t.sound shut.connects views (lawful-ready w line t) o
 
 -- and behind each line
 pub lawful_step : (w : World) (line : ScriptLine) → IsLawfulWorld w → IsLawfulWorld (step w line).world
-lawful_step w line t = let shut = t.single_closings in let safe : IsSafe w = record { sound = t.sound; shut = shut.connects } in let living = living_step w line safe t.threads (record { handles = t.living; views = t.views }) in record {
-  sound = sound_step w line t.sound shut.connects;
-  linked = linked_step w line t.sound shut.connects t.linked;
-  held = held_step w line t.sound t.linked;
-  queues = queues_step w line t.sound shut.connects t.linked t.queues;
-  names = names_step w line t.sound shut.connects t.linked t.sound_offers t.names;
-  single_closings = untold_step w line t.sound t.names t.single_closings;
-  creators = keeps_step w line safe t.creators;
-  threads = once_step w line t.sound shut.connects t.threads;
-  registrations = living_registrations_step w line t.sound t.threads t.registrations;
-  single = single_step w line t.sound t.threads t.single;
-  living = living.handles;
-  views = living.views;
-  sound_views = views_step w line t.sound shut.connects t.sound_offers t.sound_views;
-  sound_offers = offers_step w line t.sound shut.connects t.sound_views t.sound_offers;
-  pairs = pairs_step w line safe t.pairs;
-  clients = allowing_step w line safe t.clients;
-  ends = ends_step w line safe (record { linked = t.linked; clients = t.clients }) t.ends;
-}
+lawful_step w line t =
+    let rest = resting w t in
+    let shut = t.single_closings in
+    let safe : IsSafe w = record { sound = t.sound; shut = shut.connects } in
+    let ready = lawful-ready w line rest in
+    let after = lawful-once w line t in
+    let living = living_step w line safe t.threads after ready (record { handles = t.living; views = t.views; ports = t.ports }) in
+    let bare = living.0 in
+    let left = living.1 in
+    record {
+      sound = sound_step w line rest;
+      linked = linked_step w line t.sound ready t.linked;
+      held = held_step w line t.sound bare.ports t.linked;
+      queues = open_step w line rest t.linked t.queues;
+      names = naming_step w line rest t.linked t.sound_offers;
+      single_closings = closings_step w line rest;
+      creators = keeps_step w line safe ready t.creators;
+      threads = once_step w line t.sound shut.connects ready t.threads;
+      registrations = living_registrations_step w line t.sound t.threads after ready t.registrations;
+      single = single_step w line t.sound t.threads ready t.single;
+      living = left.handles;
+      views = left.views;
+      ports = left.ports;
+      settled = settles_step w line rest;
+      sound_views = viewing_step w line rest t.sound_offers t.sound_views;
+      sound_offers = offering_step w line rest t.sound_views t.sound_offers;
+      pairs = pairs_step w line safe ready t.pairs;
+      clients = allowing_step w line ready safe t.clients;
+      ends = ends_step w line safe ready (record { linked = t.linked; clients = t.clients }) t.ends;
+    }
 
 pub said-lawful : (w : World) (said : Option ScriptLine) → IsLawfulWorld w → IsLawfulWorld (line_step w said).world
 said-lawful w None t = t
@@ -128,19 +187,19 @@ pub keeps_run : (bytes : List ℕ) → RunKeepsConnects bytes
 keeps_run bytes = trace-keeps KeepsConnects (λ w t. t.creators) no_rows (said_in bytes) lawful_none
 
 pub closings_told_run : (bytes : List ℕ) → RunTellsClosings bytes
-closings_told_run bytes = along-keeps ClosingsAreTold (λ w line t. let shut = t.single_closings in closings_told w line t.sound shut.connects) no_rows (said_in bytes) lawful_none
+closings_told_run bytes = along-keeps ClosingsAreTold (λ w line t. let shut = t.single_closings in closings_told w line t.sound shut.connects (lawful-readied w line t)) no_rows (said_in bytes) lawful_none
 
 pub emptied_run : (bytes : List ℕ) → RunEmptiesWithHandles bytes
-emptied_run bytes = along-keeps EmptiesWithHandles (λ w line t. let shut = t.single_closings in line_empties w line t.sound shut.connects) no_rows (said_in bytes) lawful_none
+emptied_run bytes = along-keeps EmptiesWithHandles (λ w line t. let shut = t.single_closings in line_empties w line t.sound shut.connects (lawful-readied w line t)) no_rows (said_in bytes) lawful_none
 
 pub withdrawn_run : (bytes : List ℕ) → RunWithdrawsWithWaits bytes
-withdrawn_run bytes = along-keeps (λ w line. WithdrawsWithWaits (steps line w)) (λ w line t. let shut = t.single_closings in line_withdraws w line t.sound shut.connects) no_rows (said_in bytes) lawful_none
+withdrawn_run bytes = along-keeps (λ w line. WithdrawsWithWaits (steps line w)) (λ w line t. let shut = t.single_closings in line_withdraws w line t.sound shut.connects (lawful-readied w line t)) no_rows (said_in bytes) lawful_none
 
 pub deaths_told_run : (bytes : List ℕ) → RunTellsDeaths bytes
-deaths_told_run bytes = along-keeps DeathsAreTold (λ w line t. deaths_told w line t.sound t.threads) no_rows (said_in bytes) lawful_none
+deaths_told_run bytes = along-keeps DeathsAreTold (λ w line t. deaths_told w line t.sound t.threads (lawful-once w line t) (lawful-readied w line t)) no_rows (said_in bytes) lawful_none
 
 pub leaves_nothing_run : (bytes : List ℕ) → RunLeavesNothing bytes
-leaves_nothing_run bytes = trace-keeps LeavesNothing (λ w t. bare w t.sound t.linked t.held t.queues t.living t.views t.pairs) no_rows (said_in bytes) lawful_none
+leaves_nothing_run bytes = trace-keeps LeavesNothing (λ w t. bare w t.sound t.linked t.held t.queues t.living t.views t.ports t.pairs) no_rows (said_in bytes) lawful_none
 
 pub living_registrations_run : (bytes : List ℕ) → RunHasLivingRegistrations bytes
 living_registrations_run bytes = trace-keeps HasLivingRegistrations (λ w t. t.registrations) no_rows (said_in bytes) lawful_none

@@ -17,4 +17,7 @@ pub mod ShutConnects
 pub mod Terminate
 pub mod Close
 pub mod Frees
+pub mod Raise
+pub mod Marked
+pub mod MarkedLines
 pub mod Lines

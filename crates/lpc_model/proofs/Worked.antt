@@ -10,3 +10,4 @@ pub mod Residents
 pub mod Offers
 pub mod Neighbours
 pub mod Tokens
+pub mod Exceptions

@@ -14,11 +14,12 @@ use Rattle.lpc_base.specs.declared.birth.Birth.{Birth}
 use Rattle.lpc_model.specs.World.{MessageRow, PortRow, World, no_rows}
 use Rattle.lpc_model.specs.Message.{asks, bytes_of, message_of}
 use Rattle.lpc_model.specs.Found.{is_the, live_thread, queue_of, queued_on, same_birth, wait_of}
-use Rattle.lpc_model.specs.Basics.{Basic, Empties, basic}
+use Rattle.lpc_model.specs.Basics.{Basic, Empties, basic, entries_of, world_after}
 use Rattle.lpc_model.specs.Tests.{port_test}
 use Rattle.lpc_model.specs.Lines.{ScriptLine, reply_wait_receive_port, run}
-use Rattle.lpc_model.specs.Machine.{step, steps}
+use Rattle.lpc_model.specs.Machine.{step, steps, own_steps}
 use Rattle.lpc_model.specs.Run.{all_posts, said_in, trace, world_behind}
+use Rattle.lpc_model.specs.Settle.{settle}
 
 -- what a receive from a queue shows of a message: its context, and its bytes, header and data
 pub record Receipt : Type 0 where
@@ -74,6 +75,17 @@ is_received r w line (Wakes tid call status fields) = is_the r.queue (waited_on 
 is_received r w line (Answer tid call status fields) = is_the r.queue (received_on w line) && shows_receipt r fields
 is_received r w line entry = false
 
+-- an entry of a line's settling shows so: the queue is that on which its thread waited when it began to settle
+abbrev pub is_woken : Receipt → World → Entry → Bool
+is_woken r v (Wakes tid call status fields) = is_the r.queue (waited_on v tid) && shows_receipt r fields
+is_woken r v entry = false
+
+-- how many entries of a line show so, those of its own steps and those of its settling
+abbrev pub receipts : Receipt → World → ScriptLine → ℕ
+receipts r w line =
+    let v = world_after w (own_steps line w) in
+    count (is_received r w line) (entries_of (own_steps line w)) + count (is_woken r v) (entries_of (settle v))
+
 -- Losses
 -- how many such messages a step loses: those of a queue that it empties, whose port is closed
 abbrev pub loses : Receipt → World → Basic → ℕ
@@ -90,7 +102,7 @@ unfoldable pub received_in : Receipt → World → List (Option ScriptLine) → 
 received_in r w [] = 0
 received_in r w (None ∷ later) = received_in r w later
 received_in r w (Some line ∷ later) =
-    count (is_received r w line) (step w line).entries + received_in r (step w line).world later
+    receipts r w line + received_in r (step w line).world later
 
 unfoldable pub lost_in : Receipt → World → List (Option ScriptLine) → ℕ
 lost_in r w [] = 0

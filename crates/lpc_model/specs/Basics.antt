@@ -10,7 +10,7 @@ use Rattle.lpc_base.specs.Rows.{change, each, when, which, without, without_firs
 use Rattle.lpc_names.specs.Binding.{is_name}
 use Rattle.lpc_model.specs.declared.entry.ObjectKind.TheVariants as kind
 use Rattle.lpc_model.specs.World.{World, Birth, CallName, ObjectKind, ObjectName, ProcessRow, ThreadRow, UsedThread, HandleRow, HandleTable, PortRow, MessageRow, WaitKind, WaitRow, Acceptance, Accepted, Connect, Node, Path, SectionRow, ContentRow, Contents, Known, Unknown, ViewRow, ViewTable, TokenRow, TokenName, Security, Impersonation}
-use Rattle.lpc_model.specs.Found.{has_value, is_content, is_token, is_own_of, is_owned_by, is_section, is_space, lies_at, is_paired_to, is_port, is_queued, is_queued_connect, is_table, is_thread, same_birth, waits_as, waits_at}
+use Rattle.lpc_model.specs.Found.{has_value, is_content, is_token, is_own_of, is_owned_by, is_section, is_space, lies_at, is_paired_to, is_port, is_queued, is_queued_connect, is_table, is_thread, same_birth, waits_as, waits_at, is_mark, is_process}
 
 -- An entry, or one change of the rows that belong together: a wait that ends, with its entry; a thread that ends, with
 -- its entry and its wait; the two ends of a pair; a process, with its number and its empty tables of handles and views; a
@@ -25,6 +25,10 @@ pub data Basic : Type 0 where
   -- a thread's request or connect to a queue is received, and a thread's connect is accepted
   Receives : ℕ → Birth → Basic
   Accepts : ℕ → Acceptance → Basic
+  -- a thread's event is marked as not handled
+  Marks : ℕ → Basic
+  -- a thread's wait ends untold
+  Leaves : ℕ → Basic
   -- a thread ends with a status, and its wait with it, which is told
   Dies : ℕ → Status → Basic
   -- a message enters its queue; the oldest message of a queue is taken, or its oldest connection request
@@ -56,6 +60,12 @@ pub data Basic : Type 0 where
   Unbinds : Birth → Basic
   -- a process gets a handle; a handle of a process goes
   AddsHandle : ℕ → HandleRow → Basic
+  -- a process gets its debug port, and its exception port; it lets both go; it is to end with a code, unless it is
+  -- already
+  SetsDebug : ℕ → Birth → Basic
+  SetsException : ℕ → Birth → Basic
+  LetsGo : ℕ → Basic
+  Dooms : ℕ → ℕ → Basic
   DropsHandle : ℕ → ℕ → Basic
   -- a section is made, whose bytes are zeros; bytes of a section are written from a place on
   AddsSection : SectionRow → Basic
@@ -194,15 +204,43 @@ freed w kind.Token b = record w { tokens = without (is_token b) w.tokens }
 freed w kind.Process b = record w { processes = without (λ p. same_birth p.birth b) w.processes }
 freed w kind.Thread b = record w { threads = without (λ t. same_birth t.birth b) w.threads }
 
+-- the world without a thread's wait, and without its mark
+abbrev pub left_by : ℕ → World → World
+left_by who w = record w { waits = without (waits_as who) w.waits; marks = without (is_mark who) w.marks }
+
+-- a process with its debug port, with its exception port, and without either
+abbrev pub debugged : Birth → ProcessRow → ProcessRow
+debugged b p = record p { debug_port = Some b }
+
+abbrev pub excepted : Birth → ProcessRow → ProcessRow
+excepted b p = record p { exception_port = Some b }
+
+abbrev pub portless : ProcessRow → ProcessRow
+portless p = record p { debug_port = None; exception_port = None }
+
+-- a process that is to end; the first code stays
+abbrev pub first_code : ℕ → Option ℕ → ℕ
+first_code code None = code
+first_code code (Some n) = n
+
+abbrev pub doomed : ℕ → ProcessRow → ProcessRow
+doomed code p = record p { doom = Some (first_code code p.doom) }
+
 -- the world after a basic step
 abbrev pub basic : World → Basic → World
 basic w (Tells e) = w
-basic w (Wakes who call status fields) = record w { waits = without (waits_as who) w.waits }
+basic w (Wakes who call status fields) = left_by who w
 basic w (Awaits x) = record w { waits = w.waits ++ x ∷ [] }
 basic w (Receives who queue) = record w { waits = change (waits_at who queue) received w.waits }
 basic w (Accepts who a) = record w { waits = change (waits_as who) (accepted a) w.waits }
 basic w (Dies who status) =
-    record w { threads = change (is_thread who) ended w.threads; waits = without (waits_as who) w.waits }
+    record w {
+      threads = change (is_thread who) ended w.threads;
+      waits = without (waits_as who) w.waits;
+      marks = without (is_mark who) w.marks;
+    }
+basic w (Marks who) = record w { marks = w.marks ++ who ∷ [] }
+basic w (Leaves who) = left_by who w
 basic w (Enters m) = record w { messages = w.messages ++ m ∷ [] }
 basic w (Takes q) = record w { messages = without_first (is_queued q) w.messages }
 basic w (TakesConnect q) = record w { messages = without_first (is_queued_connect q) w.messages }
@@ -242,6 +280,10 @@ basic w (Secures b s) = record w { ports = change (is_port b) (secured s) w.port
 basic w (Acts who own) = record w { threads = change (is_thread who) (acting own) w.threads }
 basic w (AddsToken t) = record w { tokens = w.tokens ++ t ∷ [] }
 basic w (NamesToken n) = record w { token_names = w.token_names ++ n ∷ [] }
+basic w (SetsDebug pid b) = record w { processes = change (is_process pid) (debugged b) w.processes }
+basic w (SetsException pid b) = record w { processes = change (is_process pid) (excepted b) w.processes }
+basic w (LetsGo pid) = record w { processes = change (is_process pid) portless w.processes }
+basic w (Dooms pid code) = record w { processes = change (is_process pid) (doomed code) w.processes }
 
 -- the entries that a basic step makes
 abbrev pub told : Basic → List Entry

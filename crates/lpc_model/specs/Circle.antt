@@ -12,12 +12,12 @@ use Rattle.lpc_names.specs.declared.names.Found.{Found}
 use Rattle.lpc_names.specs.declared.names.Found.TheVariants.{Directory, Item as PortThere}
 use Rattle.lpc_model.specs.declared.entry.Entry.{Entry}
 use Rattle.lpc_model.specs.declared.entry.Entry.TheVariants.{Answer, Busy, Died, Directive, NoThread, Waits, Wakes}
+use Rattle.lpc_model.specs.World.{Birth, Impersonation, PortRow, ProcessRow, ThreadRow, UsedThread, ViewRow, ViewTable, World, no_rows}
+use Rattle.lpc_model.specs.Found.{is_used_thread, live_thread, same_birth, shows_section, views_of, wait_of, was_process, event_ports_of, is_server_port, port_row}
 use Rattle.lpc_model.specs.declared.entry.Word.{Word}
 use Rattle.lpc_model.specs.declared.entry.Word.TheVariants as word
-use Rattle.lpc_model.specs.World.{Birth, Impersonation, PortRow, ProcessRow, ThreadRow, UsedThread, ViewRow, ViewTable, World, no_rows}
-use Rattle.lpc_model.specs.Found.{is_used_thread, live_thread, same_birth, shows_section, views_of, wait_of, was_process}
 use Rattle.lpc_model.specs.Basics.{Acts, Basic, Writes}
-use Rattle.lpc_model.specs.Lines.{ScriptCall, ScriptLine, accept_connect_port, boot, complete_connect_port, connect_port, create_port, dir, link, listen_port, close, duplicate_object, query_object, create_process, create_thread, register_thread_terminate_port, reply_port, reply_wait_receive_port, request_port, request_wait_reply_port, of_resident, run, terminate_process, terminate_thread, thread, create_section, map_view_of_section, unmap_view_of_section, read_virtual_memory, write_virtual_memory, read_request_data, write_request_data, token, impersonate_client_of_port, set_information_thread, open_thread_token, open_process_token, query_information_token}
+use Rattle.lpc_model.specs.Lines.{ScriptCall, ScriptLine, accept_connect_port, boot, complete_connect_port, connect_port, create_port, dir, link, listen_port, close, duplicate_object, query_object, create_process, create_thread, register_thread_terminate_port, reply_port, reply_wait_receive_port, request_port, request_wait_reply_port, run, terminate_process, terminate_thread, thread, create_section, map_view_of_section, unmap_view_of_section, read_virtual_memory, write_virtual_memory, read_request_data, write_request_data, token, impersonate_client_of_port, set_information_thread, open_thread_token, open_process_token, query_information_token, set_information_process, raise, of_resident}
 use Rattle.lpc_model.specs.Linked.{passes_or_none}
 use Rattle.lpc_model.specs.Machine.{step, steps}
 use Rattle.lpc_model.specs.Ranges.{Described, described_test}
@@ -190,10 +190,22 @@ is_fine_port group c p = elim p.kind [
 abbrev pub is_fine_process : Group → ProcessRow → Bool
 is_fine_process group p = passes_or_none p.maker (λ m. if group p.number then group m else not (group m))
 
+-- a port that is told of a member's exceptions is no server port whose client port is an outsider's; one whose connection
+-- is cut makes no tie
+abbrev pub is_told_inside : Group → PortRow → Bool
+is_told_inside group p = not (is_server_port p) || passes_or_none p.pair (λ client. group client.process)
+
+abbrev pub is_fine_event_port : Group → World → Birth → Bool
+is_fine_event_port group w b = passes_or_none (port_row w b) (is_told_inside group)
+
+abbrev pub is_fine_raiser : Group → World → ProcessRow → Bool
+is_fine_raiser group w p = not (group p.number) || every (is_fine_event_port group w) (event_ports_of p)
+
 -- each tie between the processes of a world that c could learn by; one field for each kind of tie
 pub record IsFineWorld (group : Group) (c : ℕ) (w : World) : Type 0 where
   pub processes : every (is_fine_process group) w.processes ≡ true
   pub ports : every (is_fine_port group c) w.ports ≡ true
+  pub raisers : every (is_fine_raiser group w) w.processes ≡ true
 
 -- The circle: what each call of c must be
 -- a number was used by then for no process outside the group, and for no thread of one
@@ -251,6 +263,8 @@ is_fine_call group w (set_information_thread class) = true
 is_fine_call group w open_thread_token = true
 is_fine_call group w open_process_token = true
 is_fine_call group w (query_information_token handle class) = true
+is_fine_call group w (set_information_process target class port) = true
+is_fine_call group w (raise code handled) = true
 
 -- The circle: what c may see of sections
 -- the views are an outsider's, and one of them is of the section; a step writes the section

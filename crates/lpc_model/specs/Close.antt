@@ -11,8 +11,8 @@ use Rattle.lpc_model.specs.declared.entry.ObjectKind.TheVariants as kind
 use Rattle.lpc_model.specs.Then.{◌>>=◌}
 use Rattle.lpc_model.specs.World.{Birth, Creator, HandleRow, Message, MessageRow, PortRow, ThreadRow, WaitRow, World}
 use Rattle.lpc_model.specs.Message.{made}
-use Rattle.lpc_model.specs.Found.{handle_count, if_open, is_accepted, is_client_port, is_listen, is_made_on, is_offered, is_receive, is_request, is_the, pair_of, port_row, same_birth, same_kind}
-use Rattle.lpc_model.specs.Basics.{Basic, Cuts, DropsHandle, DropsOwned, Empties, Steps, Tells, Unbinds, Withdraws, doing, end_each, provided, ◌▹◌}
+use Rattle.lpc_model.specs.Found.{handle_count, if_open, is_accepted, is_client_port, is_listen, is_made_on, is_offered, is_receive, is_request, is_the, pair_of, port_row, same_birth, same_kind, is_event, is_marked}
+use Rattle.lpc_model.specs.Basics.{Basic, Cuts, DropsHandle, DropsOwned, Empties, Steps, Tells, Unbinds, Withdraws, doing, end_each, provided, ◌▹◌, Marks}
 use Rattle.lpc_model.specs.Entering.{end_connect, enter, woken}
 use Rattle.lpc_model.specs.Tests.{own_handle}
 
@@ -31,6 +31,10 @@ end_request status x = woken status [] x ∷ Withdraws x.thread ∷ []
 
 abbrev pub end_offered : WaitRow → List Basic
 end_offered x = end_connect [] x ∷ Withdraws x.thread ∷ DropsOwned x.port ∷ []
+
+-- an event is marked as not handled: its message leaves its queue, where it still stands there
+abbrev pub mark_event : WaitRow → List Basic
+mark_event x = Marks x.thread ∷ Withdraws x.thread ∷ []
 
 -- Closing a port
 -- 1: its name goes
@@ -51,9 +55,23 @@ is_request_on b x = is_request x && is_made_on b x
 abbrev pub end_requests : Birth → Steps
 end_requests b = end_each (λ w. is_request_on b) (end_request PORT_DISCONNECTED)
 
--- 4: its queue is emptied: the requests in it end, and the connects to it that aren't accepted; its other messages go
+-- and events that were sent on it are marked, if they aren't yet
+abbrev pub is_unmarked_event : World → WaitRow → Bool
+is_unmarked_event w x = is_event x && not (is_marked w x)
+
+abbrev pub is_event_on : Birth → World → WaitRow → Bool
+is_event_on b w x = is_unmarked_event w x && is_made_on b x
+
+abbrev pub mark_events : Birth → Steps
+mark_events b = end_each (is_event_on b) mark_event
+
+-- 4: its queue is emptied: the requests in it end, the events in it are marked, and the connects to it that aren't
+-- accepted end; its other messages go
 abbrev pub is_queued_request : Birth → WaitRow → Bool
 is_queued_request b x = is_request x && (same_birth x.queue b && not x.received)
+
+abbrev pub is_queued_event : Birth → World → WaitRow → Bool
+is_queued_event b w x = is_unmarked_event w x && (same_birth x.queue b && not x.received)
 
 abbrev pub is_offered_to : Birth → WaitRow → Bool
 is_offered_to b x = is_offered x && same_birth x.queue b
@@ -61,17 +79,21 @@ is_offered_to b x = is_offered x && same_birth x.queue b
 abbrev pub empty_queue : Birth → Steps
 empty_queue b =
     end_each (λ w. is_queued_request b) (end_request LPC_REPLY_LOST)
+    ▹ end_each (is_queued_event b) mark_event
     ▹ end_each (λ w. is_offered_to b) end_offered
     ▹ doing (Empties b ∷ [])
 
--- 5: It is cut off from its other end: requests that were sent there end, and receives that wait there, where the other
--- end is a client port. A connect that was accepted and isn't completed ends; nothing was sent or waits on its client
--- port.
+-- 5: It is cut off from its other end: requests that were sent there end, events that were sent there are marked, and
+-- receives that wait there end, where the other end is a client port. A connect that was accepted and isn't completed
+-- ends; nothing was sent or waits on its client port.
 abbrev pub is_across : World → Birth → WaitRow → Bool
 is_across w b x = is_the b (pair_of w x.port)
 
 abbrev pub is_request_across : Birth → World → WaitRow → Bool
 is_request_across b w x = is_request x && is_across w b x
+
+abbrev pub is_event_across : Birth → World → WaitRow → Bool
+is_event_across b w x = is_unmarked_event w x && is_across w b x
 
 abbrev pub is_receive_across : Birth → World → WaitRow → Bool
 is_receive_across b w x = is_receive x && (is_across w b x && passes (port_row w x.port) is_client_port)
@@ -82,6 +104,7 @@ is_accepted_across b w x = is_accepted x && (is_made_on b x || is_across w b x)
 abbrev pub cut_pair : Birth → Steps
 cut_pair b =
     end_each (is_request_across b) (end_request LPC_REPLY_LOST)
+    ▹ end_each (is_event_across b) mark_event
     ▹ end_each (is_receive_across b) (wake PORT_DISCONNECTED)
     ▹ end_each (is_accepted_across b) end_accepted
     ▹ doing (Cuts b ∷ [])
@@ -114,9 +137,17 @@ post_closed b w = given (port_row w b) (λ p. given (closing_post w p) (λ m. en
 abbrev pub drop_owned : Birth → Steps
 drop_owned b = doing (DropsOwned b ∷ [])
 
--- the seven steps, each in the world that the one before it left
+-- the seven steps, the third in two, each in the world that the one before it left
 unfoldable pub close_port : Birth → Steps
-close_port b = drop_name b ▹ end_receives b ▹ end_requests b ▹ empty_queue b ▹ cut_pair b ▹ post_closed b ▹ drop_owned b
+close_port b =
+    drop_name b
+    ▹ end_receives b
+    ▹ end_requests b
+    ▹ mark_events b
+    ▹ empty_queue b
+    ▹ cut_pair b
+    ▹ post_closed b
+    ▹ drop_owned b
 
 -- Closing a handle
 -- it is the last one of a port

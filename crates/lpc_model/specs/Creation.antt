@@ -19,7 +19,15 @@ use Rattle.lpc_model.specs.Tests.{handle_row, handles_test, live_test, next_birt
 -- What is made
 -- a process, and a live thread that has drawn and registered nothing yet
 abbrev pub new_process : ℕ → Option ℕ → Birth → Token → ProcessRow
-new_process pid maker birth token = record { number = pid; maker = maker; birth = birth; token = token }
+new_process pid maker birth token = record {
+  number = pid;
+  maker = maker;
+  birth = birth;
+  token = token;
+  debug_port = None;
+  exception_port = None;
+  doom = None;
+}
 
 abbrev pub new_thread : ℕ → ℕ → Birth → ThreadRow
 new_thread tid pid birth = record {

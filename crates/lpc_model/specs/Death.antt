@@ -13,7 +13,7 @@ use Rattle.lpc_model.specs.Then.{◌>>=◌}
 use Rattle.lpc_model.specs.World.{Birth, Message, MessageRow, ThreadRow, WaitRow, World}
 use Rattle.lpc_model.specs.Message.{made}
 use Rattle.lpc_model.specs.Found.{handles_of, is_accepted, is_connect, is_live, live_threads, port_row, route, wait_of}
-use Rattle.lpc_model.specs.Basics.{Basic, Dies, DropsOwned, DropsViewsOf, Steps, Tells, Unregisters, Withdraws, doing, in_turn, provided, ◌▹◌}
+use Rattle.lpc_model.specs.Basics.{Basic, Dies, DropsOwned, DropsViewsOf, Steps, Tells, Unregisters, Withdraws, doing, in_turn, provided, ◌▹◌, LetsGo}
 use Rattle.lpc_model.specs.Entering.{enter, row_of}
 use Rattle.lpc_model.specs.Targets.{process_target, thread_target}
 use Rattle.lpc_model.specs.Tests.{client_of, live_test}
@@ -58,9 +58,13 @@ abbrev pub post_deaths : ThreadRow → Steps
 post_deaths t = in_turn (post_death t) t.registrations
 
 -- Ending a process
--- its handles are closed by rising value, in the world that its threads left, and then its views go
+-- its handles are closed by rising value, in the world that its threads left
+abbrev pub close_handles : ℕ → Steps
+close_handles pid w = in_turn (close_handle pid) (handles_of w pid) w
+
+-- its debug and exception ports are let go, then its handles are closed, and then its views go
 abbrev pub end_process : ℕ → Steps
-end_process pid w = (in_turn (close_handle pid) (handles_of w pid) ▹ doing (DropsViewsOf pid ∷ [])) w
+end_process pid = doing (LetsGo pid ∷ []) ▹ close_handles pid ▹ doing (DropsViewsOf pid ∷ [])
 
 -- threads of a process end: all of them with their waits, then they are told of, and then the process ends with its
 -- last one

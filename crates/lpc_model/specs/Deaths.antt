@@ -1,15 +1,16 @@
 -- What is told of threads that end: each port that such a thread registered is told once, where it is open and has a
 -- way.
-use Rattle.std.specs.Prelude.{◌≡◌, ℕ, ◌==◌, ◌&&◌, ◌||◌, ◌++◌, Bool, true, List, [], ◌∷◌, length, map, nat_le, not}
+use Rattle.std.specs.Prelude.{◌≡◌, ℕ, ◌==◌, ◌&&◌, ◌||◌, ◌++◌, Bool, true, List, [], ◌∷◌, length, map, nat_le, not, Option, None, Some, suc, zero}
 use Rattle.std.specs.List.{AllByRecursion}
 use Rattle.lpc_base.specs.Rows.{each, every, first, given, when, which}
 use Rattle.lpc_message.specs.declared.kind.TheConstants.{CLIENT_DIED}
 use Rattle.lpc_model.specs.World.{Birth, MessageRow, ThreadRow, World, no_rows}
 use Rattle.lpc_model.specs.Found.{is_thread, live_thread, same_birth}
-use Rattle.lpc_model.specs.Basics.{Basic, Dies, DropsHandle, DropsViewsOf, Enters, Unbinds, Unregisters, basic, posts_of}
+use Rattle.lpc_model.specs.Basics.{Basic, Dies, DropsHandle, DropsViewsOf, Enters, Unbinds, Unregisters, basic, posts_of, world_after}
 use Rattle.lpc_model.specs.Death.{death_post}
 use Rattle.lpc_model.specs.Lines.{ScriptLine}
-use Rattle.lpc_model.specs.Machine.{steps}
+use Rattle.lpc_model.specs.Machine.{own_steps, steps}
+use Rattle.lpc_model.specs.Settle.{most_turns, turn}
 use Rattle.lpc_model.specs.Run.{Along, run_of, said_in}
 
 -- a message that tells of a thread's end
@@ -70,15 +71,35 @@ rises [] = true
 rises (n ∷ ns) = every (nat_le n) ns && rises ns
 
 -- The messages that tell of ends are those of the registrations that go, and these are the ones of the threads that
--- end. They go and are told behind the end of the last of these threads, and before any handle goes.
+-- end.
+pub record TellsEnds (w : World) (bs : List Basic) : Type 0 where
+  pub told : which is_died_post (posts_of bs) ≡ deaths_posted w bs
+  pub registrations : each leaves bs ≡ ending_registrations w bs
+
+-- They go and are told behind the end of the last of these threads, and before any handle goes.
+abbrev pub IsOrdered : List Basic → Type 0
+IsOrdered bs = rises (each rank_of bs) ≡ true
+
 pub record TellsDeaths (w : World) (bs : List Basic) : Type 0 where
   pub told : which is_died_post (posts_of bs) ≡ deaths_posted w bs
   pub registrations : each leaves bs ≡ ending_registrations w bs
   pub order : rises (each rank_of bs) ≡ true
 
--- the steps of a line tell so
-abbrev pub DeathsAreTold : World → ScriptLine → Type 0
-DeathsAreTold w line = TellsDeaths w (steps line w)
+-- so is it in each of some turns of settling
+abbrev pub OrderedIn : World → Option (List Basic) → (World → Type 0) → Type 0
+OrderedIn w None later = Unit {0}
+OrderedIn w (Some bs) later = IsOrdered bs × later (world_after w bs)
+
+abbrev pub OrderedTurns : ℕ → World → Type 0
+OrderedTurns zero = λ w. Unit {0}
+OrderedTurns (suc n) = λ w. OrderedIn w (turn w) (OrderedTurns n)
+
+-- The steps of a line tell so. Its own steps come in that order, and each turn of its settling does, one ending of a
+-- process behind the other.
+pub record DeathsAreTold (w : World) (line : ScriptLine) : Type 0 where
+  pub ends : TellsEnds w (steps line w)
+  pub order : IsOrdered (own_steps line w)
+  pub turns : let v = world_after w (own_steps line w) in OrderedTurns (most_turns v) v
 
 -- each line of a script tells so
 abbrev pub RunTellsDeaths : List ℕ → Type 0

@@ -1,5 +1,5 @@
 -- What is found in the world: filters and counts of its rows.
-use Rattle.std.specs.Prelude.{ℕ, nat_le, ◌==◌, ◌&&◌, ◌||◌, ◌+◌, ◌++◌, Bool, true, false, not, List, [], length, map, Option, Some, None, is_none, option_and_then, if◌then◌else◌}
+use Rattle.std.specs.Prelude.{ℕ, nat_le, ◌==◌, ◌&&◌, ◌||◌, ◌+◌, ◌++◌, Bool, true, false, not, List, [], length, map, Option, Some, None, is_none, option_and_then, if◌then◌else◌, ◌∷◌}
 use Rattle.lpc_base.specs.Places.{least_handle}
 use Rattle.lpc_tokens.specs.declared.security.Security.TheVariants.{Guarded}
 use Rattle.lpc_model.specs.declared.entry.ObjectKind.TheVariants as kind
@@ -12,7 +12,7 @@ use Rattle.lpc_sid.specs.WellKnown.{system_token}
 use Rattle.lpc_tokens.specs.Tokens.{effective}
 use Rattle.std.specs.Str.{bytes_eq}
 use Rattle.lpc_model.specs.Message.{asks, is_connection_request}
-use Rattle.lpc_model.specs.World.{World, Birth, ObjectKind, ObjectName, Message, ProcessRow, ThreadRow, HandleRow, HandleTable, PortRow, MessageRow, Offer, WaitRow, UsedThread, SectionRow, ContentRow, Contents, Known, Unknown, ViewRow, ViewTable, Token, TokenRow, TokenName, Effective, Dacl, Security, Accepted, Connect, Listen, Receive, Request}
+use Rattle.lpc_model.specs.World.{World, Birth, ObjectKind, ObjectName, Message, ProcessRow, ThreadRow, HandleRow, HandleTable, PortRow, MessageRow, Offer, WaitRow, UsedThread, SectionRow, ContentRow, Contents, Known, Unknown, ViewRow, ViewTable, Token, TokenRow, TokenName, Effective, Dacl, Security, Accepted, Connect, Listen, Receive, Request, Event}
 
 -- Names
 -- an optional name is this one
@@ -377,6 +377,24 @@ is_request x = elim x.kind [
   | _ ↦ false
 ]
 
+-- a wait for what is made of an event
+abbrev pub is_event : WaitRow → Bool
+is_event x = elim x.kind [
+  | Event r ↦ true
+  | _ ↦ false
+]
+
+-- a wait for the reply to what was sent: to a request, or to an event, which is sent as one
+abbrev pub is_asking : WaitRow → Bool
+is_asking x = is_request x || is_event x
+
+-- an event that is marked as not handled
+abbrev pub is_mark : ℕ → ℕ → Bool
+is_mark who n = n == who
+
+abbrev pub is_marked : World → WaitRow → Bool
+is_marked w x = has (is_mark x.thread) w.marks
+
 -- the wait of a thread
 abbrev pub waits_as : ℕ → WaitRow → Bool
 waits_as tid x = x.thread == tid
@@ -395,11 +413,11 @@ names_wait x m =
     (x.thread == m.header.client.thread) && ((x.process == m.header.client.process) && (x.identifier == m.header.message_id))
 
 -- A client and an identifier fit a wait through a port: they are the wait's thread, process and identifier, the wait is
--- a request that was received, and the port is the wait's queue or the pair of its sender port.
+-- a request or an event that was received, and the port is the wait's queue or the pair of its sender port.
 abbrev pub fits_as : World → Birth → ClientId → ℕ → WaitRow → Bool
 fits_as w port client identifier x =
     (x.thread == client.thread) && ((x.process == client.process)
-    && ((x.identifier == identifier) && (is_request x && (x.received
+    && ((x.identifier == identifier) && (is_asking x && (x.received
     && (same_birth x.queue port || is_the port (pair_of w x.port))))))
 
 -- a message fits a wait by the client and the identifier that it names
@@ -425,6 +443,11 @@ all_handles w = handles_in w.handles
 abbrev pub handle_count : World → ObjectName → ℕ
 handle_count w o = count (λ h. same_object h.object o) (all_handles w)
 
+-- an optional value as a list
+abbrev pub listed : Option Birth → List Birth
+listed None = []
+listed (Some b) = b ∷ []
+
 -- a port has this one as its other end; as its connection port
 abbrev pub is_paired_to : Birth → PortRow → Bool
 is_paired_to b p = is_the b p.pair
@@ -446,6 +469,13 @@ registered_by t = when t.live t.registrations
 abbrev pub all_registrations : World → List Birth
 all_registrations w = each registered_by w.threads
 
+-- the ports that are told of exceptions
+abbrev pub event_ports_of : ProcessRow → List Birth
+event_ports_of p = listed p.debug_port ++ listed p.exception_port
+
+abbrev pub event_ports : World → List Birth
+event_ports w = each event_ports_of w.processes
+
 -- a live thread of the process with a birth; the live thread with a birth
 abbrev pub lives_by : World → Birth → ThreadRow → Bool
 lives_by w b t = t.live && has (λ p. same_birth p.birth b && (p.number == t.process)) w.processes
@@ -454,15 +484,16 @@ abbrev pub is_life : Birth → ThreadRow → Bool
 is_life b t = t.live && same_birth t.birth b
 
 -- How many rows but handles count for an object. A port: ports whose other end it is, those whose connection port it is, queued
--- messages that were sent on it, waits that were made on it, registrations of live threads, views that it owns. A section:
--- views that show it, and connects that offer it and aren't accepted. A process: its live threads. A thread: itself,
--- while it lives.
+-- messages that were sent on it, waits that were made on it, registrations of live threads, views that it owns, and
+-- processes whose debug or exception port it is. A section: views that show it, and connects that offer it and aren't
+-- accepted. A process: its live threads. A thread: itself, while it lives.
 -- A queue and a name don't count for their port, and for a token nothing but handles does.
 abbrev pub holders : World → ObjectKind → Birth → ℕ
 holders w kind.Port b =
     count (is_paired_to b) w.ports + (count (is_connected_to b) w.ports
     + (count (is_sent_on b) w.messages + (count (is_made_on b) w.waits
-    + (count (same_birth b) (all_registrations w) + count (is_owned_by b) (all_views w)))))
+    + (count (same_birth b) (all_registrations w) + (count (is_owned_by b) (all_views w)
+    + count (same_birth b) (event_ports w))))))
 holders w kind.Section b = count (shows_section b) (all_views w) + count (offers_section b) w.waits
 holders w kind.Token b = 0
 holders w kind.Process b = count (lives_by w b) w.threads

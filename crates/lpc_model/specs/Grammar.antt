@@ -16,7 +16,7 @@ use Rattle.lpc_tokens.specs.declared.qos.Qos.{Qos}
 use Rattle.lpc_tokens.specs.declared.qos.Tracking.{Tracking}
 use Rattle.lpc_tokens.specs.declared.qos.Tracking.TheVariants.{Dynamic, Static}
 use Rattle.lpc_model.specs.declared.entry.CallName.{CallName}
-use Rattle.lpc_model.specs.declared.entry.CallName.TheVariants.{NtCreatePort, NtConnectPort, NtListenPort, NtAcceptConnectPort, NtCompleteConnectPort, NtRequestPort, NtRequestWaitReplyPort, NtReplyPort, NtReplyWaitReceivePort, NtRegisterThreadTerminatePort, NtClose, NtDuplicateObject, NtQueryObject, NtCreateProcess, NtCreateThread, NtTerminateProcess, NtTerminateThread, NtCreateSection, NtMapViewOfSection, NtUnmapViewOfSection, NtReadVirtualMemory, NtWriteVirtualMemory, NtReadRequestData, NtWriteRequestData, NtImpersonateClientOfPort, NtSetInformationThread, NtOpenThreadToken, NtOpenProcessToken, NtQueryInformationToken}
+use Rattle.lpc_model.specs.declared.entry.CallName.TheVariants.{NtCreatePort, NtConnectPort, NtListenPort, NtAcceptConnectPort, NtCompleteConnectPort, NtRequestPort, NtRequestWaitReplyPort, NtReplyPort, NtReplyWaitReceivePort, NtRegisterThreadTerminatePort, NtClose, NtDuplicateObject, NtQueryObject, NtCreateProcess, NtCreateThread, NtTerminateProcess, NtTerminateThread, NtCreateSection, NtMapViewOfSection, NtUnmapViewOfSection, NtReadVirtualMemory, NtWriteVirtualMemory, NtReadRequestData, NtWriteRequestData, NtImpersonateClientOfPort, NtSetInformationThread, NtOpenThreadToken, NtOpenProcessToken, NtQueryInformationToken, NtSetInformationProcess, Raise}
 use Rattle.lpc_model.specs.declared.entry.Word.{Word}
 use Rattle.lpc_model.specs.declared.entry.Word.TheVariants.{Boot, Thread, Dir, Link}
 use Rattle.lpc_model.specs.declared.entry.Word.TheVariants as word
@@ -24,7 +24,7 @@ use Rattle.lpc_model.specs.declared.line.Kind.TheVariants.{Win32}
 use Rattle.lpc_model.specs.declared.line.ProcArg.TheVariants.{By, Current}
 use Rattle.lpc_model.specs.declared.fault.LineFault.{LineFault}
 use Rattle.lpc_model.specs.declared.fault.LineFault.TheVariants as fault
-use Rattle.lpc_model.specs.Lines.{ScriptCall, create_port, connect_port, listen_port, accept_connect_port, complete_connect_port, request_port, request_wait_reply_port, reply_port, reply_wait_receive_port, register_thread_terminate_port, close, duplicate_object, query_object, create_process, create_thread, terminate_process, terminate_thread, create_section, map_view_of_section, unmap_view_of_section, read_virtual_memory, write_virtual_memory, read_request_data, write_request_data, impersonate_client_of_port, set_information_thread, open_thread_token, open_process_token, query_information_token, ProcArg, Kind, ScriptLine, boot, thread, token, dir, link, of_resident, run, hosts, moves, ViewWord}
+use Rattle.lpc_model.specs.Lines.{ScriptCall, create_port, connect_port, listen_port, accept_connect_port, complete_connect_port, request_port, request_wait_reply_port, reply_port, reply_wait_receive_port, register_thread_terminate_port, close, duplicate_object, query_object, create_process, create_thread, terminate_process, terminate_thread, create_section, map_view_of_section, unmap_view_of_section, read_virtual_memory, write_virtual_memory, read_request_data, write_request_data, impersonate_client_of_port, set_information_thread, open_thread_token, open_process_token, query_information_token, ProcArg, ScriptLine, boot, thread, token, dir, link, run, ViewWord, set_information_process, raise, Kind, of_resident, hosts, moves}
 use Rattle.lpc_model.specs.Words.{is_empty, fault_if, hex_word, words, begins, number_word, id_word, is_id, message_word, info_word, parts, three_parts}
 use Rattle.lpc_model.specs.Text.{call_text, word_text}
 use Rattle.lpc_model.specs.Then.{◌>>=◌}
@@ -61,6 +61,8 @@ calls =
     ∷ NtOpenThreadToken
     ∷ NtOpenProcessToken
     ∷ NtQueryInformationToken
+    ∷ NtSetInformationProcess
+    ∷ Raise
     ∷ []
 
 -- the call whose name a word is
@@ -206,7 +208,14 @@ accept_word word =
     else (if bytes_eq word (codes "refuse") then Ok false
     else Err fault.Word)
 
--- exactly one word, exactly two, and exactly four
+-- whether the frame handlers handle an exception: `handled` or `unhandled`
+unfoldable pub handled_word : List ℕ → Result Bool LineFault
+handled_word word =
+    if bytes_eq word (codes "handled") then Ok true
+    else (if bytes_eq word (codes "unhandled") then Ok false
+    else Err fault.Word)
+
+-- exactly one word, exactly two, exactly three, and exactly four
 unfoldable pub one_word : List (List ℕ) → Result (List ℕ) LineFault
 one_word (a ∷ []) = Ok a
 one_word others = Err fault.Count
@@ -215,14 +224,13 @@ unfoldable pub two_words : List (List ℕ) → Result (List ℕ × List ℕ) Lin
 two_words (a ∷ b ∷ []) = Ok (a, b)
 two_words others = Err fault.Count
 
-unfoldable pub four_words : List (List ℕ) → Result (List ℕ × List ℕ × List ℕ × List ℕ) LineFault
-four_words (a ∷ b ∷ c ∷ d ∷ []) = Ok (a, b, c, d)
-four_words others = Err fault.Count
-
--- exactly three words
 unfoldable pub three_words : List (List ℕ) → Result (List ℕ × List ℕ × List ℕ) LineFault
 three_words (a ∷ b ∷ c ∷ []) = Ok (a, b, c)
 three_words others = Err fault.Count
+
+unfoldable pub four_words : List (List ℕ) → Result (List ℕ × List ℕ × List ℕ × List ℕ) LineFault
+four_words (a ∷ b ∷ c ∷ d ∷ []) = Ok (a, b, c, d)
+four_words others = Err fault.Count
 
 -- no word
 unfoldable pub no_words : List (List ℕ) → Result Unit LineFault
@@ -490,6 +498,17 @@ call_words NtOpenProcessToken others = do
 call_words NtQueryInformationToken others = do
   two ← two_numbers others
   Ok (query_information_token two.0 two.1)
+call_words NtSetInformationProcess others = do
+  three ← three_words others
+  target ← target_word three.0
+  class ← number_word three.1
+  port ← number_word three.2
+  Ok (set_information_process target class port)
+call_words Raise others = do
+  two ← two_words others
+  code ← number_word two.0
+  handled ← handled_word two.1
+  Ok (raise code handled)
 
 -- the kind of a server
 unfoldable pub kind_word : List ℕ → Result Kind LineFault

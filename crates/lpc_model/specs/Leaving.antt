@@ -1,9 +1,10 @@
 -- How messages leave their queues where nobody takes them: a queue is emptied with the last handle of its port, and the own
--- message of a thread, a request or connection request, is withdrawn with the thread's wait.
+-- message of a thread, a request, connection request or event, is withdrawn with the thread's wait, or as its event is
+-- marked.
 use Rattle.std.specs.Prelude.{◌≡◌, ℕ, ◌==◌, ◌++◌, Bool, true, false, List, [], ◌∷◌}
 use Rattle.lpc_base.specs.Rows.{every, has}
 use Rattle.lpc_model.specs.World.{Birth, World, no_rows}
-use Rattle.lpc_model.specs.Basics.{Basic, Dies, Empties, Wakes, Withdraws, basic}
+use Rattle.lpc_model.specs.Basics.{Basic, Dies, Empties, Marks, Wakes, Withdraws, basic}
 use Rattle.lpc_model.specs.Closings.{closes}
 use Rattle.lpc_model.specs.Lines.{ScriptLine}
 use Rattle.lpc_model.specs.Machine.{steps}
@@ -42,13 +43,15 @@ abbrev pub withdrawn : List Basic → List ℕ
 withdrawn [] = []
 withdrawn (b ∷ bs) = withdraws b ++ withdrawn bs
 
--- the wait of a thread ends by a step: the thread is woken, or ends
+-- the wait of a thread ends by a step, or what it waits for was not handled: the thread is woken, or ends, or its event is
+-- marked
 abbrev pub ends_wait : ℕ → Basic → Bool
 ends_wait who (Wakes thread call status fields) = thread == who
 ends_wait who (Dies thread status) = thread == who
+ends_wait who (Marks thread) = thread == who
 ends_wait who b = false
 
--- each thread whose message some steps withdraw is woken by them, or ends
+-- each thread whose message some steps withdraw is woken by them, or ends, or its event is marked
 abbrev pub WithdrawsWithWaits : List Basic → Type 0
 WithdrawsWithWaits bs = every (λ who. has (ends_wait who) bs) (withdrawn bs) ≡ true
 

@@ -1,9 +1,9 @@
 -- Where no process lives any longer, nothing is left but numbers that were used, names and empty tables of handles and
 -- views.
-use Rattle.std.specs.Prelude.{◌≡◌, ℕ, ◌||◌, Bool, true, false, List, []}
+use Rattle.std.specs.Prelude.{◌≡◌, ℕ, ◌||◌, Bool, true, false, List, [], ◌&&◌, is_none}
 use Rattle.std.specs.List.{AllByRecursion}
 use Rattle.lpc_base.specs.Rows.{every, passes}
-use Rattle.lpc_model.specs.World.{HandleTable, PortRow, ViewTable, World}
+use Rattle.lpc_model.specs.World.{HandleTable, PortRow, ViewTable, World, ProcessRow}
 use Rattle.lpc_model.specs.Found.{all_views, is_cut, is_live, is_open}
 use Rattle.lpc_model.specs.Run.{run_of}
 
@@ -52,6 +52,16 @@ is_living_space w t = is_live w t.process || lacks_views t
 
 abbrev pub HasLivingViews : World → Type 0
 HasLivingViews w = every (is_living_space w) w.views ≡ true
+
+-- a process that doesn't live has no port that is told of exceptions
+abbrev pub is_portless : ProcessRow → Bool
+is_portless p = is_none p.debug_port && is_none p.exception_port
+
+abbrev pub is_living_process : World → ProcessRow → Bool
+is_living_process w p = is_live w p.number || is_portless p
+
+abbrev pub HasLivingPorts : World → Type 0
+HasLivingPorts w = every (is_living_process w) w.processes ≡ true
 
 -- of two ports that are each other's other end one at least is open
 abbrev pub is_kept_pair : World → PortRow → Bool

@@ -22,6 +22,8 @@ pub mod Memory
 pub mod Ranges
 pub mod Offers
 pub mod Impersonation
+pub mod Raise
+pub mod Settle
 pub mod Sweep
 pub mod Machine
 pub mod Text
@@ -51,6 +53,7 @@ pub mod Creators
 pub mod Clients
 pub mod SingleClosings
 pub mod Lawful
+pub mod AtRest
 pub mod Transcript
 pub mod Worked
 pub mod WorkedConnections
@@ -63,3 +66,4 @@ pub mod WorkedOffers
 pub mod WorkedNeighbours
 pub mod WorkedResidents
 pub mod WorkedTokens
+pub mod WorkedExceptions

@@ -45,6 +45,8 @@ pub data ScriptCall : Type 0 where
   open_thread_token : ScriptCall
   open_process_token : ScriptCall
   query_information_token : ℕ → ℕ → ScriptCall
+  set_information_process : ProcArg → ℕ → ℕ → ScriptCall
+  raise : ℕ → Bool → ScriptCall
 
 -- a line about the server that sits on a thread: it comes, of a kind, to serve the port of a handle; or it is to make its next
 -- call
@@ -94,6 +96,8 @@ call_of (call.SetInformationThread class) = set_information_thread class
 call_of call.OpenThreadToken = open_thread_token
 call_of call.OpenProcessToken = open_process_token
 call_of (call.QueryInformationToken handle class) = query_information_token handle class
+call_of (call.SetInformationProcess target class port) = set_information_process target class port
+call_of (call.Raise code handled) = raise code handled
 
 abbrev pub line_of : Line → ScriptLine
 line_of (line.Boot pid tid name) = boot pid tid (option_copied name)

@@ -7,10 +7,7 @@ use Rattle.lpc_names.specs.declared.names.Found.TheVariants.{Directory, Item}
 use Rattle.lpc_model.specs.Found.{is_offered, is_port, is_the, pair_of, port_name, port_row, process_name, section_name, thread_name, token_name}
 use Rattle.std.specs.List.{AllByRecursion}
 use Rattle.lpc_model.specs.Sweep.{is_unheld}
-use Rattle.lpc_model.specs.Lines.{ScriptLine}
-use Rattle.lpc_model.specs.Machine.{step}
 use Rattle.lpc_model.specs.Run.{run_of}
-use Rattle.lpc_model.specs.SoundWaits.{HasShutConnects, IsSoundWorld}
 
 -- a port has neither another end nor a connection port
 abbrev pub names_nothing : PortRow → Bool
@@ -78,13 +75,6 @@ pub record HasHeldRows (w : World) : Type 0 where
   pub lives : AreLivesHeld w
   pub sections : HasHeldSections w
   pub tokens : HasHeldTokens w
-
--- the step of each line keeps ports linked, and leaves no object that no row counts for, where no connect waits on an
--- open port
-abbrev pub StepsHoldRows : Type 0
-StepsHoldRows =
-    (w : World) (line : ScriptLine) → IsSoundWorld w → HasShutConnects w → IsLinked w →
-    IsLinked (step w line).world × HasHeldRows (step w line).world
 
 -- behind each line of a script some row counts for each object that stands
 abbrev pub RunHoldsRows : List ℕ → Type 0

@@ -6,7 +6,7 @@ use Rattle.lpc_model.specs.declared.entry.Entry.{Entry}
 use Rattle.lpc_model.specs.declared.entry.Entry.TheVariants.{Answer, Busy, Directive, NoThread}
 use Rattle.lpc_model.specs.declared.entry.Word.{Word}
 use Rattle.lpc_model.specs.declared.entry.Word.TheVariants as word
-use Rattle.lpc_model.specs.declared.entry.CallName.TheVariants.{NtAcceptConnectPort, NtCompleteConnectPort, NtConnectPort, NtCreatePort, NtListenPort, NtReplyPort, NtReplyWaitReceivePort, NtRequestPort, NtRequestWaitReplyPort, NtRegisterThreadTerminatePort, NtClose, NtDuplicateObject, NtQueryObject, NtCreateProcess, NtCreateThread, NtTerminateProcess, NtTerminateThread, NtCreateSection, NtMapViewOfSection, NtUnmapViewOfSection, NtReadVirtualMemory, NtWriteVirtualMemory, NtReadRequestData, NtWriteRequestData, NtImpersonateClientOfPort, NtSetInformationThread, NtOpenThreadToken, NtOpenProcessToken, NtQueryInformationToken}
+use Rattle.lpc_model.specs.declared.entry.CallName.TheVariants.{NtAcceptConnectPort, NtCompleteConnectPort, NtConnectPort, NtCreatePort, NtListenPort, NtReplyPort, NtReplyWaitReceivePort, NtRequestPort, NtRequestWaitReplyPort, NtRegisterThreadTerminatePort, NtClose, NtDuplicateObject, NtQueryObject, NtCreateProcess, NtCreateThread, NtTerminateProcess, NtTerminateThread, NtCreateSection, NtMapViewOfSection, NtUnmapViewOfSection, NtReadVirtualMemory, NtWriteVirtualMemory, NtReadRequestData, NtWriteRequestData, NtImpersonateClientOfPort, NtSetInformationThread, NtOpenThreadToken, NtOpenProcessToken, NtQueryInformationToken, NtSetInformationProcess, Raise}
 use Rattle.lpc_sid.specs.WellKnown.{system_token}
 use Rattle.lpc_model.specs.Refusal.{found_or, refuse_if}
 use Rattle.lpc_model.specs.Then.{◌>>=◌}
@@ -22,6 +22,8 @@ use Rattle.lpc_model.specs.Impersonation.{nt_impersonate_client_of_port, nt_open
 use Rattle.lpc_model.specs.Ranges.{nt_read_request_data, nt_write_request_data}
 use Rattle.lpc_model.specs.Register.{nt_register_thread_terminate_port}
 use Rattle.lpc_model.specs.Death.{nt_terminate_process, nt_terminate_thread}
+use Rattle.lpc_model.specs.Raise.{nt_set_information_process, raise_exception}
+use Rattle.lpc_model.specs.Settle.{settle}
 pub use Rattle.lpc_model.specs.Creation.{new_process, new_thread, thread_count_test, thread_test, unused_test, unused_thread_test}
 use Rattle.lpc_model.specs.Creation.{nt_create_process, nt_create_thread}
 pub use Rattle.lpc_model.specs.Tests.{live_test}
@@ -29,7 +31,7 @@ use Rattle.lpc_model.specs.Named.{free_name, spelled_name}
 use Rattle.lpc_names.specs.Walk.{LinkTo, Stands}
 use Rattle.lpc_names.specs.declared.names.Found.TheVariants.{Directory}
 use Rattle.lpc_model.specs.Request.{nt_reply_port, nt_reply_wait_receive_port, nt_request_port, nt_request_wait_reply_port}
-use Rattle.lpc_model.specs.Lines.{ScriptCall, create_port, connect_port, listen_port, accept_connect_port, complete_connect_port, request_port, request_wait_reply_port, reply_port, reply_wait_receive_port, register_thread_terminate_port, close, duplicate_object, query_object, create_process, create_thread, terminate_process, terminate_thread, create_section, map_view_of_section, unmap_view_of_section, read_virtual_memory, write_virtual_memory, read_request_data, write_request_data, impersonate_client_of_port, set_information_thread, open_thread_token, open_process_token, query_information_token, ScriptLine, boot, thread, token, dir, link, of_resident, run, ResidentLine, hosts, moves}
+use Rattle.lpc_model.specs.Lines.{ScriptCall, create_port, connect_port, listen_port, accept_connect_port, complete_connect_port, request_port, request_wait_reply_port, reply_port, reply_wait_receive_port, register_thread_terminate_port, close, duplicate_object, query_object, create_process, create_thread, terminate_process, terminate_thread, create_section, map_view_of_section, unmap_view_of_section, read_virtual_memory, write_virtual_memory, read_request_data, write_request_data, impersonate_client_of_port, set_information_thread, open_thread_token, open_process_token, query_information_token, ScriptLine, boot, thread, token, dir, link, run, set_information_process, raise, of_resident, ResidentLine, hosts, moves}
 
 -- the name of a call
 abbrev pub name_of_call : ScriptCall → CallName
@@ -62,6 +64,8 @@ name_of_call (set_information_thread class) = NtSetInformationThread
 name_of_call open_thread_token = NtOpenThreadToken
 name_of_call open_process_token = NtOpenProcessToken
 name_of_call (query_information_token handle class) = NtQueryInformationToken
+name_of_call (set_information_process target class port) = NtSetInformationProcess
+name_of_call (raise code handled) = Raise
 
 -- the service that serves a call
 abbrev pub service_of : World → ThreadRow → ScriptCall → Result (List Basic) Status
@@ -95,6 +99,8 @@ service_of w by (set_information_thread class) = nt_set_information_thread w by 
 service_of w by open_thread_token = nt_open_thread_token w by
 service_of w by open_process_token = nt_open_process_token w by
 service_of w by (query_information_token handle class) = nt_query_information_token w by handle class
+service_of w by (set_information_process target class port) = nt_set_information_process w by target class port
+service_of w by (raise code handled) = raise_exception w by code handled
 
 -- a refusal is one answer, and changes nothing
 abbrev pub settled : ThreadRow → CallName → Result (List Basic) Status → List Basic
@@ -191,17 +197,21 @@ resident_entry w tid (hosts kind handle) had = Directive word.Resident (hosting_
 resident_entry w tid moves had = idle_entry tid (live_thread w tid) had
 
 -- Lines
--- what a line does in a world, before rows go
-unfoldable pub bare_steps : ScriptLine → Steps
-bare_steps (boot pid tid name) w = directed word.Boot (boot_line w pid tid name)
-bare_steps (thread tid pid) w = directed word.Thread (thread_line w tid pid)
-bare_steps (token name content) w = directed word.Token (token_line w name content)
-bare_steps (dir path) w = directed word.Dir (dir_line w path)
-bare_steps (link path target) w = directed word.Link (link_line w path target)
-bare_steps (of_resident tid what had) w = Tells (resident_entry w tid what had) ∷ []
-bare_steps (run tid call) w = thread_steps tid call (live_thread w tid) w
+-- what the directive or call of a line does in a world
+unfoldable pub own_steps : ScriptLine → Steps
+own_steps (boot pid tid name) w = directed word.Boot (boot_line w pid tid name)
+own_steps (thread tid pid) w = directed word.Thread (thread_line w tid pid)
+own_steps (token name content) w = directed word.Token (token_line w name content)
+own_steps (dir path) w = directed word.Dir (dir_line w path)
+own_steps (link path target) w = directed word.Link (link_line w path target)
+own_steps (of_resident tid what had) w = Tells (resident_entry w tid what had) ∷ []
+own_steps (run tid call) w = thread_steps tid call (live_thread w tid) w
 
--- what a line does in a world: its call or directive, and then the objects go that no row counts for
+-- what a line does in a world, before rows go: its directive or call, and then the world settles
+unfoldable pub bare_steps : ScriptLine → Steps
+bare_steps line = own_steps line ▹ settle
+
+-- what a line does in a world: all this, and then the objects go that no row counts for
 abbrev pub steps : ScriptLine → Steps
 steps line = bare_steps line ▹ sweep
 

@@ -4,11 +4,7 @@ use Rattle.std.specs.List.{AllByRecursion}
 use Rattle.lpc_base.specs.Rows.{every}
 use Rattle.lpc_model.specs.World.{World}
 use Rattle.lpc_model.specs.Found.{is_open, is_taken}
-use Rattle.lpc_model.specs.Lines.{ScriptLine}
-use Rattle.lpc_model.specs.Machine.{step}
 use Rattle.lpc_model.specs.Run.{run_of}
-use Rattle.lpc_model.specs.Linked.{IsLinked}
-use Rattle.lpc_model.specs.SoundWaits.{HasShutConnects, IsSoundWorld}
 
 -- the queue of each message is that of an open port, and so is that of each wait that isn't received; a connect that is
 -- accepted was received
@@ -16,12 +12,6 @@ pub record HasOpenQueues (w : World) : Type 0 where
   pub messages : every (λ m. is_open w m.queue) w.messages ≡ true
   pub waits : every (λ x. x.received || is_open w x.queue) w.waits ≡ true
   pub accepts : every is_taken w.waits ≡ true
-
--- the step of each line keeps that in a sound world whose ports are linked, and where no connect waits on an open port
-abbrev pub StepsKeepQueuesOpen : Type 0
-StepsKeepQueuesOpen =
-    (w : World) (line : ScriptLine) → IsSoundWorld w → HasShutConnects w → IsLinked w → HasOpenQueues w →
-    HasOpenQueues (step w line).world
 
 -- each line of a script leaves a world whose queues are open
 abbrev pub RunKeepsQueuesOpen : List ℕ → Type 0

@@ -1,14 +1,14 @@
 -- The ranges of memory that a request describes, and how its server reads and writes the client's bytes there.
 use Rattle.std.specs.Prelude.{ℕ, ◌&&◌, List, [], ◌∷◌, length, nat_le, not, Option, None, is_some, Result, Ok, if◌then◌else◌}
 use Rattle.lpc_base.specs.declared.status.Status.{Status}
-use Rattle.lpc_base.specs.declared.status.TheConstants.{ACCESS_VIOLATION, INVALID_PARAMETER, SUCCESS}
+use Rattle.lpc_base.specs.declared.status.TheConstants.{ACCESS_VIOLATION, INVALID_PARAMETER, REPLY_MESSAGE_MISMATCH, SUCCESS}
 use Rattle.lpc_message.specs.Layout.{fault_of, range_at}
 use Rattle.lpc_message.specs.declared.message.Range.{Range}
 use Rattle.lpc_model.specs.declared.entry.CallName.TheVariants.{NtReadRequestData, NtWriteRequestData}
 use Rattle.lpc_model.specs.declared.entry.Entry.TheVariants.{Answer}
 use Rattle.lpc_model.specs.Basics.{Basic, Tells, Writes}
 use Rattle.lpc_model.specs.Fields.{bytes_read}
-use Rattle.lpc_model.specs.Found.{view_holding}
+use Rattle.lpc_model.specs.Found.{is_event, view_holding}
 use Rattle.lpc_model.specs.Memory.{bytes_at, is_transfer, place_in}
 use Rattle.lpc_model.specs.Message.{bytes_of, message_test}
 use Rattle.lpc_model.specs.Refusal.{found_or, refuse_if}
@@ -17,13 +17,19 @@ use Rattle.lpc_model.specs.Tests.{port_test}
 use Rattle.lpc_model.specs.Then.{◌>>=◌}
 use Rattle.lpc_model.specs.World.{Contents, Request, ThreadRow, ViewRow, WaitRow, World}
 
+-- an event is no request: it describes no bytes
+abbrev pub request_test : WaitRow → Result Unit Status
+request_test x = refuse_if (is_event x) REPLY_MESSAGE_MISMATCH
+
 -- the request that a message fits through the port of a handle, as a reply's does: the handle, the message, no such
--- client, a message that fits no wait
+-- client, a message that fits no wait, an event
 abbrev pub asked_test : World → ThreadRow → ℕ → List ℕ → Result WaitRow Status
 asked_test w by handle bytes = do
   port ← port_test w by handle
   m ← message_test bytes
-  reply_test w port m
+  x ← reply_test w port m
+  _ ← request_test x
+  Ok x
 
 -- a range of a message, by its number: an entry of its range table, which bytes without a lawful shape don't have
 abbrev pub range_in : List ℕ → ℕ → Option Range
@@ -62,8 +68,8 @@ abbrev pub read_range_steps : Contents → ThreadRow → ℕ → Described → L
 read_range_steps contents by n d =
     Tells (Answer by.number NtReadRequestData SUCCESS (bytes_read (bytes_at contents d.view d.address n) ∷ [])) ∷ []
 
--- NtReadRequestData: the handle, the message, no such client, a message that fits no wait, no such range, none or too
--- many bytes, no one view of the client that holds them
+-- NtReadRequestData: the handle, the message, no such client, a message that fits no wait, an event, no such range, none
+-- or too many bytes, no one view of the client that holds them
 unfoldable pub nt_read_request_data : World → ThreadRow → ℕ → List ℕ → ℕ → ℕ → Result (List Basic) Status
 nt_read_request_data w by handle bytes index n = do
   d ← described_test w by handle bytes index n

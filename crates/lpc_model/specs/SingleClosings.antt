@@ -4,12 +4,9 @@ use Rattle.std.specs.List.{AllByRecursion}
 use Rattle.lpc_base.specs.Rows.{count, every, has}
 use Rattle.lpc_model.specs.World.{Birth, MessageRow, World}
 use Rattle.lpc_model.specs.Found.{is_open, is_sent_on}
-use Rattle.lpc_model.specs.Lines.{ScriptLine}
-use Rattle.lpc_model.specs.Machine.{step}
 use Rattle.lpc_model.specs.Run.{run_of}
 use Rattle.lpc_model.specs.Closings.{is_closed_post}
-use Rattle.lpc_model.specs.Standing.{NamesWhatStands}
-use Rattle.lpc_model.specs.SoundWaits.{HasShutConnects, IsSoundWorld, is_connect_on}
+use Rattle.lpc_model.specs.SoundWaits.{HasShutConnects, is_connect_on}
 
 -- a message tells that this port is closed
 abbrev pub is_closing_of : Birth → MessageRow → Bool
@@ -25,11 +22,6 @@ pub record HasSingleClosings (w : World) : Type 0 where
   pub closed : every (λ m. not (is_closed_post m) || is_shut w m.sender) w.messages ≡ true
   pub once : (b : Birth) → count (is_closing_of b) w.messages ≤ 1
   pub connects : HasShutConnects w
-
--- the step of each line keeps that in a sound world in which what rows name stands
-abbrev pub StepsKeepSingleClosings : Type 0
-StepsKeepSingleClosings =
-    (w : World) (line : ScriptLine) → IsSoundWorld w → NamesWhatStands w → HasSingleClosings w → HasSingleClosings (step w line).world
 
 -- each line of a script leaves such a world
 abbrev pub RunHasSingleClosings : List ℕ → Type 0

@@ -7,10 +7,7 @@ use Rattle.lpc_base.specs.declared.limits.TheConstants.{ALLOCATION_GRANULARITY, 
 use Rattle.lpc_model.specs.World.{Birth, ContentRow, Contents, Known, Offer, SectionRow, Unknown, ViewRow, WaitRow, World}
 use Rattle.lpc_model.specs.Found.{offer_of, section_row, views_of}
 use Rattle.lpc_model.specs.Linked.{passes_or_none}
-use Rattle.lpc_model.specs.Lines.{ScriptLine}
-use Rattle.lpc_model.specs.Machine.{step}
 use Rattle.lpc_model.specs.Run.{run_of}
-use Rattle.lpc_model.specs.SoundWaits.{HasShutConnects, IsSoundWorld}
 
 -- Sections
 -- a section has whole pages, one at least, and not too many
@@ -75,17 +72,6 @@ pub record HasSoundViews (w : World) : Type 0 where
   pub sizes : every is_sized w.sections ≡ true
   pub tables : map (λ t. t.process) w.views ≡ map (λ t. t.process) w.handles
   pub views : (pid : ℕ) → AreSoundViews w (views_of w pid)
-
--- the step of each line keeps both in a sound world, where no connect waits on an open port
-abbrev pub StepsKeepViews : Type 0
-StepsKeepViews =
-    (w : World) (line : ScriptLine) → IsSoundWorld w → HasShutConnects w → HasSoundOffers w → HasSoundViews w →
-    HasSoundViews (step w line).world
-
-abbrev pub StepsKeepOffers : Type 0
-StepsKeepOffers =
-    (w : World) (line : ScriptLine) → IsSoundWorld w → HasShutConnects w → HasSoundViews w → HasSoundOffers w →
-    HasSoundOffers (step w line).world
 
 -- so behind each line of a script
 abbrev pub RunKeepsViews : List ℕ → Type 0

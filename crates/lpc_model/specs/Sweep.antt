@@ -3,7 +3,7 @@ use Rattle.std.specs.Prelude.{Bool, true, false, List, [], ◌∷◌, map, ◌==
 use Rattle.lpc_base.specs.Rows.{which}
 use Rattle.lpc_model.specs.World.{ObjectName, World}
 use Rattle.lpc_model.specs.Found.{object_names, pointer_count}
-use Rattle.lpc_model.specs.Basics.{Accepts, Basic, Cuts, Dies, DropsHandle, DropsOwned, DropsViewsOf, Empties, Frees, Joins, Steps, Takes, TakesConnect, Unmaps, Unregisters, Wakes, Withdraws, ◌▹◌}
+use Rattle.lpc_model.specs.Basics.{Accepts, Basic, Cuts, Dies, DropsHandle, DropsOwned, DropsViewsOf, Empties, Frees, Joins, Leaves, LetsGo, SetsDebug, SetsException, Steps, Takes, TakesConnect, Unmaps, Unregisters, Wakes, Withdraws, ◌▹◌}
 
 -- no row counts for the object
 abbrev pub is_unheld : World → ObjectName → Bool
@@ -27,6 +27,10 @@ abbrev pub loosens : Basic → Bool
 loosens (Wakes who call status fields) = true
 loosens (Dies who status) = true
 loosens (Accepts who a) = true
+loosens (Leaves who) = true
+loosens (LetsGo pid) = true
+loosens (SetsDebug pid b) = true
+loosens (SetsException pid b) = true
 loosens (Takes q) = true
 loosens (TakesConnect q) = true
 loosens (Withdraws who) = true

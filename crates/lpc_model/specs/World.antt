@@ -19,13 +19,17 @@ pub record ObjectName : Type 0 where
   pub kind : ObjectKind
   pub birth : Birth
 
--- a process, with the process that made it, none where a directive did, and with its token; it is live where it has a
--- live thread
+-- A process, with the process that made it, none where a directive did, and with its token; it is live where it has a
+-- live thread. The ports that are told of its exceptions; and the code with which it is to end, once one of its
+-- exceptions wasn't handled.
 pub record ProcessRow : Type 0 where
   pub number : ℕ
   pub maker : Option ℕ
   pub birth : Birth
   pub token : Token
+  pub debug_port : Option Birth
+  pub exception_port : Option Birth
+  pub doom : Option ℕ
 
 -- a thread of a process; whether it is live, or has ended; the message identifier that it draws next and the ordinal of
 -- what it makes next, both from 1; the ports that are to be told of its end, in the order in which it registered them; the
@@ -106,15 +110,29 @@ pub record Acceptance : Type 0 where
   pub vbase : Option ℕ
   pub vsize : Option ℕ
 
+-- A chance that an exception has at a port: at the debug port before the frame handlers, and behind them; at the
+-- exception port at last.
+pub data Chance : Type 0 where
+  FirstDebug : Chance
+  LastDebug : Chance
+  LastException : Chance
+
+-- an exception that was raised: its code, whether the frame handlers handle it, and the chance that it has now
+pub record Raised : Type 0 where
+  pub code : ℕ
+  pub handled : Bool
+  pub chance : Chance
+
 -- What a thread waits for: the reply to its request, which is kept as it was sent; a message; a connection request; the
--- answer to its connect, whose connection request is kept too, with what it offers; and, once that was accepted, its
--- completion, with what that tells.
+-- answer to its connect, whose connection request is kept too, with what it offers; once that was accepted, its
+-- completion, with what that tells; what is made of the event of its exception.
 pub data WaitKind : Type 0 where
   Request : Message → WaitKind
   Receive : WaitKind
   Listen : WaitKind
   Connect : Message → Option Offer → WaitKind
   Accepted : Message → Acceptance → WaitKind
+  Event : Raised → WaitKind
 
 -- The wait of a thread, which has one at most: its call; the port on which the call was made, for a connect the client
 -- port that it made; the queue that the request entered or on which a receive or listen waits; the identifier of the
@@ -164,8 +182,9 @@ pub record ViewTable : Type 0 where
 
 -- Handles and views stand by process in order of making; in each process handles are by value, views in order of mapping.
 -- Every other list is in order of making. A number that was used is never removed from the used ones, nor a process's
--- table of handles or of views. The name space binds paths to directories, to links, and to ports by their births. The
--- bytes of sections stand apart from their rows. The name of a token never goes.
+-- table of handles or of views. The marks are the threads whose event wasn't handled and hasn't gone on yet, in order of
+-- marking. The name space binds paths to directories, to links, and to ports by their births. The bytes of sections stand
+-- apart from their rows. The name of a token never goes.
 pub record World : Type 0 where
   pub processes : List ProcessRow
   pub threads : List ThreadRow
@@ -175,6 +194,7 @@ pub record World : Type 0 where
   pub ports : List PortRow
   pub messages : List MessageRow
   pub waits : List WaitRow
+  pub marks : List ℕ
   pub bindings : Bindings Birth
   pub sections : List SectionRow
   pub contents : Contents
@@ -193,6 +213,7 @@ no_rows = record {
   ports = [];
   messages = [];
   waits = [];
+  marks = [];
   bindings = [];
   sections = [];
   contents = Known [];

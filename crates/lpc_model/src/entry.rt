@@ -45,11 +45,13 @@ pub enum CallName {
     NtOpenThreadToken,
     NtOpenProcessToken,
     NtQueryInformationToken,
+    NtSetInformationProcess,
+    Raise,
 }
 
 impl CallName {
     /// Each call, in the order in which the grammar lists them.
-    pub const ALL: [CallName; 29] = [
+    pub const ALL: [CallName; 31] = [
         CallName::NtCreatePort,
         CallName::NtConnectPort,
         CallName::NtListenPort,
@@ -79,6 +81,8 @@ impl CallName {
         CallName::NtOpenThreadToken,
         CallName::NtOpenProcessToken,
         CallName::NtQueryInformationToken,
+        CallName::NtSetInformationProcess,
+        CallName::Raise,
     ];
 
     /// The name of the call, as scripts and transcripts spell it.
@@ -115,6 +119,8 @@ impl CallName {
             CallName::NtOpenThreadToken => b"NtOpenThreadToken",
             CallName::NtOpenProcessToken => b"NtOpenProcessToken",
             CallName::NtQueryInformationToken => b"NtQueryInformationToken",
+            CallName::NtSetInformationProcess => b"NtSetInformationProcess",
+            CallName::Raise => b"raise",
         }
     }
 }

@@ -2,22 +2,23 @@
 ghost use Rattle.std.specs.Prelude.{ℕ, List};
 ghost use Rattle.lpc_model.specs.World.{World, no_rows};
 ghost use Rattle.lpc_model.specs.Accounts.{RunAccountsForDeaths, RunAccountsForMessages};
-ghost use Rattle.lpc_model.specs.Linked.{IsLinked, RunHoldsRows, StepsHoldRows};
-ghost use Rattle.lpc_model.specs.Standing.{NamesWhatStands, RunNamesWhatStands, StepsNameWhatStands};
-ghost use Rattle.lpc_model.specs.OpenQueues.{HasOpenQueues, RunKeepsQueuesOpen, StepsKeepQueuesOpen};
+ghost use Rattle.lpc_model.specs.Linked.{IsLinked, RunHoldsRows};
+ghost use Rattle.lpc_model.specs.Standing.{NamesWhatStands, RunNamesWhatStands};
+ghost use Rattle.lpc_model.specs.OpenQueues.{HasOpenQueues, RunKeepsQueuesOpen};
 ghost use Rattle.lpc_model.specs.Closings.{RunTellsClosings};
 ghost use Rattle.lpc_model.specs.Clients.{RefusesUnservedAlone, RunHasAllowingClients, RunHasClientEnds, RunRefusesUnservedAlone};
 ghost use Rattle.lpc_model.specs.Creators.{RunKeepsConnects};
 ghost use Rattle.lpc_model.specs.Deaths.{RunHasLivingRegistrations, RunHasSingleRegistrations, RunTellsDeaths};
+ghost use Rattle.lpc_model.specs.AtRest.{StepsHoldRows, StepsKeepOffers, StepsKeepQueuesOpen, StepsKeepSingleClosings, StepsKeepViews, StepsNameWhatStands, StepsSettle, StepsStaySound};
 ghost use Rattle.lpc_model.specs.Lawful.{IsLawfulWorld, StepsKeepLaws};
 ghost use Rattle.lpc_model.specs.Leaving.{RunEmptiesWithHandles, RunWithdrawsWithWaits};
 ghost use Rattle.lpc_model.specs.Left.{RunLeavesNothing};
-ghost use Rattle.lpc_model.specs.SingleClosings.{HasSingleClosings, RunHasSingleClosings, StepsKeepSingleClosings};
+ghost use Rattle.lpc_model.specs.SingleClosings.{HasSingleClosings, RunHasSingleClosings};
 ghost use Rattle.lpc_model.specs.Limits.{LimitsChildren, LimitsDatagrams, LimitsHandles, LimitsInfo, LimitsMessages, LimitsRegistrations, LimitsSections, LimitsThreads, LimitsTwoHandles, LimitsViews};
 ghost use Rattle.lpc_model.specs.Connected.{ConnectedPortsReachEachOther};
 ghost use Rattle.lpc_model.specs.Queues.{FirstWaiterTakes, QueuesAreFirstInFirstOut};
-ghost use Rattle.lpc_model.specs.SoundViews.{HasSoundOffers, HasSoundViews, RunKeepsOffers, RunKeepsViews, StepsKeepOffers, StepsKeepViews};
-ghost use Rattle.lpc_model.specs.SoundWaits.{HasSoundWaits, IsSoundWorld, RefusesCutPairsAlone, RunRefusesCutPairsAlone, RunStaysSound, StepsStaySound};
+ghost use Rattle.lpc_model.specs.SoundViews.{HasSoundOffers, HasSoundViews, RunKeepsOffers, RunKeepsViews};
+ghost use Rattle.lpc_model.specs.SoundWaits.{HasSoundWaits, IsSoundWorld, RefusesCutPairsAlone, RunRefusesCutPairsAlone, RunStaysSound};
 
 /// In every script each waiting thread waits for what can still come, and hasn't come.
 ///
@@ -25,10 +26,13 @@ ghost use Rattle.lpc_model.specs.SoundWaits.{HasSoundWaits, IsSoundWorld, Refuse
 /// its queue and that queue's port is open, and once it is, its answer has a way back. A receive or listen was made on
 /// an open port, and its open queue holds nothing that it would take. A connect that isn't accepted has an open
 /// connection port, in whose queue its request stands until it is received; an accepted one has a pair, whose server
-/// port is open. That is so before the first line and behind each line.
+/// port is open. That is so before the first line and behind each line. An event is a request
+/// here: of one that wasn't handled the line's settling makes what comes next, so that behind each
+/// line no event is marked, and no process that is to end lives.
 pub fn law_sound_waits()
     ensures first { IsSoundWorld no_rows }
     ensures steps { StepsStaySound }
+    ensures settles { StepsSettle }
     ensures waits { (w : World) → IsSoundWorld w → HasSoundWaits w }
     ensures runs { (script : List ℕ) → RunStaysSound script }
 {}
@@ -61,8 +65,9 @@ pub fn law_impersonation_refuses_unserved()
 /// An object that no row counts for any longer goes at the end of the line in two passes; two are
 /// enough. Each handle names an object that stands, each queued message was sent on one, each wait
 /// was made on one: its queue is that of this port, of its connection port or, for a request, of
-/// its other end; live threads registered ports that stand, and each view shows a section that
-/// stands, and is owned by no port or by one that stands. So no row is left that names a port or a
+/// its other end; live threads registered ports that stand, processes are told of by ports that
+/// stand, where they raise exceptions, and each view shows a section that stands, and is owned by no
+/// port or by one that stands. So no row is left that names a port or a
 /// section that went. Before the first line none stands.
 pub fn law_held_objects()
     ensures first { IsLinked no_rows }
@@ -110,8 +115,9 @@ pub fn law_closings_are_told()
 /// For each thread that ends and each port that it registered exactly one such message enters the
 /// port's route, where the port is then open and has one, and no other does. It is sent on that
 /// port, in the name of the thread, and its data are the maker and the ordinal of the thread's
-/// birth. The registrations go then, and all this comes behind the last thread that ends in the
-/// line, and before a handle goes or a port begins to close in it. Behind each line no port is
+/// birth. The registrations go then, and all this comes behind the last thread that ends by the
+/// line's own steps, and before a handle goes or a port begins to close by them; and so it is in each
+/// turn of the line's settling, where one process ends behind the other. Behind each line no port is
 /// registered twice with a thread, and a thread that has ended has no registrations. The handles
 /// that go with processes close ports as others do: each is told of once, where it is to be. Each
 /// message of either kind stands in the queue that it entered, was received from it, or was lost
@@ -150,9 +156,10 @@ pub fn law_views()
 /// as stand in the queue, were shown as received from it, and were lost when its port closed. So it
 /// is with datagrams, and with what tells of closed ports and of threads that ended. Each line
 /// empties the queues of the ports that lose their last handles in it, once for each, and no other:
-/// so no message is lost while its port is open. Requests and connection requests may leave their
-/// queue as well where their thread's wait ends: a line withdraws the message of a thread only where
-/// it wakes or ends that thread.
+/// so no message is lost while its port is open. What settling shows as received was waited for when
+/// it began. Requests, connection requests and events may leave their queue as well where their
+/// thread's wait ends: a line withdraws the message of a thread only where it wakes or ends that
+/// thread, or marks its event.
 pub fn law_messages_are_accounted_for()
     ensures runs { (script : List ℕ) → RunAccountsForMessages script }
     ensures emptied { (script : List ℕ) → RunEmptiesWithHandles script }
@@ -166,7 +173,7 @@ pub fn law_messages_are_accounted_for()
 /// has one row, an ended one has no registrations, and no port is registered twice with one. Only
 /// living processes have handles and views, and a connection has one open end at least. Views lie in
 /// their sections, and apart. A client port allows its server something, and the other end of a
-/// server port is a client port. What the calls that close and end ask of the rows is part of it.
+/// server port is a client port. No event is marked, and no process that is to end lives. What the calls that close and end ask of the rows is part of it.
 pub fn law_lawful_worlds()
     ensures first { IsLawfulWorld no_rows }
     ensures steps { StepsKeepLaws }

@@ -182,6 +182,18 @@ pub enum Call<'a> {
         handle: u32,
         class: u32,
     },
+    /// `NtSetInformationProcess H|self CLASS PORT`: gives a process its debug port, class 7, or its exception port,
+    /// class 8.
+    SetInformationProcess {
+        process: ProcArg,
+        class: u32,
+        port: u32,
+    },
+    /// `raise CODE handled|unhandled`: raises an exception, which the frame handlers would handle or not.
+    Raise {
+        code: u32,
+        handled: bool,
+    },
 }
 
 /// The kinds of resident: what kind of server sits on a thread, spelled by a word.

@@ -9,14 +9,14 @@ use Rattle.lpc_base.specs.Rows.{count, every, which, without, without_first}
 use Rattle.lpc_base.specs.declared.birth.Birth.{Birth}
 use Rattle.lpc_base.proofs.Bools.{first-true}
 use Rattle.lpc_base.proofs.RowWords.{count-append}
-use Rattle.lpc_message.specs.declared.kind.TheConstants.{CONNECTION_REQUEST, REQUEST}
+use Rattle.lpc_message.specs.declared.kind.TheConstants.{CONNECTION_REQUEST, DEBUG_EVENT, EXCEPTION, REQUEST}
 use Rattle.lpc_model.specs.declared.entry.Entry.{Entry}
 use Rattle.lpc_model.specs.declared.entry.Entry.TheVariants as entry
 use Rattle.lpc_model.specs.declared.entry.Field.{Field}
 use Rattle.lpc_model.specs.declared.entry.ObjectKind.{ObjectKind}
 use Rattle.lpc_model.specs.declared.entry.ObjectKind.TheVariants as kind
 use Rattle.lpc_model.specs.World.{MessageRow, World}
-use Rattle.lpc_model.specs.Message.{asks, bytes_of, is_connection_request, message_of}
+use Rattle.lpc_model.specs.Message.{asks, bytes_of, is_connection_request, message_of, tells_event}
 use Rattle.lpc_model.specs.Found.{is_own_of, is_queued, is_queued_connect, same_birth}
 use Rattle.lpc_model.specs.Basics.{Basic, Empties, Enters, Frees, Takes, TakesConnect, Tells, Wakes, Withdraws, basic, entries_of, freed, posted, posts_of, told, world_after}
 use Rattle.lpc_model.specs.Lines.{ScriptLine}
@@ -32,9 +32,17 @@ asking-shown : (m : MessageRow) → asks m.message ≡ true → asks (message_of
 unfolding bytes_of
 asking-shown m is = at (m.message.header.kind == REQUEST) refl is
   where
-    at : (r : Bool) → (m.message.header.kind == REQUEST) ≡ r → (r || (m.message.header.kind == CONNECTION_REQUEST)) ≡ true → asks (message_of (bytes_of m.message)) ≡ true
+    at : (r : Bool) → (m.message.header.kind == REQUEST) ≡ r → (r || ((m.message.header.kind == CONNECTION_REQUEST) || ((m.message.header.kind == EXCEPTION) || (m.message.header.kind == DEBUG_EVENT)))) ≡ true → asks (message_of (bytes_of m.message)) ≡ true
     at true request is = let k : m.message.header.kind ≡ REQUEST = eqb-true _ _ request in rw k refl
-    at false other is = let k : m.message.header.kind ≡ CONNECTION_REQUEST = eqb-true _ _ is in rw k refl
+    at false other is = next (m.message.header.kind == CONNECTION_REQUEST) refl is
+      where
+        last : (c : Bool) → (m.message.header.kind == EXCEPTION) ≡ c → (c || (m.message.header.kind == DEBUG_EVENT)) ≡ true → asks (message_of (bytes_of m.message)) ≡ true
+        last true one is = let k : m.message.header.kind ≡ EXCEPTION = eqb-true _ _ one in rw k refl
+        last false off is = let k : m.message.header.kind ≡ DEBUG_EVENT = eqb-true _ _ is in rw k refl
+
+        next : (c : Bool) → (m.message.header.kind == CONNECTION_REQUEST) ≡ c → (c || ((m.message.header.kind == EXCEPTION) || (m.message.header.kind == DEBUG_EVENT))) ≡ true → asks (message_of (bytes_of m.message)) ≡ true
+        next true one is = let k : m.message.header.kind ≡ CONNECTION_REQUEST = eqb-true _ _ one in rw k refl
+        next false off is = last (m.message.header.kind == EXCEPTION) refl is
 
 bytes-same : (xs ys : List ℕ) → bytes_eq xs ys ≡ true → xs ≡ ys
 bytes-same xs ys is = let decides = bytes_eq-Decides xs ys in decides.0 is
@@ -117,8 +125,8 @@ freed-messages w kind.Token b = refl
 freed-messages w kind.Process b = refl
 freed-messages w kind.Thread b = refl
 
-asks-for : (q r c : Bool) → (q && c) ≡ true → (r || c) ≡ true
-asks-for q r c is = grind arith
+asks-for : (q r c e : Bool) → (q && c) ≡ true → (r || (c || e)) ≡ true
+asks-for q r c e is = grind arith
 
 module _ (s : Receipt) (quiet : asks (message_of s.bytes) ≡ false) (w : World) (line : ScriptLine) where
   abbrev pub received : List Entry → ℕ
@@ -148,7 +156,7 @@ module _ (s : Receipt) (quiet : asks (message_of s.bytes) ≡ false) (w : World)
   level-step : (v : World) (b : Basic) → is_level b ≡ true → standing s v + count (has_receipt s) (posted b) ≡ standing s (basic v b) + loses s v b
   level-step v (Enters m) is = let sum = count-append (has_receipt s) v.messages (m ∷ []) in omega arith
   level-step v (TakesConnect queue) is =
-      let same = count-kept_first (has_receipt s) (is_queued_connect queue) (λ m is. quiet-receipt s quiet m (asks-for (same_birth m.queue queue) (m.message.header.kind == REQUEST) (is_connection_request m.message) is)) v.messages in omega arith
+      let same = count-kept_first (has_receipt s) (is_queued_connect queue) (λ m is. quiet-receipt s quiet m (asks-for (same_birth m.queue queue) (m.message.header.kind == REQUEST) (is_connection_request m.message) (tells_event m.message) is)) v.messages in omega arith
   level-step v (Withdraws who) is =
       let same = count-kept (has_receipt s) (is_own_of who) (λ m is. quiet-receipt s quiet m (first-true (asks m.message) (m.message.header.client.thread == who) is)) v.messages in omega arith
   level-step v (Empties queue) is = let parts = count-parts (has_receipt s) (is_queued queue) v.messages in omega arith
@@ -157,7 +165,7 @@ module _ (s : Receipt) (quiet : asks (message_of s.bytes) ≡ false) (w : World)
   level-step v b is = refl
 
   -- one after the other
-  entries-both : (xs ys : List Basic) → received (entries_of (xs ++ ys)) ≡ received (entries_of xs) + received (entries_of ys)
+  pub entries-both : (xs ys : List Basic) → received (entries_of (xs ++ ys)) ≡ received (entries_of xs) + received (entries_of ys)
   entries-both [] ys = omega arith
   entries-both (x ∷ xs) ys =
       let all = count-append (is_received s w line) (told x) (entries_of (xs ++ ys)) in
@@ -165,7 +173,7 @@ module _ (s : Receipt) (quiet : asks (message_of s.bytes) ≡ false) (w : World)
       let rest = entries-both xs ys in
       omega arith
 
-  lost-both : (v : World) (xs ys : List Basic) → lost s v (xs ++ ys) ≡ lost s v xs + lost s (world_after v xs) ys
+  pub lost-both : (v : World) (xs ys : List Basic) → lost s v (xs ++ ys) ≡ lost s v xs + lost s (world_after v xs) ys
   lost-both v [] ys = omega arith
   lost-both v (x ∷ xs) ys = let rest = lost-both (basic v x) xs ys in omega arith
 

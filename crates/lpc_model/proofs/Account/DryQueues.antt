@@ -16,7 +16,7 @@ use Rattle.lpc_model.specs.World.{Acceptance, Listen, MessageRow, Receive, WaitR
 use Rattle.lpc_model.specs.Message.{asks, is_connection_request, message_of}
 use Rattle.lpc_model.specs.Fields.{msg, receipt}
 use Rattle.lpc_model.specs.Found.{is_listen, is_open, is_own_of, is_queued, is_queued_connect, is_receive, is_the, port_row, same_birth, waits_as, waits_at}
-use Rattle.lpc_model.specs.Basics.{Accepts, Awaits, Basic, Dies, Empties, Enters, Frees, Receives, Takes, TakesConnect, Wakes, Withdraws, accepted, basic, freed, received, world_after}
+use Rattle.lpc_model.specs.Basics.{Accepts, Awaits, Basic, Dies, Empties, Enters, Frees, Receives, Takes, TakesConnect, Wakes, Withdraws, accepted, basic, freed, received, world_after, Leaves}
 use Rattle.lpc_model.specs.Entering.{enter, given_steps, received_steps, shown, takes, woken}
 use Rattle.lpc_model.specs.Tests.{is_client}
 use Rattle.lpc_model.specs.SoundWaits.{IsSoundWorld, has_come, is_joined, is_sound_wait, waiter_of}
@@ -53,7 +53,7 @@ fewer-dry : (w v : World) (ms : List MessageRow) → ((q : Birth) → has (is_qu
 fewer-dry w v ms less dry = every-more (is_dry w v) (is_dry w (record v { messages = ms })) (λ x. less-dry w v (record v { messages = ms }) x (λ _ off. less x.queue off)) v.waits dry
 
 accepted-dry : (w v : World) (reply : Acceptance) (x : WaitRow) → is_dry w v x ≡ true → is_dry w v (accepted reply x) ≡ true
-accepted-dry w v reply = by_kind (λ x. is_dry w v x ≡ true → is_dry w v (accepted reply x) ≡ true) (λ x m is. is) (λ x is. is) (λ x is. is) (λ x m offer is. refl) (λ x m r is. is)
+accepted-dry w v reply = by_kind (λ x. is_dry w v x ≡ true → is_dry w v (accepted reply x) ≡ true) (λ x m is. is) (λ x is. is) (λ x is. is) (λ x m offer is. refl) (λ x m r is. is) (λ x m is. is)
 
 freed-dry : (w v : World) (k : ObjectKind) (b : Birth) → HasDryQueues w v → HasDryQueues w (freed v k b)
 freed-dry w v kind.Port b dry = dry
@@ -64,6 +64,7 @@ freed-dry w v kind.Thread b dry = dry
 
 dry-step : (w v : World) (b : Basic) → is_soft b ≡ true → HasDryQueues w v → HasDryQueues w (basic v b)
 dry-step w v (Wakes who call status fields) is dry = every-without (is_dry w v) (waits_as who) v.waits dry
+dry-step w v (Leaves who) is dry = every-without (is_dry w v) (waits_as who) v.waits dry
 dry-step w v (Dies who status) is dry = every-without (is_dry w v) (waits_as who) v.waits dry
 dry-step w v (Awaits x) is dry = every-push (is_dry w v) v.waits x dry (or_left (not (is_receive x)) _ is)
 dry-step w v (Receives who queue) is dry = every-change (is_dry w v) (waits_at who queue) received (λ x one. one) v.waits dry
@@ -188,6 +189,7 @@ module _ (s : Receipt) (quiet : asks (message_of s.bytes) ≡ false) (w : World)
       (λ x is one dry. enter-listen v m (record x { kind = Listen }) (first-true (is_connection_request m.message) (same_birth x.queue m.queue) is) dry)
       (λ x r offer is one dry. absurd (cc))
       (λ x r reply is one dry. absurd (cc))
+      (λ x r is one dry. absurd (cc))
     where
       off-part : (a b : Bool) → (not a && b) ≡ true → a ≡ false
       off-part a b is = grind arith
@@ -232,7 +234,7 @@ dry-sound w =
     by_kind (λ x. is_sound_wait w x ≡ true → is_the x.queue (waited_on w x.thread) ≡ true → is_dry w w x ≡ true)
     (λ x m is own. refl)
     (λ x is own. receives x (come-part (is_client w (waiter_of x)) (is_open w x.port) (is_open w x.queue) (has_come w (record x { kind = Receive })) (passes (port_row w x.port) is_joined) is) own)
-    (λ x is own. refl) (λ x m offer is own. refl) (λ x m reply is own. refl)
+    (λ x is own. refl) (λ x m offer is own. refl) (λ x m reply is own. refl) (λ x m is own. refl)
   where
     come-part : (c o q h j : Bool) → (c && (o && (q && (not h && j)))) ≡ true → h ≡ false
     come-part c o q h j is = grind arith

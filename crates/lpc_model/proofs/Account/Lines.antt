@@ -1,5 +1,5 @@
 -- Each line is in balance: of the messages that it finds and posts each stands behind it, is shown as received, or is lost.
-use Rattle.std.proofs.Common.{◌≡◌, ℕ, ◌+◌, List, [], ◌∷◌, ◌++◌, Bool, true, false, not, Option, Some, None, refl, sym, subst, arith}
+use Rattle.std.proofs.Common.{◌≡◌, ℕ, ◌+◌, List, [], ◌∷◌, ◌++◌, Bool, true, false, not, Option, Some, None, refl, sym, subst, arith, ap, append_assoc, suc, ◌∙◌, zero}
 use Rattle.std.proofs.lemmas.Bool.{and_from}
 use Rattle.lpc_base.specs.Rows.{count, every, first, when, without_first}
 use Rattle.lpc_base.proofs.RowWords.{count-append, first-passes, every-append}
@@ -9,29 +9,29 @@ use Rattle.lpc_base.specs.declared.status.Status.{Status}
 use Rattle.lpc_base.specs.declared.status.TheConstants.{SUCCESS}
 use Rattle.lpc_message.specs.declared.kind.TheConstants.{DATAGRAM, REQUEST}
 use Rattle.lpc_model.specs.declared.entry.CallName.{CallName}
-use Rattle.lpc_model.specs.declared.entry.CallName.TheVariants.{NtClose, NtReplyWaitReceivePort}
+use Rattle.lpc_model.specs.declared.entry.CallName.TheVariants.{NtClose, NtReplyWaitReceivePort, NtReplyPort}
 use Rattle.lpc_model.specs.declared.entry.Entry.{Entry}
 use Rattle.lpc_model.specs.declared.entry.Entry.TheVariants as entry
 use Rattle.lpc_model.specs.declared.message.Message.{Message}
-use Rattle.lpc_model.specs.World.{HandleRow, MessageRow, PortRow, ThreadRow, World, ViewRow}
-use Rattle.lpc_model.specs.Accounts.{Receipt, is_received, has_receipt, received_on, standing}
-use Rattle.lpc_model.specs.Basics.{Basic, Receives, Takes, Tells, Wakes, world_after}
+use Rattle.lpc_model.specs.World.{HandleRow, MessageRow, PortRow, ThreadRow, World, ViewRow, ProcessRow, Raised, WaitRow}
+use Rattle.lpc_model.specs.Accounts.{Receipt, is_received, has_receipt, received_on, standing, is_woken, lost, receipts}
+use Rattle.lpc_model.specs.Basics.{Basic, Receives, Takes, Tells, Wakes, world_after, Marks, Dooms, Frees, Leaves, doing, entries_of, first_code, posts_of}
 use Rattle.lpc_model.specs.Close.{close_handle, close_steps}
 use Rattle.lpc_model.specs.Connect.{client_port, connection_request, connect_start, accept_steps, accept_start, shared_fields, allow_steps, connect_steps, create_steps, guard_steps, named_steps}
-use Rattle.lpc_model.specs.Death.{end_threads}
-use Rattle.lpc_model.specs.Entering.{enter, row_of}
+use Rattle.lpc_model.specs.Death.{end_threads, code_status}
+use Rattle.lpc_model.specs.Entering.{enter, row_of, woken}
 use Rattle.lpc_model.specs.Fields.{receipt}
-use Rattle.lpc_model.specs.Found.{is_queued, free_handle}
-use Rattle.lpc_model.specs.Lines.{ScriptLine, reply_wait_receive_port, run, connect_port}
-use Rattle.lpc_model.specs.Machine.{bare_steps, steps}
+use Rattle.lpc_model.specs.Found.{is_queued, free_handle, live_threads}
+use Rattle.lpc_model.specs.Lines.{ScriptLine, reply_wait_receive_port, run, connect_port, boot}
+use Rattle.lpc_model.specs.Machine.{bare_steps, steps, own_steps, step}
 use Rattle.lpc_model.specs.Message.{asks, message_of}
-use Rattle.lpc_model.specs.Request.{datagram_start, given_reply, receive_steps, receive_test, reply_test, request_start, sent_by}
+use Rattle.lpc_model.specs.Request.{datagram_start, given_reply, receive_steps, receive_test, reply_test, request_start, sent_by, reply_steps}
 use Rattle.lpc_model.specs.SoundWaits.{IsSoundWorld}
 use Rattle.lpc_model.specs.Sweep.{sweep}
-use Rattle.lpc_model.proofs.Account.Steps.{ArePlain, end_balances, handle_balances, plain-level, sent_balances, sweep-plain}
+use Rattle.lpc_model.proofs.Account.Steps.{ArePlain, end_balances, handle_balances, plain-level, sent_balances, sweep-plain, Balances, enter_balances, plain_balances, then_balances}
 use Rattle.lpc_model.proofs.Calls.Acts.{tested-queue}
-use Rattle.lpc_model.proofs.Account.Balance.{AreBalanced, are_two, both-balanced, is_level, level-balanced, none-read, tells_two}
-use Rattle.lpc_model.proofs.Account.DryQueues.{count-one, dry-first, level-receipt, one-each, seen-as}
+use Rattle.lpc_model.proofs.Account.Balance.{AreBalanced, are_two, both-balanced, is_level, level-balanced, none-read, tells_two, entries-both, lost-both}
+use Rattle.lpc_model.proofs.Account.DryQueues.{count-one, dry-first, level-receipt, one-each, seen-as, IsEntered}
 use Rattle.lpc_model.proofs.Steps.Ending.{answered_end}
 use Rattle.lpc_model.proofs.Calls.Holding.{Holds, bind_holds, holds_ok}
 use Rattle.lpc_model.proofs.Calls.Lines.{AnyWorld, IsCalled, LineLaw, line-does, shows_status}
@@ -39,7 +39,16 @@ use Rattle.lpc_model.proofs.Calls.Outcomes.{Outcomes}
 use Rattle.lpc_model.proofs.Sound.Drops.{count-first, one_if}
 use Rattle.lpc_model.specs.Offers.{mapped, shared_steps}
 use Rattle.lpc_model.proofs.Calls.Sharing.{mapped-pass, shared-pass, guard-pass}
-use Rattle.lpc_model.specs.Tests.{next_birth}
+use Rattle.lpc_model.specs.Tests.{next_birth, client_of}
+use Rattle.lpc_model.proofs.Calls.Raising.{set-passes, on-holds}
+use Rattle.lpc_model.proofs.Sound.Reply.{reply-cases}
+use Rattle.lpc_model.specs.Raise.{event_begun, event_message, raise_told, set_port_steps, Handled, Heard, Next, Unhandled, behind_chance, go_on, goes_on}
+use Rattle.lpc_model.proofs.Closings.Told.{posts-append}
+use Rattle.lpc_model.proofs.Settling.Settled.{IsReady}
+use Rattle.lpc_model.proofs.Steps.InTurn.{after-append}
+use Rattle.lpc_model.proofs.Steps.Sweep.{sweep_every}
+use Rattle.lpc_model.specs.Settle.{turns, and_then_on, doomed_processes, end_doomed, least, most_turns, settle, turn, turn_by}
+use Rattle.std.specs.Prelude.{option_map}
 
 -- an entry that shows a status alone tells of no receipt
 status-level : (e : Entry) → shows_status e ≡ true → not (tells_two e) ≡ true
@@ -63,15 +72,16 @@ module _ (s : Receipt) (quiet : asks (message_of s.bytes) ≡ false) where
   sent w line m start plain sound = record { sum = sent_balances s quiet w line m start plain (dry-first w sound) }
 
   -- A receive takes what it shows
-  -- what a reply does before: nothing, or a wake
+  -- what a reply does before: nothing, a wake, or a mark
   abbrev are_replies : List Basic → Bool
   are_replies [] = true
   are_replies (Wakes who call status fields ∷ []) = not (are_two fields)
+  are_replies (Marks who ∷ []) = true
   are_replies bs = false
 
   given-replies : (w : World) (port : PortRow) (o : Option Message) → Holds (λ bs. are_replies bs ≡ true) (given_reply w port o)
   given-replies w port None = refl
-  given-replies w port (Some m) = bind_holds (reply_test w port m) _ (λ bs. are_replies bs ≡ true) (λ x _. refl)
+  given-replies w port (Some m) = bind_holds (reply_test w port m) _ (λ bs. are_replies bs ≡ true) (λ x _. reply-cases (λ b. are_replies (b ∷ []) ≡ true) x m refl refl (λ _. refl))
 
   module _ (w : World) (line : ScriptLine) (by : ThreadRow) (port : PortRow) (queue : Birth) (m : MessageRow) (found : first (is_queued queue) w.messages ≡ Some m) (from : received_on w line ≡ Some queue) where
     abbrev answer : Entry
@@ -109,13 +119,21 @@ module _ (s : Receipt) (quiet : asks (message_of s.bytes) ≡ false) where
         at : (a : Bool) → Balanced line w (Tells answer ∷ Wakes who call status fields ∷ Takes m.queue ∷ when a (Receives m.message.header.client.thread m.queue ∷ []))
         at true = omega (arith, taken-sum, none, more)
         at false = omega (arith, taken-sum, none, more)
+    taken-balanced (Marks who ∷ []) is = at (asks m.message)
+      where
+        at : (a : Bool) → Balanced line w (Tells answer ∷ Marks who ∷ Takes m.queue ∷ when a (Receives m.message.header.client.thread m.queue ∷ []))
+        at true = omega (arith, taken-sum)
+        at false = omega (arith, taken-sum)
     taken-balanced (Wakes who call status fields ∷ b ∷ bs) is = absurd (cc)
+    taken-balanced (Marks who ∷ b ∷ bs) is = absurd (cc)
     taken-balanced (b ∷ bs) is = absurd (cc)
 
   waits-balanced : (w : World) (line : ScriptLine) (by : ThreadRow) (port : PortRow) (queue : Birth) (replied : List Basic) → are_replies replied ≡ true → IsBalanced line w (receive_steps by port queue replied None)
   waits-balanced w line by port queue [] is = level w line (receive_steps by port queue [] None) refl
   waits-balanced w line by port queue (Wakes who call status fields ∷ []) is = level w line (receive_steps by port queue (Wakes who call status fields ∷ []) None) (rw is refl)
+  waits-balanced w line by port queue (Marks who ∷ []) is = level w line (receive_steps by port queue (Marks who ∷ []) None) refl
   waits-balanced w line by port queue (Wakes who call status fields ∷ b ∷ bs) is = absurd (cc)
+  waits-balanced w line by port queue (Marks who ∷ b ∷ bs) is = absurd (cc)
   waits-balanced w line by port queue (b ∷ bs) is = absurd (cc)
 
   -- A port, a thread, a process ends
@@ -145,7 +163,7 @@ module _ (s : Receipt) (quiet : asks (message_of s.bytes) ≡ false) where
 
   -- The calls
   calls-balanced : (by : ThreadRow) (w : World) → IsCalled AnyWorld w by → Outcomes w by (λ call. IsBalanced (run by.number call) w)
-  calls-balanced by w is = record {
+  calls-balanced by w called = let is = called in record {
     creates = λ dacl. level w _ _ refl;
     founds = λ name dacl path free. level w _ _ (every-append is_level (create_steps by (named_steps (next_birth by) path) (free_handle w by.process)) (guard_steps (next_birth by) (Some name) dacl) refl (guard-pass is_level (λ _ _. refl) (next_birth by) dacl));
     connects = λ name quality view bytes offer own connection c.
@@ -167,7 +185,7 @@ module _ (s : Receipt) (quiet : asks (message_of s.bytes) ≡ false) where
     completes = λ handle c at. level w _ _ refl;
     sends = λ handle bytes t at. sent w _ (row_of t.queue t.port (sent_by by DATAGRAM t.message)) (datagram_start by) refl is.sound;
     asks = λ handle bytes t at. let m = sent_by by REQUEST t.message in sent w _ (row_of t.queue t.port m) (request_start by t.port.birth t.queue m) refl is.sound;
-    replies = λ handle bytes port m x at read fits. level w _ _ refl;
+    replies = λ handle bytes port m x at read fits. level w _ (reply_steps by x m) (reply-cases (λ b. every is_level (Tells (entry.Answer by.number NtReplyPort SUCCESS []) ∷ b ∷ []) ≡ true) x m refl refl (λ _. refl));
     receives = λ handle bytes o port queue replied m r at.
         let line = run by.number (reply_wait_receive_port handle bytes) in
         let from : received_on w line ≡ Some queue = rw (is.can.lives, r.port_found) (holds_ok _ (receive_test w port) queue (tested-queue w port) r.queue_found) in
@@ -192,6 +210,10 @@ module _ (s : Receipt) (quiet : asks (message_of s.bytes) ≡ false) where
     opens_own = λ own at. level w _ _ refl;
     opens_primary = level w _ _ refl;
     asks_token = λ handle class t field at told. level w _ _ refl;
+    sets = λ target class handle pid port at found live. level w _ (set_port_steps by class pid port.birth) (set-passes (λ bs. every is_level bs ≡ true) by class pid port.birth refl refl);
+    handles = λ code handled. level w _ _ refl;
+    hears = λ code handled h is. sent w _ (row_of h.queue h.port (event_message (client_of by) by.next_identifier code h.chance)) (raise_told by ∷ event_begun by code handled h) refl (let c = called in c.sound);
+    fails = λ code handled. level w _ _ refl;
     ends = λ call name own pid code ts doomed. ended-balanced w _ by name own pid code ts is.sound;
   }
 
@@ -207,8 +229,102 @@ module _ (s : Receipt) (quiet : asks (message_of s.bytes) ≡ false) where
     links = λ w text target path to free more. level w _ _ refl;
   }
 
-  pub line-balanced : (w : World) (line : ScriptLine) → IsSoundWorld w → Balanced line w (steps line w)
-  line-balanced w line sound =
-      let v = world_after w (bare_steps line w) in
-      let bare = line-does AnyWorld IsBalanced balanced-lines w sound tt line in
-      both-balanced s quiet w line w (bare_steps line w) (sweep v) bare.sum (level-balanced s quiet w line v (sweep v) (plain-level (sweep v) (sweep-plain v)))
+  -- Settling: its receives began before it
+  -- a line that receives nothing
+  abbrev no_receive : ScriptLine
+  no_receive = boot 0 0 None
+
+  woken-same : (v : World) (e : Entry) → is_received s v no_receive e ≡ is_woken s v e
+  woken-same v (entry.Wakes tid call status fields) = refl
+  woken-same v (entry.Answer tid call status fields) = refl
+  woken-same v e = refl
+
+  on-balances : (v : World) (tid : ℕ) → Balances s quiet v no_receive (go_on tid)
+  on-balances v tid u dry = on-holds (IsEntered s quiet v no_receive u) u tid (plain_balances s quiet v no_receive (doing []) (λ _. refl) u dry) (λ t x r g. at t x r (behind_chance u x.process r.handled r.chance))
+    where
+      at : (t : ThreadRow) (x : WaitRow) (r : Raised) (n : Next) → IsEntered s quiet v no_receive u (goes_on t x r n u)
+      at t x r Handled = plain_balances s quiet v no_receive (doing (woken SUCCESS [] x ∷ [])) (λ _. refl) u dry
+      at t x r (Heard h) =
+          then_balances s quiet v no_receive (doing (Leaves x.thread ∷ event_begun t r.code r.handled h)) (enter (row_of h.queue h.port (event_message (client_of t) t.next_identifier r.code h.chance)))
+          (plain_balances s quiet v no_receive (doing (Leaves x.thread ∷ event_begun t r.code r.handled h)) (λ _. refl)) (enter_balances s quiet v no_receive (row_of h.queue h.port (event_message (client_of t) t.next_identifier r.code h.chance))) u dry
+      at t x r Unhandled = plain_balances s quiet v no_receive (doing (Leaves x.thread ∷ Dooms x.process r.code ∷ [])) (λ _. refl) u dry
+
+  doomed-balances : (v : World) (p : ProcessRow) → Balances s quiet v no_receive (end_doomed p)
+  unfolding end_doomed
+  doomed-balances v p u dry = end_balances s quiet v no_receive p.number (code_status (first_code 0 p.doom)) (live_threads u p.number) u dry
+
+  turns-balance : (v : World) (n : ℕ) → Balances s quiet v no_receive (turns n)
+  turns-balance v zero u dry = plain_balances s quiet v no_receive (doing []) (λ _. refl) u dry
+  turns-balance v (suc n) u dry = at (turn u) refl (turns-balance v n)
+    where
+      turned : (bs : List Basic) → turn u ≡ Some bs → IsEntered s quiet v no_receive u bs
+      turned bs = marked u.marks
+        where
+          by_process : (o : Option ProcessRow) → option_map (λ p. end_doomed p u) o ≡ Some bs → IsEntered s quiet v no_receive u bs
+          by_process None is = absurd (cc)
+          by_process (Some p) is = let same : end_doomed p u ≡ bs = cc in subst (IsEntered s quiet v no_receive u) same (doomed-balances v p u dry)
+
+          marked : (ms : List ℕ) → turn_by u ms ≡ Some bs → IsEntered s quiet v no_receive u bs
+          marked [] is = by_process (least (doomed_processes u)) is
+          marked (tid ∷ later) is = let same : go_on tid u ≡ bs = cc in subst (IsEntered s quiet v no_receive u) same (on-balances v tid u dry)
+
+      at : (o : Option (List Basic)) → turn u ≡ o → Balances s quiet v no_receive (turns n) → IsEntered s quiet v no_receive u (and_then_on u o (turns n))
+      at None none later = plain_balances s quiet v no_receive (doing []) (λ _. refl) u dry
+      at (Some bs) some later =
+          let one = turned bs some in
+          let z = world_after u bs in
+          let two = later z one.dry in
+          record {
+            balanced = both-balanced s quiet v no_receive u bs (turns n z) one.balanced two.balanced;
+            dry = rw (after-append u bs (turns n z)) two.dry;
+          }
+
+  settled-balanced : (v : World) → IsSoundWorld v → Balanced no_receive v (settle v)
+  unfolding settle
+  settled-balanced v sound = let all = turns-balance v (most_turns v) v (dry-first v sound) in all.balanced
+
+  -- steps one behind the other, of which the later are counted in a world of their own
+  joined-balanced : (w : World) (xs ys : List Basic) (m n : ℕ) → standing s w + count (has_receipt s) (posts_of xs) ≡ standing s (world_after w xs) + (m + lost s w xs) → standing s (world_after w xs) + count (has_receipt s) (posts_of ys) ≡ standing s (world_after (world_after w xs) ys) + (n + lost s (world_after w xs) ys)
+      → standing s w + count (has_receipt s) (posts_of (xs ++ ys)) ≡ standing s (world_after w (xs ++ ys)) + ((m + n) + lost s w (xs ++ ys))
+  joined-balanced w xs ys m n one two =
+      let posts : count (has_receipt s) (posts_of (xs ++ ys)) ≡ count (has_receipt s) (posts_of xs) + count (has_receipt s) (posts_of ys) = ap (count (has_receipt s)) (posts-append xs ys) ∙ count-append (has_receipt s) (posts_of xs) (posts_of ys) in
+      let losses = lost-both s quiet w no_receive w xs ys in
+      let worlds : standing s (world_after w (xs ++ ys)) ≡ standing s (world_after (world_after w xs) ys) = ap (standing s) (after-append w xs ys) in
+      omega (arith, one, two, posts, losses, worlds)
+
+  -- rows that go tell of nothing
+  abbrev is_row_gone : Basic → Bool
+  is_row_gone (Frees o) = true
+  is_row_gone b = false
+
+  gone-silent : (bs : List Basic) → every is_row_gone bs ≡ true → entries_of bs ≡ []
+  gone-silent [] all = refl
+  gone-silent (Frees o ∷ bs) all = gone-silent bs all
+  gone-silent (b ∷ bs) all = absurd (cc)
+
+  woken-count : (v : World) (es : List Entry) → count (is_received s v no_receive) es ≡ count (is_woken s v) es
+  woken-count v [] = refl
+  woken-count v (e ∷ es) = grind (arith, woken-same v e, woken-count v es)
+
+  pub line-balanced : (w : World) (line : ScriptLine) → IsSoundWorld w → IsReady (world_after w (own_steps line w)) → standing s w + count (has_receipt s) (posts_of (steps line w)) ≡ standing s (step w line).world + (receipts s w line + lost s w (steps line w))
+  unfolding bare_steps
+  line-balanced w line sound ready =
+      let own = own_steps line w in
+      let v = world_after w own in
+      let set = settle v in
+      let u = world_after v set in
+      let bare = own ++ set in
+      let swept = sweep (world_after w bare) in
+      let one = line-does AnyWorld IsBalanced balanced-lines w sound tt line in
+      let two = settled-balanced v ready.safe.sound in
+      let same : world_after w bare ≡ u = after-append w own set in
+      let three : Balanced no_receive v (set ++ swept) = both-balanced s quiet v no_receive v set swept two (level-balanced s quiet v no_receive u swept (plain-level swept (sweep-plain (world_after w bare)))) in
+      let parts = entries-both s quiet v no_receive set swept in
+      let none : count (is_received s v no_receive) (entries_of swept) ≡ 0 = ap (λ es. count (is_received s v no_receive) es) (gone-silent swept (sweep_every is_row_gone (λ _. refl) (world_after w bare))) in
+      let woken = woken-count v (entries_of set) in
+      let whole : standing s w + count (has_receipt s) (posts_of (own ++ (set ++ swept))) ≡ standing s (world_after w (own ++ (set ++ swept))) + ((count (is_received s w line) (entries_of own) + count (is_received s v no_receive) (entries_of (set ++ swept))) + lost s w (own ++ (set ++ swept))) = joined-balanced w own (set ++ swept) _ _ one.sum three in
+      subst (λ bs. standing s w + count (has_receipt s) (posts_of bs) ≡ standing s (world_after w bs) + ((count (is_received s w line) (entries_of own) + count (is_woken s v) (entries_of set)) + lost s w bs)) (sym (append_assoc own set swept))
+      (woken-sum _ _ _ _ _ _ _ _ _ whole parts none woken)
+    where
+      woken-sum : (a b c r q p n l m : ℕ) → a + b ≡ c + ((r + q) + l) → q ≡ p + n → n ≡ 0 → p ≡ m → a + b ≡ c + ((r + m) + l)
+      woken-sum a b c r q p n l m one two three four = omega (arith, one, two, three, four)

@@ -11,7 +11,7 @@ use Rattle.lpc_model.specs.Lines.{ScriptLine}
 use Rattle.lpc_model.specs.Machine.{step, steps}
 use Rattle.lpc_model.specs.Run.{all_posts, trace, world_behind}
 use Rattle.lpc_model.specs.Lawful.{IsLawfulWorld}
-use Rattle.lpc_model.proofs.Runs.{lawful_none, lawful_step}
+use Rattle.lpc_model.proofs.Runs.{lawful_none, lawful_step, lawful-readied}
 use Rattle.lpc_model.specs.Accounts.{RunAccountsForDeaths, RunAccountsForMessages, Receipt, has_receipt, lost_in, received_in, standing}
 use Rattle.lpc_model.proofs.Account.Lines.{line-balanced}
 
@@ -22,7 +22,7 @@ accounted-from s quiet w [] l = omega arith
 accounted-from s quiet w (None ∷ later) l = accounted-from s quiet w later l
 accounted-from s quiet w (Some line ∷ later) l =
     let v = (step w line).world in
-    let here = line-balanced s quiet w line l.sound in
+    let here = line-balanced s quiet w line l.sound (lawful-readied w line l) in
     let there = accounted-from s quiet v later (lawful_step w line l) in
     let posts = count-append (has_receipt s) (posts_of (steps line w)) (all_posts (trace v later)) in
     omega (arith, here, there, posts)

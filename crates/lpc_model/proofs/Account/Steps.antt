@@ -10,10 +10,10 @@ use Rattle.lpc_base.specs.declared.status.TheConstants.{LPC_REPLY_LOST, PORT_DIS
 use Rattle.lpc_model.specs.World.{Creator, HandleRow, MessageRow, PortRow, ThreadRow, WaitRow, World}
 use Rattle.lpc_model.specs.Message.{asks, message_of}
 use Rattle.lpc_model.specs.Found.{handles_of, is_accepted, is_connect, is_live, port_row, wait_of}
-use Rattle.lpc_model.specs.Basics.{Basic, Cuts, Dies, DropsHandle, DropsOwned, DropsViewsOf, Empties, Steps, Unregisters, Withdraws, doing, end_each, in_turn, provided, world_after, ◌▹◌}
+use Rattle.lpc_model.specs.Basics.{Basic, Cuts, Dies, DropsHandle, DropsOwned, DropsViewsOf, Empties, Steps, Unregisters, Withdraws, doing, end_each, in_turn, provided, world_after, ◌▹◌, LetsGo}
 use Rattle.lpc_model.specs.Entering.{enter}
-use Rattle.lpc_model.specs.Close.{close_handle, close_port, closed_row, cut_pair, drop_name, drop_owned, empty_queue, end_accepted, end_offered, end_receives, end_request, end_requests, is_accepted_across, is_last, is_offered_to, is_queued_request, is_receive_across, is_receiver, is_request_across, is_request_on, post_closed, server_of, closing_post, wake}
-use Rattle.lpc_model.specs.Death.{end_client, die, end_process, end_threads, post_death, post_deaths, death_post}
+use Rattle.lpc_model.specs.Close.{close_handle, close_port, closed_row, cut_pair, drop_name, drop_owned, empty_queue, end_accepted, end_offered, end_receives, end_request, end_requests, is_accepted_across, is_last, is_offered_to, is_queued_request, is_receive_across, is_receiver, is_request_across, is_request_on, post_closed, server_of, closing_post, wake, is_event_across, is_queued_event, mark_event, is_event_on, mark_events}
+use Rattle.lpc_model.specs.Death.{end_client, die, end_process, end_threads, post_death, post_deaths, death_post, close_handles}
 use Rattle.lpc_model.specs.Lines.{ScriptLine}
 use Rattle.lpc_model.specs.Sweep.{sweep}
 use Rattle.lpc_model.proofs.Steps.Closing.{behind}
@@ -64,10 +64,10 @@ module _ (s : Receipt) (quiet : asks (message_of s.bytes) ≡ false) (w : World)
   turn_balances f each [] v dry = plain_balances (doing []) (λ v. refl) v dry
   turn_balances f each (x ∷ xs) v dry = then_balances (f x) (in_turn f xs) (each x) (turn_balances f each xs) v dry
 
-  enter_balances : (m : MessageRow) → Balances (enter m)
+  pub enter_balances : (m : MessageRow) → Balances (enter m)
   enter_balances m v dry = entered s quiet w line v m dry
 
-  none_balances : (v : World) → HasDryQueues w v → IsEntered s quiet w line v []
+  pub none_balances : (v : World) → HasDryQueues w v → IsEntered s quiet w line v []
   none_balances v dry = plain_balances (doing []) (λ v. refl) v dry
 
   ends_balance : (test : World → WaitRow → Bool) (ending : WaitRow → List Basic) → ((x : WaitRow) → ArePlain (ending x)) → Balances (end_each test ending)
@@ -75,13 +75,15 @@ module _ (s : Receipt) (quiet : asks (message_of s.bytes) ≡ false) (w : World)
 
   -- A port that is closed
   queue_balances : (b : Birth) → Balances (empty_queue b)
-  queue_balances b = then_balances (end_each (λ w. is_queued_request b) (end_request LPC_REPLY_LOST)) (end_each (λ w. is_offered_to b) end_offered ▹ doing (Empties b ∷ [])) (ends_balance (λ w. is_queued_request b) (end_request LPC_REPLY_LOST) (λ x. refl))
-      (then_balances (end_each (λ w. is_offered_to b) end_offered) (doing (Empties b ∷ [])) (ends_balance (λ w. is_offered_to b) end_offered (λ x. refl)) (plain_balances (doing (Empties b ∷ [])) (λ v. refl)))
+  queue_balances b = then_balances (end_each (λ w. is_queued_request b) (end_request LPC_REPLY_LOST)) (end_each (is_queued_event b) mark_event ▹ (end_each (λ w. is_offered_to b) end_offered ▹ doing (Empties b ∷ []))) (ends_balance (λ w. is_queued_request b) (end_request LPC_REPLY_LOST) (λ x. refl))
+      (then_balances (end_each (is_queued_event b) mark_event) (end_each (λ w. is_offered_to b) end_offered ▹ doing (Empties b ∷ [])) (ends_balance (is_queued_event b) mark_event (λ x. refl))
+      (then_balances (end_each (λ w. is_offered_to b) end_offered) (doing (Empties b ∷ [])) (ends_balance (λ w. is_offered_to b) end_offered (λ x. refl)) (plain_balances (doing (Empties b ∷ [])) (λ v. refl))))
 
   pair_balances : (b : Birth) → Balances (cut_pair b)
-  pair_balances b = then_balances (end_each (is_request_across b) (end_request LPC_REPLY_LOST)) (end_each (is_receive_across b) (wake PORT_DISCONNECTED) ▹ (end_each (is_accepted_across b) end_accepted ▹ doing (Cuts b ∷ []))) (ends_balance (is_request_across b) (end_request LPC_REPLY_LOST) (λ x. refl))
+  pair_balances b = then_balances (end_each (is_request_across b) (end_request LPC_REPLY_LOST)) (end_each (is_event_across b) mark_event ▹ (end_each (is_receive_across b) (wake PORT_DISCONNECTED) ▹ (end_each (is_accepted_across b) end_accepted ▹ doing (Cuts b ∷ [])))) (ends_balance (is_request_across b) (end_request LPC_REPLY_LOST) (λ x. refl))
+      (then_balances (end_each (is_event_across b) mark_event) (end_each (is_receive_across b) (wake PORT_DISCONNECTED) ▹ (end_each (is_accepted_across b) end_accepted ▹ doing (Cuts b ∷ []))) (ends_balance (is_event_across b) mark_event (λ x. refl))
       (then_balances (end_each (is_receive_across b) (wake PORT_DISCONNECTED)) (end_each (is_accepted_across b) end_accepted ▹ doing (Cuts b ∷ [])) (ends_balance (is_receive_across b) (wake PORT_DISCONNECTED) (λ x. refl))
-      (then_balances (end_each (is_accepted_across b) end_accepted) (doing (Cuts b ∷ [])) (ends_balance (is_accepted_across b) end_accepted (λ x. refl)) (plain_balances (doing (Cuts b ∷ [])) (λ v. refl))))
+      (then_balances (end_each (is_accepted_across b) end_accepted) (doing (Cuts b ∷ [])) (ends_balance (is_accepted_across b) end_accepted (λ x. refl)) (plain_balances (doing (Cuts b ∷ [])) (λ v. refl)))))
 
   post_balances : (b : Birth) → Balances (post_closed b)
   post_balances b v dry = at (port_row v b)
@@ -101,12 +103,13 @@ module _ (s : Receipt) (quiet : asks (message_of s.bytes) ≡ false) (w : World)
   port_balances : (b : Birth) → Balances (close_port b)
   unfolding close_port
   port_balances b =
-      then_balances (drop_name b) (end_receives b ▹ (end_requests b ▹ (empty_queue b ▹ (cut_pair b ▹ (post_closed b ▹ drop_owned b))))) (plain_balances (drop_name b) (λ v. refl))
-      (then_balances (end_receives b) (end_requests b ▹ (empty_queue b ▹ (cut_pair b ▹ (post_closed b ▹ drop_owned b)))) (ends_balance (λ w. is_receiver b) (wake PORT_DISCONNECTED) (λ x. refl))
-      (then_balances (end_requests b) (empty_queue b ▹ (cut_pair b ▹ (post_closed b ▹ drop_owned b))) (ends_balance (λ w. is_request_on b) (end_request PORT_DISCONNECTED) (λ x. refl))
+      then_balances (drop_name b) (end_receives b ▹ (end_requests b ▹ (mark_events b ▹ (empty_queue b ▹ (cut_pair b ▹ (post_closed b ▹ drop_owned b)))))) (plain_balances (drop_name b) (λ v. refl))
+      (then_balances (end_receives b) (end_requests b ▹ (mark_events b ▹ (empty_queue b ▹ (cut_pair b ▹ (post_closed b ▹ drop_owned b))))) (ends_balance (λ w. is_receiver b) (wake PORT_DISCONNECTED) (λ x. refl))
+      (then_balances (end_requests b) (mark_events b ▹ (empty_queue b ▹ (cut_pair b ▹ (post_closed b ▹ drop_owned b)))) (ends_balance (λ w. is_request_on b) (end_request PORT_DISCONNECTED) (λ x. refl))
+      (then_balances (mark_events b) (empty_queue b ▹ (cut_pair b ▹ (post_closed b ▹ drop_owned b))) (ends_balance (is_event_on b) mark_event (λ x. refl))
       (then_balances (empty_queue b) (cut_pair b ▹ (post_closed b ▹ drop_owned b)) (queue_balances b)
       (then_balances (cut_pair b) (post_closed b ▹ drop_owned b) (pair_balances b)
-      (then_balances (post_closed b) (drop_owned b) (post_balances b) (plain_balances (drop_owned b) (λ v. refl)))))))
+      (then_balances (post_closed b) (drop_owned b) (post_balances b) (plain_balances (drop_owned b) (λ v. refl))))))))
 
   provided_balances : (test : World → Bool) (f : Steps) → Balances f → Balances (provided test f)
   provided_balances test f one v dry = at (test v)
@@ -140,7 +143,8 @@ module _ (s : Receipt) (quiet : asks (message_of s.bytes) ≡ false) (w : World)
   end_balances pid code ts =
       then_balances (in_turn (die code) ts) (in_turn post_deaths ts ▹ provided (λ w. not (is_live w pid)) (end_process pid)) (turn_balances (die code) (die_balances code) ts)
       (then_balances (in_turn post_deaths ts) (provided (λ w. not (is_live w pid)) (end_process pid)) (turn_balances post_deaths (λ t. turn_balances (post_death t) (told_balances t) t.registrations) ts)
-      (provided_balances (λ w. not (is_live w pid)) (end_process pid) (λ v dry. then_balances (in_turn (close_handle pid) (handles_of v pid)) (doing (DropsViewsOf pid ∷ [])) (turn_balances (close_handle pid) (handle_balances pid) (handles_of v pid)) (plain_balances (doing (DropsViewsOf pid ∷ [])) (λ u. refl)) v dry)))
+      (provided_balances (λ w. not (is_live w pid)) (end_process pid) (λ v dry. then_balances (doing (LetsGo pid ∷ [])) (close_handles pid ▹ doing (DropsViewsOf pid ∷ [])) (plain_balances (doing (LetsGo pid ∷ [])) (λ v. refl))
+      (then_balances (close_handles pid) (doing (DropsViewsOf pid ∷ [])) (λ u dry. turn_balances (close_handle pid) (handle_balances pid) (handles_of u pid) u dry) (plain_balances (doing (DropsViewsOf pid ∷ [])) (λ v. refl))) v dry)))
 
   -- Messages that are sent
   pub sent_balances : (m : MessageRow) (start : List Basic) → ArePlain start → HasDryQueues w w → AreBalanced s quiet w line w (start ++ enter m (world_after w start))

@@ -6,8 +6,8 @@ use Rattle.lpc_base.proofs.RowMaps.{every-first}
 use Rattle.lpc_base.proofs.RowWords.{first-behind, first-passes, has-kept, has-push}
 use Rattle.lpc_base.specs.Rows.{count, every, first, given, has, when}
 use Rattle.lpc_base.specs.declared.status.Status.{Status}
-use Rattle.lpc_base.specs.declared.status.TheConstants.{INVALID_PARAMETER, INVALID_PORT_HANDLE, PORT_DISCONNECTED, SUCCESS, INVALID_HANDLE}
-use Rattle.lpc_message.specs.declared.kind.TheConstants.{DATAGRAM, REQUEST}
+use Rattle.lpc_base.specs.declared.status.TheConstants.{INVALID_PARAMETER, INVALID_PORT_HANDLE, PORT_DISCONNECTED, SUCCESS, INVALID_HANDLE, REPLY_MESSAGE_MISMATCH}
+use Rattle.lpc_message.specs.declared.kind.TheConstants.{DATAGRAM, REQUEST, PORT_CLOSED}
 use Rattle.lpc_model.proofs.Steps.Closing.{behind}
 use Rattle.lpc_model.proofs.Calls.Creating.{rows-behind}
 use Rattle.lpc_model.proofs.Steps.Ending.{AreEnding, answered_end, behind_dead, behind_told, die-ending, ending-enter, first-at, handle-ending, rows-left, told-facts, turn-keeps}
@@ -28,11 +28,11 @@ use Rattle.lpc_model.proofs.Calls.Outcomes.{IsAccepting, IsConnecting, IsListeni
 use Rattle.lpc_model.proofs.Steps.Rows.{count-change, has-found}
 use Rattle.lpc_model.proofs.Sound.Basics.{sound-ordinal, sound-process}
 use Rattle.lpc_model.proofs.Sound.Close.{found-value}
-use Rattle.lpc_model.proofs.Sound.Terminate.{IsSafe, die-safe, enter-safe, handle-safe, sound-of, unregister-safe}
+use Rattle.lpc_model.proofs.Sound.Terminate.{IsSafe, die-safe, enter-safe, handle-safe, sound-of, unregister-safe, lets-safe}
 use Rattle.lpc_model.proofs.Steps.InTurn.{after-append}
 use Rattle.lpc_model.proofs.Calls.Tested.{CanComplete, can-complete, name-open, named-wait}
 use Rattle.lpc_model.proofs.Calls.Usable.{CanCall, IsUsable, by_port_kind, handle-open, if-same, port-usable, queue-open, routed}
-use Rattle.lpc_model.specs.Basics.{joined, Acts, AddsHandle, AddsProcess, AddsThread, AddsToken, Secures, Awaits, Basic, Completes, DrawsIdentifier, DrawsOrdinal, DropsOwned, DropsViewsOf, Registers, Steps, Tells, Unregisters, basic, in_turn, no_handles, with_handle, world_after, AddsSection, Maps, Unmaps, Writes}
+use Rattle.lpc_model.specs.Basics.{joined, Acts, AddsHandle, AddsProcess, AddsThread, AddsToken, Secures, Awaits, Basic, Completes, DrawsIdentifier, DrawsOrdinal, DropsOwned, DropsViewsOf, Registers, Steps, Tells, Unregisters, basic, in_turn, no_handles, with_handle, world_after, AddsSection, Maps, Unmaps, Writes, Dooms, Leaves, LetsGo, Marks, SetsDebug, SetsException}
 use Rattle.lpc_model.specs.Close.{close_handle}
 use Rattle.lpc_model.specs.Closings.{is_closed_post}
 use Rattle.lpc_model.specs.Connect.{Completable, ConnectAnswer, accept_steps, acceptance_of, answer_test, client_port, connect_steps, complete_steps, complete_test, connection_request, is_accepted_on, listen_steps, listen_wait, named_steps, names_connect, server_port, unnamed_steps}
@@ -42,23 +42,28 @@ use Rattle.lpc_model.specs.Creation.{gives_life, making_process, making_thread, 
 use Rattle.lpc_model.specs.Death.{death_post, die, end_process, end_threads, post_death, post_deaths}
 use Rattle.lpc_model.specs.Entering.{end_connect, enter, row_of, take_connect_steps, take_steps, woken}
 use Rattle.lpc_model.specs.Fields.{completion_fields}
-use Rattle.lpc_model.specs.Found.{acting_token, is_token, token_name, token_of, free_handle, handle_at, handles_of, has_value, is_accepted, is_born_process, is_born_thread, is_connect, is_connected_to, is_cut, is_live, is_open, is_paired_to, is_port, is_offered, is_server_port, is_table, is_the, names_wait, offer_of, port_name, port_row, process_name, queue_of, route, rows_in, same_birth, same_kind, thread_name, way, was_process, was_thread, is_section, section_name, section_row}
+use Rattle.lpc_model.specs.Found.{acting_token, is_token, token_name, token_of, free_handle, handle_at, handles_of, has_value, is_accepted, is_born_process, is_born_thread, is_connect, is_connected_to, is_cut, is_live, is_open, is_paired_to, is_port, is_offered, is_server_port, is_table, is_the, names_wait, offer_of, port_name, port_row, process_name, queue_of, route, rows_in, same_birth, same_kind, thread_name, way, was_process, was_thread, is_section, section_name, section_row, is_asking, fitted, is_event}
 use Rattle.lpc_model.specs.Memory.{SECTION_ACCESS, mapped_view, mapping_right, new_section, place_in, section_steps, section_test, size_test}
 use Rattle.lpc_model.specs.Message.{message_test}
 use Rattle.lpc_model.specs.Named.{free_name, named_port}
+use Rattle.lpc_model.specs.Raise.{DEBUG_CLASS, Hearing, event_kind, event_message, event_wait, send_event, set_port_steps}
+use Rattle.lpc_model.proofs.Calls.Raising.{IsHeard, heard-routed}
+use Rattle.lpc_model.proofs.Sound.Reply.{reply-cases}
 use Rattle.lpc_model.specs.Refusal.{found_or, refuse_if}
 use Rattle.lpc_model.specs.Request.{Sendable, datagram_send_test, datagram_steps, datagram_test, given_reply, is_spent, receive_steps, receive_test, receive_wait, reply_test, request_steps, request_wait, send_test, sent_by}
 use Rattle.lpc_model.specs.SoundWaits.{IsSoundWorld, can_stay_sound}
-use Rattle.lpc_model.specs.Standing.{NamesWhatStands, has_near_queue, port_stands, is_near, names_object, stands_as, section_stands}
+use Rattle.lpc_model.specs.Standing.{has_near_queue, port_stands, is_near, names_object, stands_as, section_stands}
 use Rattle.lpc_model.specs.Targets.{LIFE_ACCESS}
-use Rattle.lpc_model.specs.Tests.{PORT_ACCESS, handle_row, next_birth, port_test, object_test}
-use Rattle.lpc_model.specs.World.{Acceptance, Dacl, Effective, Impersonation, Security, Token, Birth, HandleRow, HandleTable, Message, MessageRow, ObjectName, Offer, Path, PortRow, SectionRow, ThreadRow, ViewRow, WaitRow, World}
+use Rattle.lpc_model.specs.Tests.{PORT_ACCESS, handle_row, next_birth, port_test, object_test, client_of, client_test}
+use Rattle.lpc_model.specs.World.{Acceptance, Dacl, Effective, Impersonation, Security, Token, Birth, HandleRow, HandleTable, Message, MessageRow, ObjectName, Offer, Path, PortRow, SectionRow, ThreadRow, ViewRow, WaitRow, World, Chance, FirstDebug, LastDebug, LastException}
 use Rattle.lpc_model.specs.declared.entry.CallName.{CallName}
 use Rattle.lpc_model.specs.declared.entry.CallName.TheVariants.{NtOpenProcessToken, NtOpenThreadToken}
 use Rattle.lpc_model.specs.declared.entry.Entry.{Entry}
 use Rattle.lpc_model.specs.declared.entry.Field.{Field}
 use Rattle.std.proofs.Common.{Bool, List, None, Option, Some, [], ap, arith, false, map, not, refl, subst, sym, true, ℕ, ◌++◌, ◌∙◌, ◌∷◌, ◌≡◌, ◌≤◌}
 use Rattle.std.specs.Prelude.{Ok, ◌%◌, ◌&&◌, ◌+◌, ◌==◌, ◌||◌, nat_le, if◌then◌else◌}
+use Rattle.lpc_model.proofs.Sound.Marked.{own-event}
+use Rattle.lpc_model.specs.Settle.{has_event, is_event_of}
 
 -- What the tests of calls find
 -- a message is sent on a port that stands, into an open queue, and tells of no closing
@@ -73,9 +78,13 @@ pub record IsBegun (w : World) (x : WaitRow) : Type 0 where
   pub opens : is_open w x.queue ≡ true
   pub begins : not (is_accepted x) ≡ true
 
+-- handles name what stands
+abbrev pub HandlesName : World → Type 0
+HandlesName w = every (λ t. every (names_object w) t.rows) w.handles ≡ true
+
 -- a further handle is given, to an object that stands where handles name what stands, and to no port but an open one
 pub record IsGift (w : World) (pid : ℕ) (o : ObjectName) : Type 0 where
-  pub stands : NamesWhatStands w → stands_as w o.kind o.birth ≡ true
+  pub stands : HandlesName w → stands_as w o.kind o.birth ≡ true
   pub opens : same_kind o.kind kind.Port ≡ true → is_open w o.birth ≡ true
   pub one : count (is_table pid) w.handles ≤ 1
 
@@ -110,6 +119,12 @@ pub record Law (by : ThreadRow) (C K : World → Type 0) (P : World → List Bas
   pub says : (w : World) (e : Entry) → P w (Tells e ∷ [])
   pub numbers : (w : World) → P w (DrawsIdentifier by.number ∷ [])
   pub wakes : (w : World) (status : Status) (fields : List Field) (x : WaitRow) → P w (woken status fields x ∷ [])
+  -- an event is marked; a wait ends untold; a process gets a port that is told of its exceptions, and is to end
+  pub marks : (w : World) (who : ℕ) → has_event w who ≡ true → P w (Marks who ∷ [])
+  pub abandons : (w : World) (who : ℕ) → P w (Leaves who ∷ [])
+  pub debugs : (w : World) (pid : ℕ) (b : Birth) → has (is_port b) w.ports ≡ true → is_live w pid ≡ true → P w (SetsDebug pid b ∷ [])
+  pub excepts : (w : World) (pid : ℕ) (b : Birth) → has (is_port b) w.ports ≡ true → is_live w pid ≡ true → P w (SetsException pid b ∷ [])
+  pub dooms : (w : World) (pid code : ℕ) → P w (Dooms pid code ∷ [])
   -- a message is taken; a wait begins; a message is sent, and its sender waits for what comes of it
   pub takes : (w : World) (m : MessageRow) → P w (take_steps m)
   pub listens : (w : World) (m : MessageRow) → P w (take_connect_steps m)
@@ -132,6 +147,7 @@ pub record Law (by : ThreadRow) (C K : World → Type 0) (P : World → List Bas
   pub closes : (w : World) (pid : ℕ) (r : HandleRow) → handle_at w pid r.value ≡ Some r → IsSoundWorld w → K w → P w (close_handle pid r w)
   pub dies : (w : World) (code : Status) (t : ThreadRow) → IsSafe w → P w (die code t w)
   pub leaves : (w : World) (n : ℕ) (b : Birth) → P w (Unregisters n b ∷ [])
+  pub lets_go : (w : World) (pid : ℕ) → P w (LetsGo pid ∷ [])
   pub vacates : (w : World) (pid : ℕ) → P w (DropsViewsOf pid ∷ [])
   pub disowns : (w : World) (b : Birth) → P w (DropsOwned b ∷ [])
   -- a section is made, without a handle; a view is mapped, and goes; bytes are written
@@ -183,21 +199,21 @@ queue-near w x =
     turned : (a b : Birth) → same_birth a b ≡ true → same_birth b a ≡ true
     turned a b is = subst (λ c. same_birth b c ≡ true) (sym (birth-same a b is)) (birth-self b)
 
-way-near : (w : World) (by : ThreadRow) (port q : Birth) (m : Message) (p : PortRow) → way w p ≡ Some q → is_near (request_wait by port q m) p ≡ true
-way-near w by port q m =
-    by_port_kind (λ p. way w p ≡ Some q → is_near (request_wait by port q m) p ≡ true)
-    (λ p at. own-near (request_wait by port q m) p (same-own p.birth q at))
-    (λ p at. own-near (request_wait by port q m) p (same-own p.birth q at))
-    (λ p at. second-of (is_port q p) (is_connected_to q p) _ (uncut-same q (is_cut p) p.connection (if-same w (if is_cut p then None else p.connection) q at)))
-    (λ p at. third-of (is_port q p) (is_connected_to q p) (is_paired_to q p) (if-same w p.pair q at))
+way-near : (w : World) (x : WaitRow) (p : PortRow) → is_asking x ≡ true → way w p ≡ Some x.queue → is_near x p ≡ true
+way-near w x p asks =
+    by_port_kind (λ p. way w p ≡ Some x.queue → is_near x p ≡ true)
+    (λ p at. own-near x p (same-own p.birth x.queue at))
+    (λ p at. own-near x p (same-own p.birth x.queue at))
+    (λ p at. second-of (is_port x.queue p) (is_connected_to x.queue p) _ (uncut-same x.queue (is_cut p) p.connection (if-same w (if is_cut p then None else p.connection) x.queue at)))
+    (λ p at. third-of (is_port x.queue p) (is_connected_to x.queue p) (is_asking x && is_paired_to x.queue p) (and_from _ _ asks (if-same w p.pair x.queue at))) p
 
 -- a handle of a process names an object that stands
-pub found-object : (w : World) (pid value : ℕ) (r : HandleRow) → handle_at w pid value ≡ Some r → NamesWhatStands w → names_object w r ≡ true
+pub found-object : (w : World) (pid value : ℕ) (r : HandleRow) → handle_at w pid value ≡ Some r → HandlesName w → names_object w r ≡ true
 found-object w pid value r at n = of (first (is_table pid) w.handles) refl at
   where
     of : (o : Option HandleTable) → first (is_table pid) w.handles ≡ o → first (has_value value) (rows_in o) ≡ Some r → names_object w r ≡ true
     of None none at = absurd (cc)
-    of (Some t) found at = every-first (names_object w) (has_value value) t.rows r (every-first (λ t. every (names_object w) t.rows) (is_table pid) w.handles t n.handles found) at
+    of (Some t) found at = every-first (names_object w) (has_value value) t.rows r (every-first (λ t. every (names_object w) t.rows) (is_table pid) w.handles t n found) at
 
 -- a message is sent on a port that stands, and its way is near and open
 record IsSent (w : World) (s : Sendable) : Type 0 where
@@ -214,6 +230,16 @@ sent w by handle bytes =
     let routes = found_ok (route w port) PORT_DISCONNECTED queue found in
     let r = routed w port queue u routes in
     record { usable = u; way = rw u.opens at routes; opens = r.to })))
+
+-- an event that a message fits waits
+fitted-event : (w : World) (port : PortRow) (m : Message) → Holds (λ (x : WaitRow). is_event x ≡ true → has_event w x.thread ≡ true) (reply_test w port m)
+fitted-event w port m =
+    let P : WaitRow → Type 0 = λ x. is_event x ≡ true → has_event w x.thread ≡ true in
+    bind_holds (client_test w m.header.client) _ P (λ _ _.
+    found_holds P (fitted w port.birth m) REPLY_MESSAGE_MISMATCH (λ x at event. has-found (is_event_of x.thread) (Rattle.lpc_model.specs.Found.fits w port.birth m) w.waits x at (own-event x event)))
+
+answered-event : (w : World) (port : PortRow) (m : Message) (x : WaitRow) → reply_test w port m ≡ Ok x → is_event x ≡ true → has_event w x.thread ≡ true
+answered-event w port m x at event = holds_ok (λ (x : WaitRow). is_event x ≡ true → has_event w x.thread ≡ true) (reply_test w port m) x (fitted-event w port m) at event
 
 pub tested-queue : (w : World) (port : PortRow) → Holds (λ queue. queue_of w port ≡ Some queue) (receive_test w port)
 tested-queue w port =
@@ -300,8 +326,29 @@ module _ (by : ThreadRow) (C K : World → Type 0) (P : World → List Basic →
   asking w handle bytes s at =
       let m = sent_by by REQUEST s.message in
       let is = holds_ok (IsSent w) (send_test w by handle bytes) s (sent w by handle bytes) at in
-      let near : has_near_queue w (request_wait by s.port.birth s.queue m) ≡ true = rw is.usable.stands (way-near w by s.port.birth s.queue m s.port is.way) in
+      let near : has_near_queue w (request_wait by s.port.birth s.queue m) ≡ true = rw is.usable.stands (way-near w (request_wait by s.port.birth s.queue m) s.port refl is.way) in
       told-first w _ _ (k.follows w (DrawsIdentifier by.number ∷ []) _ (k.numbers w) (k.asks (basic w (DrawsIdentifier by.number)) (request_wait by s.port.birth s.queue m) (row_of s.queue s.port m) refl (record { near = near; opens = is.opens; begins = refl }) (post w s REQUEST refl is)))
+
+  -- an event is sent as a request
+  pub hearing : (w : World) (code : ℕ) (handled : Bool) (chance : Chance) (h : Hearing) → IsHeard w chance h → P w (send_event by code handled h w)
+  hearing w code handled chance h is =
+      let x = event_wait by code handled h in
+      let m = row_of h.queue h.port (event_message (client_of by) by.next_identifier code h.chance) in
+      let near : has_near_queue w x ≡ true = rw is.stands (way-near w x h.port refl is.way) in
+      let opens = let r = is.route in r.to in
+      k.follows w (DrawsIdentifier by.number ∷ []) _ (k.numbers w) (k.asks (basic w (DrawsIdentifier by.number)) x m refl (record { near = near; opens = opens; begins = refl }) (record { stands = row-stands w h.port.birth h.port is.stands; opens = opens; other = other h.chance }))
+    where
+      other : (c : Chance) → not (event_kind c == PORT_CLOSED) ≡ true
+      other FirstDebug = refl
+      other LastDebug = refl
+      other LastException = refl
+
+  setting : (w : World) (class pid : ℕ) (b : Birth) → has (is_port b) w.ports ≡ true → is_live w pid ≡ true → P w (set_port_steps by class pid b)
+  setting w class pid b stands live = told-first w _ _ (at (class == DEBUG_CLASS))
+    where
+      at : (debug : Bool) → P w ((if debug then SetsDebug pid b else SetsException pid b) ∷ [])
+      at true = k.debugs w pid b stands live
+      at false = k.excepts w pid b stands live
 
   -- a receive may reply first
   record IsReplied (w : World) (bs : List Basic) : Type 0 where
@@ -311,7 +358,11 @@ module _ (by : ThreadRow) (C K : World → Type 0) (P : World → List Basic →
 
   given-does : (w : World) (port : PortRow) (m : Option Message) → Holds (IsReplied w) (given_reply w port m)
   given-does w port None = record { does = k.nothing w; ports = refl; handles = refl }
-  given-does w port (Some m) = bind_holds (reply_test w port m) _ (IsReplied w) (λ x _. record { does = k.wakes w _ _ x; ports = refl; handles = refl })
+  given-does w port (Some m) = bind_holds (reply_test w port m) _ (IsReplied w) (λ x fits.
+      reply-cases (λ b. IsReplied w (b ∷ [])) x m
+      (record { does = k.wakes w _ _ x; ports = refl; handles = refl })
+      (record { does = k.wakes w _ _ x; ports = refl; handles = refl })
+      (λ event. record { does = k.marks w x.thread (answered-event w port m x fits event); ports = refl; handles = refl }))
 
   receiving : (w : World) (handle : ℕ) (bytes : Option (List ℕ)) (o : Option Message) (port : PortRow) (queue : Birth) (replied : List Basic) (m : MessageRow) → IsReceiving w by handle bytes o port queue replied → P w (receive_steps by port queue replied (Some m))
   receiving w handle bytes o port queue replied m r =
@@ -357,7 +408,7 @@ module _ (by : ThreadRow) (C K : World → Type 0) (P : World → List Basic →
       let two = gives given (thread_name t.birth) (second_handle w by) next (λ _. has-push (is_born_thread t.birth) drawn.threads t (birth-self t.birth)) (λ is. absurd (cc)) few in
       told-first w _ _ (k.follows w bs _ (k.spawns w pid tid (token_of w by.process) new unused s) (k.follows made (gives_life by value (process_name p.birth) ∷ []) _ one two))
     where
-      gives : (v : World) (o : ObjectName) (value : ℕ) → free_handle v by.process ≡ value → (NamesWhatStands v → stands_as v o.kind o.birth ≡ true) → (same_kind o.kind kind.Port ≡ true → is_open v o.birth ≡ true) → count (is_table by.process) v.handles ≤ 1 → P v (gives_life by value o ∷ [])
+      gives : (v : World) (o : ObjectName) (value : ℕ) → free_handle v by.process ≡ value → (HandlesName v → stands_as v o.kind o.birth ≡ true) → (same_kind o.kind kind.Port ≡ true → is_open v o.birth ≡ true) → count (is_table by.process) v.handles ≤ 1 → P v (gives_life by value o ∷ [])
       gives v o value same stands opens one = subst (λ n. P v (gives_life by n o ∷ [])) same (k.gives v by.process o LIFE_ACCESS (record { stands = stands; opens = opens; one = one }))
 
   starting : (w : World) (tid pid : ℕ) → is_live w pid ≡ true → was_thread w tid ≡ false → IsSoundWorld w → P w (making_thread w by tid pid)
@@ -466,7 +517,7 @@ module _ (by : ThreadRow) (C K : World → Type 0) (P : World → List Basic →
       let s = sound-of w is.safe in
       k.follows w (close_handle pid r w) _ (k.closes w pid r at s is.known) (handles-do pid rows (behind (close_handle pid r) w) (rows-left w pid r rows same s) (firm w (close_handle pid r w) (handle-ending pid r w) is (handle-safe w pid r at is.safe)))
 
-  end-does : (pid : ℕ) (code : Status) (ts : List ThreadRow) (w : World) → IsFirm K w → P w (end_threads pid code ts w)
+  pub end-does : (pid : ℕ) (code : Status) (ts : List ThreadRow) (w : World) → IsFirm K w → P w (end_threads pid code ts w)
   unfolding end_threads
   end-does pid code ts w is =
       let one = behind_dead code ts w in
@@ -478,7 +529,11 @@ module _ (by : ThreadRow) (C K : World → Type 0) (P : World → List Basic →
       at : (last : Bool) → IsFirm K (behind_told code ts w) → P (behind_told code ts w) (when last (end_process pid (behind_told code ts w)))
       at true is =
           let v = behind_told code ts w in
-          k.follows v (in_turn (close_handle pid) (handles_of v pid) v) _ (handles-do pid (handles_of v pid) v refl is) (k.vacates (behind (in_turn (close_handle pid) (handles_of v pid)) v) pid)
+          let u = basic v (LetsGo pid) in
+          let rows = handles_of u pid in
+          let free = firm v (LetsGo pid ∷ []) refl is (lets-safe v pid is.safe) in
+          k.follows v (LetsGo pid ∷ []) _ (k.lets_go v pid)
+          (k.follows u (in_turn (close_handle pid) rows u) _ (handles-do pid rows u refl free) (k.vacates (behind (in_turn (close_handle pid) rows) u) pid))
       at false is = k.nothing _
 
   ending : (w : World) (name : CallName) (own : Bool) (pid : ℕ) (code : Status) (ts : List ThreadRow) → IsFirm K w → P w (answered_end by name own pid code ts w)
@@ -498,7 +553,7 @@ module _ (by : ThreadRow) (C K : World → Type 0) (P : World → List Basic →
     completes = λ handle c at. completing w handle c at is.sound;
     sends = λ handle bytes s at. sending w handle bytes s at;
     asks = λ handle bytes s at. asking w handle bytes s at;
-    replies = λ handle bytes port m x at read fits. told-first w _ _ (k.wakes w _ _ x);
+    replies = λ handle bytes port m x at read fits. told-first w _ _ (reply-cases (λ b. P w (b ∷ [])) x m (k.wakes w _ _ x) (k.wakes w _ _ x) (λ event. k.marks w x.thread (answered-event w port m x fits event)));
     receives = λ handle bytes o port queue replied m r at. receiving w handle bytes o port queue replied m r;
     awaits_message = λ handle bytes o port queue replied r at. awaiting w handle bytes o port queue replied r;
     registers = λ handle port at new few. told-first w _ _ (k.registers w port.birth (usable-stands w port (holds_ok (IsUsable w) (port_test w by handle) port (port-usable w by handle) at)));
@@ -520,5 +575,9 @@ module _ (by : ThreadRow) (C K : World → Type 0) (P : World → List Basic →
     opens_own = λ own at. holding w NtOpenThreadToken _ is.sound;
     opens_primary = holding w NtOpenProcessToken _ is.sound;
     asks_token = λ handle class t field at told. k.says w _;
+    sets = λ target class handle pid port at found live. setting w class pid port.birth (usable-stands w port (holds_ok (IsUsable w) (port_test w by handle) port (port-usable w by handle) found)) live;
+    handles = λ code handled. k.says w _;
+    hears = λ code handled h is. told-first w _ _ (hearing w code handled is.chance h (heard-routed w by.process is.chance h is.found));
+    fails = λ code handled. k.dooms w by.process code;
     ends = λ call name own pid code ts doomed. ending w name own pid code ts (record { safe = record { sound = is.sound; shut = (deep w is.known).0 }; known = (deep w is.known).1 });
   }

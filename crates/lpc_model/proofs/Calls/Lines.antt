@@ -3,19 +3,17 @@ use Rattle.lpc_base.proofs.Bools.{first-off, second-off}
 use Rattle.lpc_base.specs.Rows.{every}
 use Rattle.lpc_base.specs.declared.status.TheConstants.{OBJECT_NAME_COLLISION, SUCCESS}
 use Rattle.lpc_model.proofs.Calls.Creating.{tested-further}
-use Rattle.lpc_model.proofs.Steps.Sweep.{stepped}
 use Rattle.lpc_model.proofs.Calls.Holding.{bind_holds, directed_holds, holds_ok, not_refused, settled_holds}
 use Rattle.lpc_model.proofs.Calls.Outcomes.{Outcomes, service-does}
 use Rattle.lpc_model.proofs.Calls.Usable.{CanCall, can-call, live-number}
 use Rattle.lpc_model.specs.Basics.{AddsProcess, AddsThread, Basic, Binds, NamesToken, Tells, world_after}
 use Rattle.lpc_model.specs.Found.{is_live, live_thread, named_token, wait_of, was_process, was_thread}
-use Rattle.lpc_model.specs.Lines.{ScriptCall, ResidentLine, ScriptLine, boot, dir, hosts, link, moves, of_resident, run, thread, token}
-use Rattle.lpc_model.specs.Machine.{bare_steps, boot_line, boot_steps, boot_token, token_line, dir_line, directive_birth, idle_entry, link_line, resident_entry, name_of_call, new_process, new_thread, ready_steps, service_of, step, thread_line, thread_steps, thread_test, unused_test}
+use Rattle.lpc_model.specs.Lines.{ScriptCall, ScriptLine, boot, dir, link, run, thread, token, ResidentLine, hosts, moves, of_resident}
+use Rattle.lpc_model.specs.Machine.{boot_line, boot_steps, boot_token, token_line, dir_line, directive_birth, link_line, name_of_call, new_process, new_thread, ready_steps, service_of, thread_line, thread_steps, thread_test, unused_test, own_steps, idle_entry, resident_entry}
 use Rattle.lpc_model.specs.Named.{free_name, spelled_name}
 use Rattle.lpc_model.specs.Refusal.{refuse_if}
 use Rattle.lpc_model.specs.SoundWaits.{HasShutConnects, IsSoundWorld}
-use Rattle.lpc_model.specs.Sweep.{sweep}
-use Rattle.lpc_model.specs.World.{Birth, Node, Path, ProcessRow, ThreadRow, Token, TokenName, WaitRow, World}
+use Rattle.lpc_model.specs.World.{Birth, Node, Path, ThreadRow, Token, TokenName, WaitRow, World}
 use Rattle.lpc_model.specs.declared.entry.Entry.{Entry}
 use Rattle.lpc_model.specs.declared.entry.Entry.TheVariants as entry
 use Rattle.lpc_model.specs.declared.entry.Word.TheVariants as word
@@ -83,9 +81,9 @@ module _ (C : World → Type 0) (P : ScriptLine → World → List Basic → Typ
       let at : live_thread w by.number ≡ Some by = subst (λ n. live_thread w n ≡ Some by) (sym own) live in
       subst (λ n. P (run n call) w (ready_steps by call (wait_of w n) w)) own (ready-does by call (wait_of w by.number) at refl)
 
-  -- what a law says of the lines, before rows go
-  pub line-does : (line : ScriptLine) → P line w (bare_steps line w)
-  unfolding bare_steps boot_line token_line thread_line dir_line link_line
+  -- what a law says of the lines, before the world settles
+  pub line-does : (line : ScriptLine) → P line w (own_steps line w)
+  unfolding own_steps boot_line token_line thread_line dir_line link_line
   line-does (boot pid tid name) =
       let Q : List Basic → Type 0 = P (boot pid tid name) w in
       directed_holds Q word.Boot (boot_line w pid tid name)
@@ -124,7 +122,7 @@ module _ (C : World → Type 0) (P : ScriptLine → World → List Basic → Typ
 -- the steps of directives pass a test
 pub record PassDirectives (p : Basic → Bool) : Type 0 where
   pub tells : (e : Entry) → p (Tells e) ≡ true
-  pub processes : (r : ProcessRow) → p (AddsProcess r) ≡ true
+  pub processes : (pid : ℕ) (birth : Birth) (content : Token) → p (AddsProcess (new_process pid None birth content)) ≡ true
   pub threads : (tid pid : ℕ) (birth : Birth) → p (AddsThread (new_thread tid pid birth)) ≡ true
   pub binds : (path : Path) (node : Node Birth) → p (Binds path node) ≡ true
   pub names : (n : TokenName) → p (NamesToken n) ≡ true
@@ -133,16 +131,13 @@ pub passing-lines : (C : World → Type 0) (P : World → List Basic → Type 0)
 passing-lines C P p holds passes calls = record {
   tells = λ line w e _. holds w _ (let d = passes w in let one = d.tells e in rw one refl);
   calls = calls;
-  boots = λ w pid tid name content new unused s more. holds w _ (let d = passes w in rw (d.tells (entry.Directive word.Boot SUCCESS), d.processes (new_process pid None (directive_birth pid pid) content), d.threads tid pid (directive_birth tid pid)) refl);
+  boots = λ w pid tid name content new unused s more. holds w _ (let d = passes w in rw (d.tells (entry.Directive word.Boot SUCCESS), d.processes pid (directive_birth pid pid) content, d.threads tid pid (directive_birth tid pid)) refl);
   threads = λ w tid pid live unused s more. holds w _ (let d = passes w in rw (d.tells (entry.Directive word.Thread SUCCESS), d.threads tid pid (directive_birth tid pid)) refl);
   names = λ w name content more. holds w _ (let d = passes w in rw (d.tells (entry.Directive word.Token SUCCESS), d.names (record { name = name; token = content })) refl);
   dirs = λ w text path free more. holds w _ (let d = passes w in rw (d.tells (entry.Directive word.Dir SUCCESS), d.binds path (Stands Directory)) refl);
   links = λ w text target path to free more. holds w _ (let d = passes w in rw (d.tells (entry.Directive word.Link SUCCESS), d.binds path (LinkTo to)) refl);
 }
 
--- Laws that are kept: what each line keeps, and the rows that go at its end, its step keeps
+-- Laws that are kept
 abbrev pub Keep : (World → Type 0) → World → List Basic → Type 0
 Keep Q w bs = Q w → Q (world_after w bs)
-
-pub step-keeps : (C Q : World → Type 0) → LineLaw C (λ _. Keep Q) → ((v : World) → Q v → Q (world_after v (sweep v))) → (w : World) (line : ScriptLine) → IsSoundWorld w → C w → Q w → Q (step w line).world
-step-keeps C Q k sweeps w line s more q = stepped Q w line sweeps (line-does C (λ _. Keep Q) k w s more line q)

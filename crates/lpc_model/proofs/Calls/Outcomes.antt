@@ -15,7 +15,7 @@ use Rattle.lpc_model.specs.Counts.{asked, counts_of, duplicate_steps, nt_duplica
 use Rattle.lpc_model.specs.Creation.{making_process, making_thread, nt_create_thread, thread_test}
 use Rattle.lpc_model.specs.Death.{code_status, nt_terminate_process, nt_terminate_thread}
 use Rattle.lpc_model.specs.Found.{free_handle, handle_at, is_connection_port, is_live, is_queued, is_queued_connect, is_server_port, live_threads, was_process, was_thread, view_holding}
-use Rattle.lpc_model.specs.Lines.{ProcArg, ScriptCall, accept_connect_port, close, complete_connect_port, connect_port, create_port, create_process, create_thread, duplicate_object, listen_port, query_object, register_thread_terminate_port, reply_port, reply_wait_receive_port, request_port, request_wait_reply_port, terminate_process, terminate_thread, create_section, map_view_of_section, unmap_view_of_section, read_virtual_memory, write_virtual_memory, read_request_data, write_request_data, impersonate_client_of_port, set_information_thread, open_thread_token, open_process_token, query_information_token, ViewWord}
+use Rattle.lpc_model.specs.Lines.{ProcArg, ScriptCall, accept_connect_port, close, complete_connect_port, connect_port, create_port, create_process, create_thread, duplicate_object, listen_port, query_object, register_thread_terminate_port, reply_port, reply_wait_receive_port, request_port, request_wait_reply_port, terminate_process, terminate_thread, create_section, map_view_of_section, unmap_view_of_section, read_virtual_memory, write_virtual_memory, read_request_data, write_request_data, impersonate_client_of_port, set_information_thread, open_thread_token, open_process_token, query_information_token, ViewWord, raise, set_information_process}
 use Rattle.lpc_model.specs.Machine.{service_of}
 use Rattle.lpc_base.specs.Views.{whole_pages}
 use Rattle.lpc_base.specs.declared.limits.TheConstants.{PAGE_SIZE, SECTION_LIMIT}
@@ -23,6 +23,8 @@ use Rattle.lpc_model.specs.Memory.{PAGE_READWRITE, base_test, map_steps, mapped_
 use Rattle.lpc_model.specs.Message.{message_test}
 use Rattle.lpc_model.specs.Offers.{SharedViews, Wanted, if_given, offer_test, shared_test, view_test, wanted_test}
 use Rattle.lpc_model.specs.Named.{free_name, named_port}
+use Rattle.lpc_model.specs.Raise.{Handled, Heard, Hearing, Next, Unhandled, class_test, from_first, nt_set_information_process, raise_exception, raise_steps, set_port_steps, unset_test}
+use Rattle.lpc_model.proofs.Calls.Raising.{IsHearing, WhereHeard, first-holds}
 use Rattle.lpc_model.specs.Ranges.{Described, described_test, nt_read_request_data, nt_write_request_data, read_range_steps, write_range_steps}
 use Rattle.lpc_model.specs.Refusal.{refuse_if, found_or}
 use Rattle.lpc_model.specs.Register.{is_registered, nt_register_thread_terminate_port, registration_test}
@@ -150,6 +152,12 @@ pub record Outcomes (w : World) (by : ThreadRow) (P : ScriptCall → List Basic 
   pub opens_own : (own : Impersonation) → own_test by ≡ Ok own → P open_thread_token (token_steps by NtOpenThreadToken (held_content own) (free_handle w by.process))
   pub opens_primary : P open_process_token (token_steps by NtOpenProcessToken (process_content w by) (free_handle w by.process))
   pub asks_token : (handle class : ℕ) (t : TokenRow) (field : Field) → token_test w by handle ≡ Ok t → told_of t class ≡ Some field → P (query_information_token handle class) (told_steps by field)
+  -- a port is set that is told of the exceptions of a process
+  pub sets : (target : ProcArg) (class handle pid : ℕ) (port : PortRow) → process_target w by target ≡ Ok pid → port_test w by handle ≡ Ok port → is_live w pid ≡ true → P (set_information_process target class handle) (set_port_steps by class pid port.birth)
+  -- an exception is raised that its frame handlers handle at once, of which an event is sent, or that nothing handles
+  pub handles : (code : ℕ) (handled : Bool) → P (raise code handled) (raise_steps by code handled Handled w)
+  pub hears : (code : ℕ) (handled : Bool) (h : Hearing) → IsHearing w by.process h → P (raise code handled) (raise_steps by code handled (Heard h) w)
+  pub fails : (code : ℕ) (handled : Bool) → P (raise code handled) (raise_steps by code handled Unhandled w)
   -- threads end, the caller itself (own) or others
   pub ends : (call : EndCall) (name : CallName) (own : Bool) (pid : ℕ) (code : Status) (ts : List ThreadRow) → AreDoomed w by own pid ts → P (end_call call) (answered_end by name own pid code ts w)
 
@@ -387,6 +395,25 @@ module _ (w : World) (by : ThreadRow) (P : ScriptCall → List Basic → Type 0)
       bind_holds (token_test w by handle) _ Q (λ t at.
       bind_holds (found_or (told_of t class) INVALID_PARAMETER) _ Q (λ field found. o.asks_token handle class t field at (found_ok (told_of t class) INVALID_PARAMETER field found)))
 
+  set-does : (target : ProcArg) (class handle : ℕ) → Holds (P (set_information_process target class handle)) (nt_set_information_process w by target class handle)
+  unfolding nt_set_information_process
+  set-does target class handle =
+      let Q = P (set_information_process target class handle) in
+      bind_holds (process_target w by target) _ Q (λ pid at.
+      bind_holds (port_test w by handle) _ Q (λ port found.
+      bind_holds (live_test w pid) _ Q (λ u off.
+      bind_holds (class_test class) _ Q (λ _ _.
+      bind_holds (unset_test w pid class) _ Q (λ _ _. o.sets target class handle pid port at found (not-false (is_live w pid) (not_refused (not (is_live w pid)) INVALID_CID u off)))))))
+
+  raise-does : (code : ℕ) (handled : Bool) → Holds (P (raise code handled)) (raise_exception w by code handled)
+  unfolding raise_exception
+  raise-does code handled = at (from_first w by.process handled) (first-holds (IsHearing w by.process) w by.process handled (λ chance h is. record { chance = chance; found = is }))
+    where
+      at : (n : Next) → WhereHeard (IsHearing w by.process) n → P (raise code handled) (raise_steps by code handled n w)
+      at Handled is = o.handles code handled
+      at (Heard h) is = o.hears code handled h is
+      at Unhandled is = o.fails code handled
+
   pub service-does : (call : ScriptCall) → Holds (P call) (service_of w by call)
   service-does (create_port name dacl) = create-does name dacl
   service-does (connect_port name quality view bytes) = connect-does name quality view bytes
@@ -417,3 +444,5 @@ module _ (w : World) (by : ThreadRow) (P : ScriptCall → List Basic → Type 0)
   service-does open_thread_token = own-token-does
   service-does open_process_token = process-token-does
   service-does (query_information_token handle class) = query-token-does handle class
+  service-does (set_information_process target class handle) = set-does target class handle
+  service-does (raise code handled) = raise-does code handled

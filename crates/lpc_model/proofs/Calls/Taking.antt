@@ -33,7 +33,8 @@ waiter-takes m x =
     (λ x. every-append is_taking (received_steps m) _ (taking-receipt m) refl)
     (λ x. every-append is_taking (received_steps m) _ (taking-receipt m) refl)
     (λ x r offer. every-append is_taking (received_steps m) _ (taking-receipt m) refl)
-    (λ x r reply. every-append is_taking (received_steps m) _ (taking-receipt m) refl) x
+    (λ x r reply. every-append is_taking (received_steps m) _ (taking-receipt m) refl)
+    (λ x r. every-append is_taking (received_steps m) _ (taking-receipt m) refl) x
 
 -- what a message that enters is taken by at once
 abbrev pub taken_at_once : MessageRow → World → List Basic

@@ -11,7 +11,7 @@ use Rattle.lpc_base.proofs.RowMaps.{every-both, every-change_to, every-map}
 use Rattle.lpc_base.proofs.RowWords.{every-append, every-change, every-more, every-push, every-without}
 use Rattle.lpc_message.specs.declared.kind.TheConstants.{DATAGRAM, REQUEST}
 use Rattle.lpc_tokens.specs.declared.security.Security.TheVariants.{Allows, Guarded}
-use Rattle.lpc_model.specs.declared.entry.CallName.TheVariants.{NtOpenProcessToken, NtOpenThreadToken, NtRegisterThreadTerminatePort}
+use Rattle.lpc_model.specs.declared.entry.CallName.TheVariants.{NtReplyPort, NtOpenProcessToken, NtOpenThreadToken, NtRegisterThreadTerminatePort}
 use Rattle.lpc_model.specs.declared.entry.Entry.TheVariants.{Answer}
 use Rattle.lpc_model.specs.declared.entry.ObjectKind.TheVariants as kind
 use Rattle.lpc_model.specs.World.{Birth, Dacl, Effective, Message, MessageRow, ObjectKind, Offer, Path, PortRow, Qos, Security, ThreadRow, ViewRow, World}
@@ -33,7 +33,23 @@ use Rattle.lpc_model.specs.SoundWaits.{is_past}
 use Rattle.lpc_model.specs.Sweep.{sweep}
 use Rattle.lpc_model.specs.Tests.{next_birth}
 use Rattle.lpc_model.proofs.Calls.Holding.{Holds, bind_holds, holds_ok}
-use Rattle.lpc_model.proofs.Calls.Lines.{AnyWorld, IsCalled, Keep, LineLaw, passing-lines, step-keeps}
+use Rattle.lpc_model.proofs.Calls.Lines.{AnyWorld, IsCalled, Keep, LineLaw, passing-lines}
+use Rattle.lpc_model.proofs.Calls.Raising.{on-holds, set-passes}
+use Rattle.lpc_model.proofs.Settling.Keeps.{step-keeps}
+use Rattle.lpc_model.proofs.Settling.Loop.{settle-kept}
+use Rattle.lpc_model.proofs.Settling.Settled.{IsReady}
+use Rattle.lpc_model.proofs.Sound.Reply.{reply-cases}
+use Rattle.lpc_model.proofs.Steps.Closing.{behind}
+use Rattle.lpc_model.proofs.Steps.Ending.{end-ending}
+use Rattle.lpc_model.specs.Basics.{Awaits, Dooms, DrawsIdentifier, basic, first_code, left_by}
+use Rattle.lpc_model.specs.Death.{code_status, end_threads}
+use Rattle.lpc_model.specs.Entering.{row_of}
+use Rattle.lpc_model.specs.Found.{live_threads}
+use Rattle.lpc_model.specs.Machine.{own_steps}
+use Rattle.lpc_model.specs.Raise.{Handled, Heard, Unhandled, Next, behind_chance, event_message, event_wait, go_on, goes_on, raise_steps, set_port_steps}
+use Rattle.lpc_model.specs.Settle.{end_doomed, settle}
+use Rattle.lpc_model.specs.Tests.{client_of}
+use Rattle.lpc_model.specs.World.{ProcessRow, Raised, WaitRow}
 use Rattle.lpc_model.proofs.Calls.Outcomes.{IsReceiving, Outcomes}
 use Rattle.lpc_model.proofs.Calls.Sharing.{accepted-keeps, connect_begun, connected-keeps}
 use Rattle.lpc_model.proofs.Calls.Usable.{by_port_kind}
@@ -204,7 +220,7 @@ entered-mild m w = ended-mild is_allowing allowing-fast (enter m w) (ending-ente
 
 replied-mild : (w : World) (port : PortRow) (m : Option Message) → Holds AreMild (given_reply w port m)
 replied-mild w port None = refl
-replied-mild w port (Some m) = bind_holds (reply_test w port m) _ AreMild (λ x _. refl)
+replied-mild w port (Some m) = bind_holds (reply_test w port m) _ AreMild (λ x _. reply-cases (λ b. AreMild (b ∷ [])) x m refl refl (λ _. refl))
 
 given-mild : (w : World) (by : ThreadRow) (handle : ℕ) (bytes : Option (List ℕ)) (o : Option Message) (port : PortRow) (queue : Birth) (replied : List Basic) → IsReceiving w by handle bytes o port queue replied → AreMild replied
 given-mild w by handle bytes o port queue replied r = holds_ok AreMild (given_reply w port o) replied (replied-mild w port o) r.reply_made
@@ -222,7 +238,7 @@ allowing-calls by w is = record {
   completes = λ handle c at. allows-all w (complete_steps by (free_handle w c.wait.process) c) refl;
   sends = λ handle bytes s at. let m = sent_by by DATAGRAM s.message in allows-all w (datagram_steps by s.port s.queue m w) (entered-mild (row_of s.queue s.port m) (world_after w (datagram_start by)));
   asks = λ handle bytes s at. let m = sent_by by REQUEST s.message in allows-all w (request_steps by s.port s.queue m w) (entered-mild (row_of s.queue s.port m) (world_after w (request_start by s.port.birth s.queue m)));
-  replies = λ handle bytes port m x at read fits. allows-all w (reply_steps by x m) refl;
+  replies = λ handle bytes port m x at read fits. allows-all w (reply_steps by x m) (reply-cases (λ b. AreMild (Tells (Answer by.number NtReplyPort SUCCESS []) ∷ b ∷ [])) x m refl refl (λ _. refl));
   receives = λ handle bytes o port queue replied m r at. allows-all w (receive_steps by port queue replied (Some m)) (every-append (is_mild is_allowing) replied _ (given-mild w by handle bytes o port queue replied r) (receipt-mild m));
   awaits_message = λ handle bytes o port queue replied r at. allows-all w (receive_steps by port queue replied None) (every-append (is_mild is_allowing) replied _ (given-mild w by handle bytes o port queue replied r) refl);
   registers = λ handle port at new few. allows-all w (Tells (Answer by.number NtRegisterThreadTerminatePort SUCCESS []) ∷ Registers by.number port.birth ∷ []) refl;
@@ -244,6 +260,10 @@ allowing-calls by w is = record {
   opens_own = λ own at. allows-all w (token_steps by NtOpenThreadToken (held_content own) (free_handle w by.process)) refl;
   opens_primary = allows-all w (token_steps by NtOpenProcessToken (process_content w by) (free_handle w by.process)) refl;
   asks_token = λ handle class t field at told all. all;
+  sets = λ target class handle pid port at found live. allows-all w (set_port_steps by class pid port.birth) (set-passes AreMild by class pid port.birth refl refl);
+  handles = λ code handled all. all;
+  hears = λ code handled h is. allows-all w (raise_steps by code handled (Heard h) w) (entered-mild (row_of h.queue h.port (event_message (client_of by) by.next_identifier code h.chance)) (basic (basic w (DrawsIdentifier by.number)) (Awaits (event_wait by code handled h))));
+  fails = λ code handled. allows-all w (Dooms by.process code ∷ []) refl;
   ends = λ call name own pid code ts doomed. ended-allows w (answered_end by name own pid code ts w) (steps-end w by name own pid code ts);
 }
   where
@@ -252,7 +272,25 @@ allowing-calls by w is = record {
 
 -- Lines
 allowing-lines : LineLaw AnyWorld (λ _. Keep HasAllowingClients)
-allowing-lines = passing-lines AnyWorld (Keep HasAllowingClients) (λ _. is_mild is_allowing) allows-all (λ w. record { tells = λ _. refl; processes = λ _. refl; threads = λ _ _ _. refl; binds = λ _ _. refl; names = λ _. refl }) allowing-calls
+allowing-lines = passing-lines AnyWorld (Keep HasAllowingClients) (λ _. is_mild is_allowing) allows-all (λ w. record { tells = λ _. refl; processes = λ _ _ _. refl; threads = λ _ _ _. refl; binds = λ _ _. refl; names = λ _. refl }) allowing-calls
 
-pub allowing_step : (w : World) (line : ScriptLine) → IsSafe w → HasAllowingClients w → HasAllowingClients (step w line).world
-allowing_step w line is = step-keeps AnyWorld HasAllowingClients allowing-lines (λ v. allows-all v (sweep v) (sweep_every (is_mild is_allowing) (λ _. refl) v)) w line is.sound tt
+-- Settling
+on-mild : (w : World) (tid : ℕ) → AreMild (go_on tid w)
+on-mild w tid = on-holds AreMild w tid refl (λ t x r g. at t x r (behind_chance w x.process r.handled r.chance))
+  where
+    at : (t : ThreadRow) (x : WaitRow) (r : Raised) (n : Next) → AreMild (goes_on t x r n w)
+    at t x r Handled = refl
+    at t x r (Heard h) =
+        let v : World = basic (basic (left_by x.thread w) (DrawsIdentifier t.number)) (Awaits (event_wait t r.code r.handled h)) in
+        entered-mild (row_of h.queue h.port (event_message (client_of t) t.next_identifier r.code h.chance)) v
+    at t x r Unhandled = refl
+
+doomed-allows : (w : World) (p : ProcessRow) → HasAllowingClients w → HasAllowingClients (behind (end_doomed p) w)
+unfolding end_doomed
+doomed-allows w p all = ended-allows w (end_threads p.number (code_status (first_code 0 p.doom)) (live_threads w p.number) w) (end-ending p.number (code_status (first_code 0 p.doom)) (live_threads w p.number) w) all
+
+allowing-settles : (w : World) → HasAllowingClients w → HasAllowingClients (behind settle w)
+allowing-settles = settle-kept HasAllowingClients (λ w tid later some all. allows-all w (go_on tid w) (on-mild w tid) all) (λ w p some all. doomed-allows w p all)
+
+pub allowing_step : (w : World) (line : ScriptLine) → IsReady (world_after w (own_steps line w)) → IsSafe w → HasAllowingClients w → HasAllowingClients (step w line).world
+allowing_step w line ready is = step-keeps AnyWorld HasAllowingClients allowing-lines (λ v r. allowing-settles v) (λ v. allows-all v (sweep v) (sweep_every (is_mild is_allowing) (λ _. refl) v)) w line is.sound tt ready

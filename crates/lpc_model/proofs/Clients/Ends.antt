@@ -18,12 +18,14 @@ use Rattle.lpc_model.specs.Death.{die}
 use Rattle.lpc_model.specs.Entering.{enter, received_steps, row_of, take_connect_steps, take_steps}
 use Rattle.lpc_model.specs.Lines.{ScriptLine}
 use Rattle.lpc_model.specs.Linked.{IsLinked, is_lone_offer, is_mutual, is_unjoined, passes_or_none}
-use Rattle.lpc_model.specs.Machine.{step}
+use Rattle.lpc_model.specs.Machine.{step, own_steps}
 use Rattle.lpc_model.specs.SoundWaits.{IsSoundWorld, is_connect_on, lacks_connects}
 use Rattle.lpc_model.specs.Sweep.{sweep}
 use Rattle.lpc_model.specs.Tests.{next_birth}
 use Rattle.lpc_model.proofs.Calls.Acts.{Law, complete_act, keeps_on, outcomes}
-use Rattle.lpc_model.proofs.Calls.Lines.{AnyWorld, IsCalled, Keep, LineLaw, Shut, passing-lines, step-keeps}
+use Rattle.lpc_model.proofs.Calls.Lines.{AnyWorld, IsCalled, Keep, LineLaw, Shut, passing-lines}
+use Rattle.lpc_model.proofs.Settling.Keeps.{step-keeps, settling-does}
+use Rattle.lpc_model.proofs.Settling.Settled.{IsReady}
 use Rattle.lpc_model.proofs.Calls.Sharing.{connect_begun}
 use Rattle.lpc_model.proofs.Calls.Usable.{by_port_kind}
 use Rattle.lpc_model.proofs.Linked.Calls.{lone-parts, unmade}
@@ -227,6 +229,12 @@ ends-law by = record {
   says = λ w e is. is;
   numbers = λ w is. is;
   wakes = λ w status fields x is. is;
+  marks = λ w who is all. all;
+  abandons = λ w who all. all;
+  debugs = λ w pid b stands live all. all;
+  excepts = λ w pid b stands live all. all;
+  dooms = λ w pid code all. all;
+  lets_go = λ w pid all. all;
   takes = λ w m. tame-all w (take_steps m) (receipt-tame m);
   listens = λ w m. tame-all w (take_connect_steps m) (receipt-tame m);
   waits = λ w x off is all. all;
@@ -269,7 +277,7 @@ ends-law by = record {
 
 -- Lines
 ends-lines : LineLaw (Shut IsSettled) (λ _. Keep HasClientEnds)
-ends-lines = passing-lines (Shut IsSettled) (Keep HasClientEnds) (λ _. is_tame) tame-all (λ w. record { tells = λ _. refl; processes = λ _. refl; threads = λ _ _ _. refl; binds = λ _ _. refl; names = λ _. refl }) (λ by. outcomes by (Shut IsSettled) AnyWorld (Keep HasClientEnds) (ends-law by) (λ w c. (c.0, tt)))
+ends-lines = passing-lines (Shut IsSettled) (Keep HasClientEnds) (λ _. is_tame) tame-all (λ w. record { tells = λ _. refl; processes = λ _ _ _. refl; threads = λ _ _ _. refl; binds = λ _ _. refl; names = λ _. refl }) (λ by. outcomes by (Shut IsSettled) AnyWorld (Keep HasClientEnds) (ends-law by) (λ w c. (c.0, tt)))
 
-pub ends_step : (w : World) (line : ScriptLine) → IsSafe w → IsSettled w → HasClientEnds w → HasClientEnds (step w line).world
-ends_step w line is t = step-keeps (Shut IsSettled) HasClientEnds ends-lines (λ v. tame-all v (sweep v) (sweep_every is_tame (λ _. refl) v)) w line is.sound (is.shut, t)
+pub ends_step : (w : World) (line : ScriptLine) → IsSafe w → IsReady (world_after w (own_steps line w)) → IsSettled w → HasClientEnds w → HasClientEnds (step w line).world
+ends_step w line is ready t = step-keeps (Shut IsSettled) HasClientEnds ends-lines (λ v r. settling-does (Shut IsSettled) AnyWorld (Keep HasClientEnds) ends-law (λ w tid _ _. tt) v r tt) (λ v. tame-all v (sweep v) (sweep_every is_tame (λ _. refl) v)) w line is.sound (is.shut, t) ready

@@ -15,7 +15,7 @@ use Rattle.lpc_model.specs.Close.{close_handle}
 use Rattle.lpc_model.specs.Creators.{KeepsConnects, keeps_connect}
 use Rattle.lpc_model.specs.Death.{die}
 use Rattle.lpc_model.specs.Lines.{ScriptLine}
-use Rattle.lpc_model.specs.Machine.{bare_steps, step}
+use Rattle.lpc_model.specs.Machine.{bare_steps, step, own_steps}
 use Rattle.lpc_model.specs.Sweep.{sweep}
 use Rattle.lpc_model.proofs.Calls.Acts.{Law, outcomes}
 use Rattle.lpc_model.proofs.Steps.Sweep.{stepped, sweep_every}
@@ -24,6 +24,8 @@ use Rattle.lpc_model.proofs.Calls.Lines.{AnyWorld, Shut, LineLaw, line-does, pas
 use Rattle.lpc_model.proofs.Sound.Terminate.{IsSafe}
 use Rattle.lpc_model.proofs.Steps.InTurn.{steps-keep}
 use Rattle.lpc_model.proofs.Calls.Sharing.{connect_begun}
+use Rattle.lpc_model.proofs.Settling.Keeps.{bare-does, settling-does}
+use Rattle.lpc_model.proofs.Settling.Settled.{IsReady}
 
 -- Basic steps
 -- a step makes no client port without them
@@ -76,6 +78,11 @@ keeping-law by = record {
   says = λ w e. refl;
   numbers = λ w. refl;
   wakes = λ w status fields x. refl;
+  marks = λ w who is. refl;
+  abandons = λ w who. refl;
+  debugs = λ w pid b stands live. refl;
+  excepts = λ w pid b stands live. refl;
+  dooms = λ w pid code. refl;
   takes = λ w m. ended-keeps (received_steps m) (ending-receipt m);
   listens = λ w m. ended-keeps (received_steps m) (ending-receipt m);
   waits = λ w x off is. refl;
@@ -97,6 +104,7 @@ keeping-law by = record {
   closes = λ w pid r at s _. ended-keeps (close_handle pid r w) (handle-ending pid r w);
   dies = λ w code t is. ended-keeps (die code t w) (die-ending code t w);
   leaves = λ w n b. refl;
+  lets_go = λ w pid. refl;
   vacates = λ w pid. refl;
   disowns = λ w b. refl;
   secures = λ w b s. refl;
@@ -110,8 +118,10 @@ keeping-law by = record {
 
 -- Lines
 keeping-lines : LineLaw (Shut AnyWorld) (λ _ _. AreKeeping)
-keeping-lines = passing-lines (Shut AnyWorld) (λ _. AreKeeping) (λ _. is_keeping) (λ w bs all. all) (λ w. record { tells = λ _. refl; processes = λ _. refl; threads = λ _ _ _. refl; binds = λ _ _. refl; names = λ _. refl }) (λ by. outcomes by (Shut AnyWorld) AnyWorld (λ _. AreKeeping) (keeping-law by) (λ w c. c))
+keeping-lines = passing-lines (Shut AnyWorld) (λ _. AreKeeping) (λ _. is_keeping) (λ w bs all. all) (λ w. record { tells = λ _. refl; processes = λ _ _ _. refl; threads = λ _ _ _. refl; binds = λ _ _. refl; names = λ _. refl }) (λ by. outcomes by (Shut AnyWorld) AnyWorld (λ _. AreKeeping) (keeping-law by) (λ w c. c))
 
-pub keeps_step : (w : World) (line : ScriptLine) → IsSafe w → KeepsConnects w → KeepsConnects (step w line).world
-keeps_step w line is k =
-    stepped KeepsConnects w line (λ v. keeping-all v (sweep v) (sweep_every is_keeping (λ _. refl) v)) (keeping-all w (bare_steps line w) (line-does (Shut AnyWorld) (λ _ _. AreKeeping) keeping-lines w is.sound (is.shut, tt) line) k)
+pub keeps_step : (w : World) (line : ScriptLine) → IsSafe w → IsReady (world_after w (own_steps line w)) → KeepsConnects w → KeepsConnects (step w line).world
+keeps_step w line is ready k =
+    let v = world_after w (own_steps line w) in
+    let keeping = bare-does (λ _. AreKeeping) (λ w. every-append is_keeping) w line (line-does (Shut AnyWorld) (λ _ _. AreKeeping) keeping-lines w is.sound (is.shut, tt) line) (settling-does (Shut AnyWorld) AnyWorld (λ _. AreKeeping) keeping-law (λ w tid _ _. tt) v ready tt) in
+    stepped KeepsConnects w line (λ v. keeping-all v (sweep v) (sweep_every is_keeping (λ _. refl) v)) (keeping-all w (bare_steps line w) keeping k)

@@ -10,7 +10,7 @@ use Rattle.lpc_base.proofs.Bools.{apart-second}
 use Rattle.lpc_model.specs.declared.entry.ObjectKind.TheVariants as kind
 use Rattle.lpc_model.specs.World.{Acceptance, Birth, HandleRow, HandleTable, MessageRow, ObjectKind, WaitRow, World}
 use Rattle.lpc_model.specs.Found.{has_handle_to, has_value, is_connect, is_open, is_own_of, is_port, is_queued, is_queued_connect, is_sent_on, is_table, names_port, port_name, same_birth, same_kind, waits_as, waits_at}
-use Rattle.lpc_model.specs.Basics.{Accepts, AddsHandle, AddsProcess, Awaits, Basic, Dies, DropsHandle, Empties, Enters, Frees, Receives, Takes, TakesConnect, Tells, Wakes, Withdraws, accepted, basic, freed, no_handles, put_handle, received, with_handle, without_handle, world_after}
+use Rattle.lpc_model.specs.Basics.{Accepts, AddsHandle, AddsProcess, Awaits, Basic, Dies, DropsHandle, Empties, Enters, Frees, Receives, Takes, TakesConnect, Tells, Wakes, Withdraws, accepted, basic, freed, no_handles, put_handle, received, with_handle, without_handle, world_after, Leaves, left_by}
 use Rattle.lpc_model.specs.Tests.{handle_row}
 use Rattle.lpc_model.specs.Sweep.{sweep}
 use Rattle.lpc_model.specs.Closings.{is_closed_post}
@@ -84,10 +84,10 @@ other-connect : (b : Birth) (x : WaitRow) → not (is_connect x) ≡ true → is
 other-connect b x off = grind arith
 
 accepted-connect : (b : Birth) (reply : Acceptance) (x : WaitRow) → is_connect_on b (accepted reply x) ≡ is_connect_on b x
-accepted-connect b reply = by_kind (λ x. is_connect_on b (accepted reply x) ≡ is_connect_on b x) (λ x m. refl) (λ x. refl) (λ x. refl) (λ x m offer. refl) (λ x m r. refl)
+accepted-connect b reply = by_kind (λ x. is_connect_on b (accepted reply x) ≡ is_connect_on b x) (λ x m. refl) (λ x. refl) (λ x. refl) (λ x m offer. refl) (λ x m r. refl) (λ x m. refl)
 
 accepted-shut : (w : World) (reply : Acceptance) (x : WaitRow) → waits_shut w x ≡ true → waits_shut w (accepted reply x) ≡ true
-accepted-shut w reply = by_kind (λ x. waits_shut w x ≡ true → waits_shut w (accepted reply x) ≡ true) (λ x m is. is) (λ x is. is) (λ x is. is) (λ x m offer is. is) (λ x m r is. is)
+accepted-shut w reply = by_kind (λ x. waits_shut w x ≡ true → waits_shut w (accepted reply x) ≡ true) (λ x m is. is) (λ x is. is) (λ x is. is) (λ x m offer is. is) (λ x m r is. is) (λ x m is. is)
 
 not-both : (a b : Bool) → not a ≡ true → not (a && b) ≡ true
 not-both a b is = grind arith
@@ -98,7 +98,8 @@ freed-untold w e b u = record { closed = u.closed; once = u.once; connects = u.c
 
 hushed-step : (w : World) (b : Basic) → is_hushed b ≡ true → HasSingleClosings w → HasSingleClosings (basic w b)
 hushed-step w (Tells e) is u = u
-hushed-step w (Wakes who call status fields) is u = waits-untold w _ (λ b. has_none-without (is_connect_on b) (waits_as who) w.waits) (every-without (waits_shut w) (waits_as who) w.waits) u
+hushed-step w (Wakes who call status fields) is u = untold-from w (left_by who w) (λ b off. off) (λ b. has_none-without (is_connect_on b) (waits_as who) w.waits) (λ all. all) u.once (every-without (waits_shut w) (waits_as who) w.waits) u
+hushed-step w (Leaves who) is u = untold-from w (left_by who w) (λ b off. off) (λ b. has_none-without (is_connect_on b) (waits_as who) w.waits) (λ all. all) u.once (every-without (waits_shut w) (waits_as who) w.waits) u
 hushed-step w (Dies who status) is u = untold-from w (basic w (Dies who status)) (λ b off. off) (λ b. has_none-without (is_connect_on b) (waits_as who) w.waits) (λ all. all) u.once (every-without (waits_shut w) (waits_as who) w.waits) u
 hushed-step w (Awaits x) is u = waits-untold w _ (λ b off. has_none-push (is_connect_on b) w.waits x off (other-connect b x is)) (λ all. every-push (waits_shut w) w.waits x all (not-both (is_connect x) (is_open w x.port) is)) u
 hushed-step w (Receives who queue) is u = waits-untold w _ (λ b off. rw (has-change (is_connect_on b) (waits_at who queue) received (λ x. refl) w.waits) off) (every-change (waits_shut w) (waits_at who queue) received (λ x is. is) w.waits) u

@@ -1,4 +1,6 @@
 -- Each line keeps what stands in queues of closings.
+use Rattle.lpc_model.proofs.Steps.Closing.{behind}
+use Rattle.lpc_model.specs.Settle.{settle}
 use Rattle.lpc_base.proofs.Births.{birth-same}
 use Rattle.lpc_base.proofs.Bools.{first-true, second-true}
 use Rattle.lpc_base.proofs.RowMaps.{every-first, every-kept}
@@ -7,7 +9,6 @@ use Rattle.lpc_base.specs.Rows.{every, first, has, without}
 use Rattle.lpc_base.specs.declared.status.TheConstants.{SUCCESS}
 use Rattle.lpc_model.proofs.Calls.Acts.{IsGift, Law, accept_act, complete_act, connect_act, create_act, keeps_on, outcomes}
 use Rattle.lpc_model.proofs.Calls.Lines.{AnyWorld, IsCalled, Shut, Keep, LineLaw, line-does, passing-lines}
-use Rattle.lpc_model.proofs.Steps.Sweep.{stepped}
 use Rattle.lpc_model.proofs.Linked.Calls.{unmade}
 use Rattle.lpc_model.proofs.Steps.Rows.{has-found}
 use Rattle.lpc_model.proofs.Closings.Single.{added-untold, further-untold, hushed-all, offered-untold, open-stands, swept-untold, tells_shut}
@@ -18,7 +19,7 @@ use Rattle.lpc_model.proofs.Steps.InTurn.{after-append}
 use Rattle.lpc_model.proofs.Closings.Told.{AreHushed, hushed-enter, hushed-receipt, is_hushed}
 use Rattle.lpc_model.proofs.Closings.ToldLines.{die-hushed}
 use Rattle.lpc_model.proofs.Calls.Usable.{CanCall}
-use Rattle.lpc_model.specs.Basics.{Accepts, AddsHandle, AddsProcess, AddsThread, Awaits, Basic, Completes, DrawsIdentifier, DrawsOrdinal, DropsOwned, DropsViewsOf, Joins, Makes, Registers, Unregisters, basic, world_after, AddsSection, Maps, Unmaps, Writes, Secures, Acts, AddsToken}
+use Rattle.lpc_model.specs.Basics.{Accepts, AddsHandle, AddsProcess, AddsThread, Awaits, Basic, Completes, DrawsIdentifier, DrawsOrdinal, DropsOwned, DropsViewsOf, Joins, Makes, Registers, Unregisters, basic, world_after, AddsSection, Maps, Unmaps, Writes, Secures, Acts, AddsToken, Dooms, Leaves, LetsGo, Marks, SetsDebug, SetsException}
 use Rattle.lpc_model.specs.Closings.{is_closed_post}
 use Rattle.lpc_model.specs.Connect.{Completable, acceptance_of, client_port, connect_wait, connection_request, is_accepted_on, named_steps, server_port, unnamed_steps}
 use Rattle.lpc_model.specs.Creation.{new_process, new_thread, second_birth}
@@ -28,9 +29,9 @@ use Rattle.lpc_model.specs.Fields.{h, completion_fields}
 use Rattle.lpc_model.specs.Found.{free_handle, is_accepted, is_open, is_port, port_name, same_birth, waits_as}
 use Rattle.lpc_model.specs.Lines.{ScriptLine}
 use Rattle.lpc_model.specs.Memory.{new_section}
-use Rattle.lpc_model.specs.Machine.{bare_steps}
+use Rattle.lpc_model.specs.Machine.{own_steps, step}
 use Rattle.lpc_model.specs.Message.{made}
-use Rattle.lpc_model.specs.SingleClosings.{HasSingleClosings, StepsKeepSingleClosings, is_closing_of}
+use Rattle.lpc_model.specs.SingleClosings.{HasSingleClosings, is_closing_of}
 use Rattle.lpc_model.specs.SoundWaits.{IsSoundWorld, can_stay_sound, is_connect_on}
 use Rattle.lpc_model.specs.Standing.{NamesWhatStands}
 use Rattle.lpc_model.specs.Tests.{PORT_ACCESS, handle_row, next_birth}
@@ -40,6 +41,8 @@ use Rattle.std.proofs.lemmas.Bool.{and_from, eqb-true, false_from_ne_true}
 use Rattle.std.specs.Prelude.{◌&&◌, ◌==◌, ◌||◌}
 use Rattle.lpc_model.proofs.Calls.Sharing.{connect_begun}
 use Rattle.lpc_model.specs.Impersonation.{new_token}
+use Rattle.lpc_model.proofs.Settling.Keeps.{settling-does, step-keeps}
+use Rattle.lpc_model.proofs.Settling.Settled.{IsReady}
 
 -- the steps leave a world that tells of no open port
 abbrev KeepUntold : World → List Basic → Type 0
@@ -101,7 +104,7 @@ waited-untold w b u waited = every-more (tells_shut w) (λ m. not (is_closing_of
 
 -- and no other connect waits there: each is of the thread that made the port
 pub its-maker : (w : World) (x : WaitRow) → is_accepted x ≡ true → can_stay_sound w x ≡ true → (x.port.maker == x.thread) ≡ true
-its-maker w = by_kind (λ x. is_accepted x ≡ true → can_stay_sound w x ≡ true → (x.port.maker == x.thread) ≡ true) (λ x m of is. absurd (cc)) (λ x of is. absurd (cc)) (λ x of is. absurd (cc)) (λ x m offer of is. absurd (cc)) (λ x m r of is. grind arith)
+its-maker w = by_kind (λ x. is_accepted x ≡ true → can_stay_sound w x ≡ true → (x.port.maker == x.thread) ≡ true) (λ x m of is. absurd (cc)) (λ x of is. absurd (cc)) (λ x of is. absurd (cc)) (λ x m offer of is. absurd (cc)) (λ x m r of is. grind arith) (λ x r of is. absurd (cc))
 
 completed-untold : (w : World) (c : Completable) → first (is_accepted_on c.client) w.waits ≡ Some c.wait → IsSoundWorld w → KeepUntold w (complete_act w c)
 completed-untold w c found s u =
@@ -129,7 +132,7 @@ further-gift w pid o access is u = further-untold w pid (handle_row (free_handle
 entered-untold : (w : World) (m : MessageRow) → not (is_closed_post m) ≡ true → KeepUntold w (enter m w)
 entered-untold w m other = hushed-all w (enter m w) (hushed-enter m w other)
 
-untold-law : (by : ThreadRow) → Law by (Shut NamesWhatStands) AnyWorld KeepUntold
+pub untold-law : (by : ThreadRow) → Law by (Shut NamesWhatStands) AnyWorld KeepUntold
 untold-law by = record {
   keeps = λ w bs all _. tt;
   nothing = λ w u. u;
@@ -137,6 +140,11 @@ untold-law by = record {
   says = λ w e u. u;
   numbers = λ w. hushed-all w (DrawsIdentifier by.number ∷ []) refl;
   wakes = λ w status fields x. hushed-all w (woken status fields x ∷ []) refl;
+  marks = λ w who is. hushed-all w (Marks who ∷ []) refl;
+  abandons = λ w who. hushed-all w (Leaves who ∷ []) refl;
+  debugs = λ w pid b stands live. hushed-all w (SetsDebug pid b ∷ []) refl;
+  excepts = λ w pid b stands live. hushed-all w (SetsException pid b ∷ []) refl;
+  dooms = λ w pid code. hushed-all w (Dooms pid code ∷ []) refl;
   takes = λ w m. hushed-all w (take_steps m) (hushed-receipt m);
   listens = λ w m. hushed-all w (take_connect_steps m) (hushed-receipt m);
   waits = λ w x off is. hushed-all w (Awaits x ∷ []) (and_from _ true off refl);
@@ -154,6 +162,7 @@ untold-law by = record {
   closes = λ w pid r at s _. handle-untold w pid r at s;
   dies = λ w code t is. hushed-all w (die code t w) (die-hushed code t w);
   leaves = λ w n b. hushed-all w (Unregisters n b ∷ []) refl;
+  lets_go = λ w pid. hushed-all w (LetsGo pid ∷ []) refl;
   vacates = λ w pid. hushed-all w (DropsViewsOf pid ∷ []) refl;
   disowns = λ w b. hushed-all w (DropsOwned b ∷ []) refl;
   secures = λ w b s. hushed-all w (Secures b s ∷ []) refl;
@@ -167,15 +176,19 @@ untold-law by = record {
 
 -- Lines
 pub untold-lines : LineLaw (Shut NamesWhatStands) (λ _. KeepUntold)
-untold-lines = passing-lines (Shut NamesWhatStands) KeepUntold (λ w. is_hushed) hushed-all (λ w. record { tells = λ _. refl; processes = λ _. refl; threads = λ _ _ _. refl; binds = λ _ _. refl; names = λ _. refl }) (λ by. outcomes by (Shut NamesWhatStands) AnyWorld KeepUntold (untold-law by) (λ w c. (c.0, tt)))
+untold-lines = passing-lines (Shut NamesWhatStands) KeepUntold (λ w. is_hushed) hushed-all (λ w. record { tells = λ _. refl; processes = λ _ _ _. refl; threads = λ _ _ _. refl; binds = λ _ _. refl; names = λ _. refl }) (λ by. outcomes by (Shut NamesWhatStands) AnyWorld KeepUntold (untold-law by) (λ w c. (c.0, tt)))
 
--- before rows go
-pub untold_line : (w : World) (line : ScriptLine) → IsSoundWorld w → NamesWhatStands w → HasSingleClosings w → HasSingleClosings (world_after w (bare_steps line w))
+-- before the world settles
+pub untold_line : (w : World) (line : ScriptLine) → IsSoundWorld w → NamesWhatStands w → HasSingleClosings w → HasSingleClosings (world_after w (own_steps line w))
 untold_line w line s n u = line-does (Shut NamesWhatStands) (λ _. KeepUntold) untold-lines w s (u.connects, n) line u
 
+-- settling
+pub untold-settles : (v : World) → IsReady v → HasSingleClosings v → HasSingleClosings (behind settle v)
+untold-settles v r = settling-does (Shut NamesWhatStands) AnyWorld KeepUntold untold-law (λ w tid _ _. tt) v r tt
+
 -- the step of a line
-pub untold_step : StepsKeepSingleClosings
-untold_step w line s n u = stepped HasSingleClosings w line swept-untold (untold_line w line s n u)
+pub untold_step : (w : World) (line : ScriptLine) → IsSoundWorld w → NamesWhatStands w → IsReady (world_after w (own_steps line w)) → HasSingleClosings w → HasSingleClosings (step w line).world
+untold_step w line s n ready u = step-keeps (Shut NamesWhatStands) HasSingleClosings untold-lines untold-settles swept-untold w line s (u.connects, n) ready u
 
 pub untold_none : HasSingleClosings no_rows
 untold_none = record { closed = refl; once = λ b. grind arith; connects = refl }

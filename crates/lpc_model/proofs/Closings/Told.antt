@@ -8,14 +8,14 @@ use Rattle.lpc_base.proofs.Bools.{first-true, second-true}
 use Rattle.lpc_base.specs.declared.status.TheConstants.{PORT_DISCONNECTED}
 use Rattle.lpc_model.specs.World.{Birth, Creator, HandleRow, MessageRow, PortRow, World}
 use Rattle.lpc_model.specs.Found.{handle_at, if_open, is_client_port, is_connect, is_port, port_row}
-use Rattle.lpc_model.specs.Basics.{AddsHandle, Awaits, Basic, Cuts, DropsHandle, DropsOwned, Empties, Enters, Receives, Takes, TakesConnect, Unbinds, Wakes, Withdraws, basic, cut, is_end_of, posted, posts_of, world_after}
+use Rattle.lpc_model.specs.Basics.{AddsHandle, Awaits, Basic, Cuts, DropsHandle, DropsOwned, Empties, Enters, Receives, Takes, TakesConnect, Unbinds, Wakes, Withdraws, basic, cut, is_end_of, posted, posts_of, world_after, Marks}
 use Rattle.lpc_model.specs.Entering.{enter, received_steps}
 use Rattle.lpc_model.specs.Sweep.{sweep}
 use Rattle.lpc_model.specs.Closings.{closes, is_closed_post, closing_posts, closings_posted}
-use Rattle.lpc_model.specs.Close.{close_handle, close_port, closed_row, cut_pair, drop_name, empty_queue, end_receives, end_request, end_requests, is_last, is_receiver, is_request_on, post_closed, server_of, closing_post, wake}
+use Rattle.lpc_model.specs.Close.{close_handle, close_port, closed_row, cut_pair, drop_name, empty_queue, end_receives, end_request, end_requests, is_last, is_receiver, is_request_on, post_closed, server_of, closing_post, wake, is_event_on, mark_event, mark_events}
 use Rattle.lpc_model.specs.SoundWaits.{IsSoundWorld}
 use Rattle.lpc_model.proofs.Sound.Cuts.{cut-row, no-row}
-use Rattle.lpc_model.proofs.Steps.Closing.{close-pass, ends-pass, pair-pass, queue-pass, stage_five, stage_four, stage_one, stage_three, stage_two, takes_away}
+use Rattle.lpc_model.proofs.Steps.Closing.{close-pass, ends-pass, pair-pass, queue-pass, stage_five, stage_four, stage_one, stage_three, stage_two, takes_away, stage_marked}
 use Rattle.lpc_model.proofs.Sound.Closing.{close-shut, five-shut}
 use Rattle.lpc_model.proofs.Sound.Close.{shut-found}
 use Rattle.lpc_model.proofs.Steps.Sweep.{sweep_every}
@@ -140,6 +140,7 @@ away-calm (Withdraws who) is = refl
 away-calm (Empties q) is = refl
 away-calm (Unbinds b) is = refl
 away-calm (DropsOwned b) is = refl
+away-calm (Marks who) is = refl
 away-calm x is = absurd (cc)
 
 -- what is posted at last, in the world behind the cut
@@ -188,13 +189,15 @@ close-told w b s =
     let seven : List Basic = DropsOwned b ∷ [] in
     let six = post_closed b (stage_five w b) ++ seven in
     let five = cut_pair b (stage_four w b) ++ six in
-    let four = empty_queue b (stage_three w b) ++ five in
-    let three = end_requests b (stage_two w b) ++ four in
+    let four = empty_queue b (stage_marked w b) ++ five in
+    let marks = mark_events b (stage_three w b) ++ four in
+    let three = end_requests b (stage_two w b) ++ marks in
     let two = end_receives b (stage_one w b) ++ three in
     posts-behind (drop_name b w) two refl
     ∙ posts-behind (end_receives b (stage_one w b)) three (ends-pass is_calm away-calm (λ w. is_receiver b) (wake PORT_DISCONNECTED) (λ x. refl) (stage_one w b))
-    ∙ posts-behind (end_requests b (stage_two w b)) four (ends-pass is_calm away-calm (λ w. is_request_on b) (end_request PORT_DISCONNECTED) (λ x. refl) (stage_two w b))
-    ∙ posts-behind (empty_queue b (stage_three w b)) five (queue-pass is_calm away-calm b (stage_three w b))
+    ∙ posts-behind (end_requests b (stage_two w b)) marks (ends-pass is_calm away-calm (λ w. is_request_on b) (end_request PORT_DISCONNECTED) (λ x. refl) (stage_two w b))
+    ∙ posts-behind (mark_events b (stage_three w b)) four (ends-pass is_calm away-calm (is_event_on b) mark_event (λ x. refl) (stage_three w b))
+    ∙ posts-behind (empty_queue b (stage_marked w b)) five (queue-pass is_calm away-calm b (stage_marked w b))
     ∙ posts-behind (cut_pair b (stage_four w b)) six (pair-pass is_calm away-calm b (stage_four w b) refl)
     ∙ posts-before (post_closed b (stage_five w b)) seven refl
     ∙ posted-told w (stage_five w b) b t.handles t.ports

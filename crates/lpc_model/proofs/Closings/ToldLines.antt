@@ -7,18 +7,20 @@ use Rattle.lpc_model.proofs.Calls.Lines.{AnyWorld, Shut, LineLaw, line-does, pas
 use Rattle.lpc_model.proofs.Steps.Ending.{die-pass}
 use Rattle.lpc_model.proofs.Held.FreedPort.{step_swept}
 use Rattle.lpc_model.proofs.Closings.Told.{AreHushed, TellsClosings, calm-all, calm-tells, handle-tells, hushed-enter, hushed-receipt, is_hushed, sweep-dropless, tells-append, told-before}
-use Rattle.lpc_model.specs.Basics.{Awaits, Basic, DropsOwned, Empties, Unbinds, Wakes, Withdraws, basic, world_after}
+use Rattle.lpc_model.specs.Basics.{Awaits, Basic, DropsOwned, Empties, Unbinds, Wakes, Withdraws, basic, world_after, Marks}
 use Rattle.lpc_model.specs.Closings.{ClosingsAreTold, is_closed_post}
 use Rattle.lpc_model.specs.Connect.{client_port, connection_request}
 use Rattle.lpc_model.specs.Death.{die}
 use Rattle.lpc_model.specs.Entering.{enter, row_of, take_connect_steps, take_steps}
 use Rattle.lpc_model.specs.Lines.{ScriptLine}
-use Rattle.lpc_model.specs.Machine.{Stepped, bare_steps}
+use Rattle.lpc_model.specs.Machine.{Stepped, bare_steps, own_steps}
 use Rattle.lpc_model.specs.SoundWaits.{HasShutConnects, IsSoundWorld}
 use Rattle.lpc_model.specs.Sweep.{sweep}
 use Rattle.lpc_model.specs.World.{ThreadRow, World}
 use Rattle.std.proofs.Common.{List, ap, refl, sym, true, ◌∙◌, ◌∷◌, ◌≡◌}
 use Rattle.lpc_model.proofs.Calls.Sharing.{connect_begun}
+use Rattle.lpc_model.proofs.Settling.Keeps.{bare-does, settling-does}
+use Rattle.lpc_model.proofs.Settling.Settled.{IsReady}
 
 -- Steps of threads that end
 away-hushed : (x : Basic) → takes_away x ≡ true → is_hushed x ≡ true
@@ -27,6 +29,7 @@ away-hushed (Withdraws who) is = refl
 away-hushed (Empties q) is = refl
 away-hushed (Unbinds b) is = refl
 away-hushed (DropsOwned b) is = refl
+away-hushed (Marks who) is = refl
 away-hushed x is = absurd (cc)
 
 pub die-hushed : (code : Status) (t : ThreadRow) (w : World) → AreHushed (die code t w)
@@ -44,6 +47,11 @@ told-law by = record {
   says = λ w e. refl;
   numbers = λ w. refl;
   wakes = λ w status fields x. refl;
+  marks = λ w who is. refl;
+  abandons = λ w who. refl;
+  debugs = λ w pid b stands live. refl;
+  excepts = λ w pid b stands live. refl;
+  dooms = λ w pid code. refl;
   takes = λ w m. hushed-tells w (take_steps m) (hushed-receipt m);
   listens = λ w m. hushed-tells w (take_connect_steps m) (hushed-receipt m);
   waits = λ w x off is. refl;
@@ -64,6 +72,7 @@ told-law by = record {
   closes = λ w pid r at s _. handle-tells w pid r at s;
   dies = λ w code t is. hushed-tells w (die code t w) (die-hushed code t w);
   leaves = λ w n b. refl;
+  lets_go = λ w pid. refl;
   vacates = λ w pid. refl;
   disowns = λ w b. refl;
   secures = λ w b s. refl;
@@ -77,14 +86,14 @@ told-law by = record {
 
 -- Lines
 told-lines : LineLaw (Shut AnyWorld) (λ _. TellsClosings)
-told-lines = passing-lines (Shut AnyWorld) TellsClosings (λ _. is_hushed) hushed-tells (λ w. record { tells = λ _. refl; processes = λ _. refl; threads = λ _ _ _. refl; binds = λ _ _. refl; names = λ _. refl }) (λ by. outcomes by (Shut AnyWorld) AnyWorld TellsClosings (told-law by) (λ w c. c))
+told-lines = passing-lines (Shut AnyWorld) TellsClosings (λ _. is_hushed) hushed-tells (λ w. record { tells = λ _. refl; processes = λ _ _ _. refl; threads = λ _ _ _. refl; binds = λ _ _. refl; names = λ _. refl }) (λ by. outcomes by (Shut AnyWorld) AnyWorld TellsClosings (told-law by) (λ w c. c))
 
 -- before rows go
-line-told : (w : World) (line : ScriptLine) → IsSoundWorld w → HasShutConnects w → TellsClosings w (bare_steps line w)
-line-told w line s shut = line-does (Shut AnyWorld) (λ _. TellsClosings) told-lines w s (shut, tt) line
+line-told : (w : World) (line : ScriptLine) → IsSoundWorld w → HasShutConnects w → IsReady (world_after w (own_steps line w)) → TellsClosings w (bare_steps line w)
+line-told w line s shut ready = bare-does TellsClosings tells-append w line (line-does (Shut AnyWorld) (λ _. TellsClosings) told-lines w s (shut, tt) line) (settling-does (Shut AnyWorld) AnyWorld TellsClosings told-law (λ w tid _ _. tt) (world_after w (own_steps line w)) ready tt)
 
 -- rows that go tell of nothing
-pub closings_told : (w : World) (line : ScriptLine) → IsSoundWorld w → HasShutConnects w → ClosingsAreTold w line
-closings_told w line s shut =
+pub closings_told : (w : World) (line : ScriptLine) → IsSoundWorld w → HasShutConnects w → IsReady (world_after w (own_steps line w)) → ClosingsAreTold w line
+closings_told w line s shut ready =
     let bs = bare_steps line w in
-    ap (λ (t : Stepped). which is_closed_post t.posts) (step_swept w line) ∙ (line-told w line s shut ∙ sym (told-before w bs (sweep (world_after w bs)) (sweep-dropless (world_after w bs))))
+    ap (λ (t : Stepped). which is_closed_post t.posts) (step_swept w line) ∙ (line-told w line s shut ready ∙ sym (told-before w bs (sweep (world_after w bs)) (sweep-dropless (world_after w bs))))

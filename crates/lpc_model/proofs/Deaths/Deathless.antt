@@ -6,7 +6,7 @@ use Rattle.lpc_base.proofs.Bools.{first-true}
 use Rattle.lpc_base.specs.Rows.{every, first, given, passes, when}
 use Rattle.lpc_base.specs.declared.status.Status.{Status}
 use Rattle.lpc_base.specs.declared.status.TheConstants.{SUCCESS}
-use Rattle.lpc_message.specs.declared.kind.TheConstants.{DATAGRAM, REQUEST}
+use Rattle.lpc_message.specs.declared.kind.TheConstants.{DATAGRAM, REQUEST, CLIENT_DIED}
 use Rattle.lpc_model.proofs.Calls.Acts.{complete-found}
 use Rattle.lpc_model.proofs.Steps.Closing.{close-pass, stage_five, takes_away}
 use Rattle.lpc_model.proofs.Steps.Ending.{answered_end, ending-enter, ending-receipt, handle-ending, is_ending}
@@ -16,18 +16,18 @@ use Rattle.lpc_model.proofs.Calls.Outcomes.{AreDoomed, Outcomes}
 use Rattle.lpc_model.proofs.Steps.Rows.{has-found}
 use Rattle.lpc_model.proofs.Calls.Taking.{is_taking, taken_at_once, taking-entered, taking-receipt}
 use Rattle.lpc_model.proofs.Calls.Usable.{CanCall}
-use Rattle.lpc_model.specs.Basics.{AddsHandle, AddsThread, Basic, Dies, DropsHandle, DropsOwned, Empties, Enters, Frees, Maps, Receives, Registers, Takes, TakesConnect, Tells, Unbinds, Unregisters, Wakes, Withdraws, world_after}
+use Rattle.lpc_model.specs.Basics.{AddsHandle, AddsThread, Basic, Dies, DropsHandle, DropsOwned, Empties, Enters, Frees, Maps, Receives, Registers, Takes, TakesConnect, Tells, Unbinds, Unregisters, Wakes, Withdraws, world_after, Marks, AddsProcess, SetsDebug, SetsException}
 use Rattle.lpc_model.specs.Close.{close_handle, close_port, closed_row, closing_post, is_last, post_closed, server_of}
 use Rattle.lpc_model.specs.Connect.{Completable, client_port, complete_test, connection_request, is_accepted_on, connect_start, ConnectAnswer, names_connect, answer_test, accept_start, allow_steps, connect_steps, create_steps, guard_steps, named_steps}
 use Rattle.lpc_model.specs.Deaths.{is_died_post}
 use Rattle.lpc_model.specs.Entering.{enter, received_steps, row_of, take_steps}
 use Rattle.lpc_model.specs.Found.{is_live, is_live_thread, live_thread, lives_in, port_row, free_handle}
 use Rattle.lpc_model.specs.Register.{is_registered}
-use Rattle.lpc_model.specs.Request.{datagram_start, given_reply, reply_test, request_start, sent_by}
+use Rattle.lpc_model.specs.Request.{datagram_start, given_reply, reply_test, request_start, sent_by, reply_steps}
 use Rattle.lpc_model.specs.SoundWaits.{IsSoundWorld, is_sound_as, is_sound_wait}
-use Rattle.lpc_model.specs.World.{Birth, Creator, HandleRow, Message, MessageRow, PortRow, ThreadRow, WaitRow, World}
+use Rattle.lpc_model.specs.World.{Birth, Creator, HandleRow, Message, MessageRow, PortRow, ThreadRow, WaitRow, World, Chance, FirstDebug, LastDebug, LastException}
 use Rattle.lpc_model.specs.declared.entry.CallName.{CallName}
-use Rattle.lpc_model.specs.declared.entry.CallName.TheVariants.{NtRegisterThreadTerminatePort}
+use Rattle.lpc_model.specs.declared.entry.CallName.TheVariants.{NtRegisterThreadTerminatePort, NtReplyPort}
 use Rattle.lpc_model.specs.declared.entry.Entry.TheVariants.{Answer}
 use Rattle.std.proofs.Common.{Bool, List, None, Option, Some, [], arith, false, length, not, refl, true, ℕ, ◌++◌, ◌∷◌, ◌≡◌}
 use Rattle.std.proofs.lemmas.Bool.Decides.{nat_tests}
@@ -36,7 +36,12 @@ use Rattle.std.specs.Prelude.{Ok, option_and_then, option_map, ◌&&◌, ◌==�
 use Rattle.lpc_model.proofs.Calls.Sharing.{mapped-pass, shared-pass, guard-pass}
 use Rattle.lpc_model.specs.Offers.{mapped, shared_steps}
 use Rattle.lpc_model.proofs.Calls.Tested.{named-wait}
-use Rattle.lpc_model.specs.Tests.{next_birth}
+use Rattle.lpc_model.specs.Tests.{next_birth, client_of}
+use Rattle.lpc_message.specs.declared.message.ClientId.{ClientId}
+use Rattle.lpc_model.proofs.Calls.Raising.{set-passes}
+use Rattle.lpc_model.proofs.Sound.Reply.{reply-cases}
+use Rattle.lpc_model.specs.Raise.{event_begun, event_kind, event_message, raise_told, set_port_steps}
+use Rattle.lpc_model.specs.Left.{is_portless}
 
 -- Steps
 abbrev pub is_deathless : Basic → Bool
@@ -72,6 +77,7 @@ away-deathless (Withdraws who) is = refl
 away-deathless (Empties q) is = refl
 away-deathless (Unbinds b) is = refl
 away-deathless (DropsOwned b) is = refl
+away-deathless (Marks who) is = refl
 away-deathless x is = absurd (cc)
 
 posted-deathless : (b : Birth) (w : World) → AreDeathless (post_closed b w)
@@ -105,6 +111,9 @@ is_mild w (Frees o) = false
 is_mild w (AddsThread t) = t.live && (length t.registrations == 0)
 is_mild w (AddsHandle pid h) = is_live w pid
 is_mild w (Maps pid x) = is_live w pid
+is_mild w (SetsDebug pid b) = is_live w pid
+is_mild w (SetsException pid b) = is_live w pid
+is_mild w (AddsProcess p) = is_portless p
 is_mild w b = is_deathless b
 
 abbrev pub AreMild : World → List Basic → Type 0
@@ -116,6 +125,9 @@ mild-deathless w (Frees o) is = absurd (cc)
 mild-deathless w (AddsThread t) is = refl
 mild-deathless w (AddsHandle pid h) is = refl
 mild-deathless w (Maps pid x) is = refl
+mild-deathless w (SetsDebug pid b) is = refl
+mild-deathless w (SetsException pid b) is = refl
+mild-deathless w (AddsProcess p) is = refl
 mild-deathless w b is = is
 
 pub milds-deathless : (w : World) (bs : List Basic) → AreMild w bs → AreDeathless bs
@@ -127,9 +139,12 @@ ending-mild w (Frees o) ends is = absurd (cc)
 ending-mild w (AddsThread t) ends is = absurd (cc)
 ending-mild w (AddsHandle pid h) ends is = absurd (cc)
 ending-mild w (Maps pid x) ends is = absurd (cc)
+ending-mild w (SetsDebug pid b) ends is = absurd (cc)
+ending-mild w (SetsException pid b) ends is = absurd (cc)
+ending-mild w (AddsProcess p) ends is = absurd (cc)
 ending-mild w b ends is = is
 
-mild-enter : (w v : World) (m : MessageRow) → not (is_died_post m) ≡ true → AreMild w (enter m v)
+pub mild-enter : (w v : World) (m : MessageRow) → not (is_died_post m) ≡ true → AreMild w (enter m v)
 mild-enter w v m off = every-both is_ending is_deathless (is_mild w) (ending-mild w) (enter m v) (ending-enter m v) (deathless-enter m v off)
 
 pub handle-mild : (w : World) (pid : ℕ) (r : HandleRow) → AreMild w (close_handle pid r w)
@@ -140,7 +155,7 @@ mild-receipt w m = every-both is_ending is_deathless (is_mild w) (ending-mild w)
 
 given-mild : (w : World) (port : PortRow) (o : Option Message) → Holds (AreMild w) (given_reply w port o)
 given-mild w port None = refl
-given-mild w port (Some m) = bind_holds (reply_test w port m) _ (AreMild w) (λ x _. refl)
+given-mild w port (Some m) = bind_holds (reply_test w port m) _ (AreMild w) (λ x _. reply-cases (λ b. AreMild w (b ∷ [])) x m refl refl (λ _. refl))
 
 -- the process of a caller lives, and that of a wait
 pub caller-lives : (w : World) (by : ThreadRow) → CanCall w by → is_live w by.process ≡ true
@@ -176,6 +191,11 @@ module _ (by : ThreadRow) (C : World → Type 0) (P : World → List Basic → T
       let found = holds_ok (λ (c : Completable). first (is_accepted_on c.client) w.waits ≡ Some c.wait) (complete_test w by handle) c (complete-found w by handle) at in
       waiter-lives w c.wait (every-first (is_sound_wait w) (is_accepted_on c.client) w.waits c.wait s.waits found)
 
+  undied : (client : ClientId) (identifier code : ℕ) (c : Chance) → not (event_kind c == CLIENT_DIED) ≡ true
+  undied client identifier code FirstDebug = refl
+  undied client identifier code LastDebug = refl
+  undied client identifier code LastException = refl
+
   pub life-outcomes : (w : World) → IsCalled C w by → Outcomes w by (λ _. P w)
   life-outcomes w is = record {
     creates = λ dacl. k.mild w _ (rw (caller-lives w by is.can) refl);
@@ -195,7 +215,7 @@ module _ (by : ThreadRow) (C : World → Type 0) (P : World → List Basic → T
     completes = λ handle c at. k.mild w _ (rw (waiter-live w handle c at is.sound) refl);
     sends = λ handle bytes s at. sending w (datagram_start by) (row_of s.queue s.port (sent_by by DATAGRAM s.message)) refl refl;
     asks = λ handle bytes s at. sending w (request_start by s.port.birth s.queue (sent_by by REQUEST s.message)) (row_of s.queue s.port (sent_by by REQUEST s.message)) refl refl;
-    replies = λ handle bytes port m x at read fits. k.mild w _ refl;
+    replies = λ handle bytes port m x at read fits. k.mild w (reply_steps by x m) (reply-cases (λ b. AreMild w (Tells (Answer by.number NtReplyPort SUCCESS []) ∷ b ∷ [])) x m refl refl (λ _. refl));
     receives = λ handle bytes o port queue replied m r at. k.mild w _ (every-append (is_mild w) replied (take_steps m) (holds_ok (AreMild w) (given_reply w port o) replied (given-mild w port o) r.reply_made) (mild-receipt w m));
     awaits_message = λ handle bytes o port queue replied r at. k.mild w _ (every-append (is_mild w) replied _ (holds_ok (AreMild w) (given_reply w port o) replied (given-mild w port o) r.reply_made) refl);
     registers = λ handle port at new few. k.registers w port.birth new is;
@@ -217,5 +237,9 @@ module _ (by : ThreadRow) (C : World → Type 0) (P : World → List Basic → T
     opens_own = λ own at. k.mild w _ (rw (caller-lives w by is.can) refl);
     opens_primary = k.mild w _ (rw (caller-lives w by is.can) refl);
     asks_token = λ handle class t field at told. k.mild w _ refl;
+    sets = λ target class handle pid port at found live. k.mild w (set_port_steps by class pid port.birth) (set-passes (AreMild w) by class pid port.birth (rw live refl) (rw live refl));
+    handles = λ code handled. k.mild w _ refl;
+    hears = λ code handled h is. sending w (raise_told by ∷ event_begun by code handled h) (row_of h.queue h.port (event_message (client_of by) by.next_identifier code h.chance)) refl (undied (client_of by) by.next_identifier code h.chance);
+    fails = λ code handled. k.mild w _ refl;
     ends = λ call name own pid code ts doomed. k.ends w name own pid code ts doomed is;
   }

@@ -10,7 +10,7 @@ use Rattle.lpc_model.specs.declared.entry.ObjectKind.TheVariants as kind
 use Rattle.lpc_model.specs.declared.line.ProcArg.TheVariants.{By, Current}
 use Rattle.lpc_model.specs.World.{ThreadRow, World}
 use Rattle.lpc_model.specs.Found.{is_live_thread, is_thread, live_threads, lives_in, same_birth}
-use Rattle.lpc_model.specs.Basics.{ended}
+use Rattle.lpc_model.specs.Basics.{ended, doomed}
 use Rattle.lpc_model.specs.Lawful.{HasThreadsOnce}
 use Rattle.lpc_model.specs.Lines.{ProcArg}
 use Rattle.lpc_model.specs.Targets.{LIFE_RIGHT, thread_target}
@@ -95,7 +95,7 @@ after-none (u ∷ us) ts t once = after-none us ts t (grind arith)
 one-more : (front ts : List ThreadRow) (t : ThreadRow) → front ++ t ∷ ts ≡ (front ++ t ∷ []) ++ ts
 one-more front ts t = sym (append_assoc front (t ∷ []) ts)
 
-live-found : (pid : ℕ) (front ts : List ThreadRow) → ((n : ℕ) → count (is_thread n) (front ++ ts) ≤ 1) → AreFound (front ++ ts) (which (lives_in pid) ts)
+pub live-found : (pid : ℕ) (front ts : List ThreadRow) → ((n : ℕ) → count (is_thread n) (front ++ ts) ≤ 1) → AreFound (front ++ ts) (which (lives_in pid) ts)
 live-found pid front [] once = tt
 live-found pid front (t ∷ ts) once = at (lives_in pid t) refl (live-found pid (front ++ t ∷ []) ts)
   where
@@ -134,7 +134,7 @@ pub of-ended : (pid n : ℕ) (all ts : List ThreadRow) → AreOf pid all ts → 
 of-ended pid n all [] of = tt
 of-ended pid n all (t ∷ ts) of = (every-change (λ u. not (is_thread t.number u) || (u.process == pid)) (is_thread n) ended (λ u is. is) all of.0, of-ended pid n all ts of.1)
 
-are-of : (pid : ℕ) (all ts : List ThreadRow) → ((n : ℕ) → count (is_thread n) all ≤ 1) → AreFound all ts → every (λ t. t.process == pid) ts ≡ true → AreOf pid all ts
+pub are-of : (pid : ℕ) (all ts : List ThreadRow) → ((n : ℕ) → count (is_thread n) all ≤ 1) → AreFound all ts → every (λ t. t.process == pid) ts ≡ true → AreOf pid all ts
 are-of pid all [] once found of = tt
 are-of pid all (t ∷ ts) once found of = (
   lone (is_thread t.number) (λ u. u.process == pid) (is_thread t.number) all t (once t.number) found.0 (first-passes (is_thread t.number) all t found.0) (first-true _ _ of),
@@ -152,3 +152,7 @@ doomed-process w by own pid ts (outcome.all target process found live) = every-m
 
 pub doomed-of : (w : World) (by : ThreadRow) (own : Bool) (pid : ℕ) (ts : List ThreadRow) → AreDoomed w by own pid ts → HasThreadsOnce w → CanCall w by → AreOf pid w.threads ts
 doomed-of w by own pid ts doomed once c = are-of pid w.threads ts once (doomed-found w by own pid ts doomed once c) (doomed-process w by own pid ts doomed)
+
+-- the live threads of a process
+pub live-of : (w : World) (pid : ℕ) → HasThreadsOnce w → AreOf pid w.threads (live_threads w pid)
+live-of w pid once = are-of pid w.threads (live_threads w pid) once (live-found pid [] w.threads once) (every-more (lives_in pid) (λ t. t.process == pid) (λ t is. first-true _ _ is) (live_threads w pid) (which-all (lives_in pid) w.threads))

@@ -7,21 +7,19 @@ use Rattle.lpc_base.specs.declared.status.Status.{Status}
 use Rattle.lpc_model.specs.declared.entry.CallName.{CallName}
 use Rattle.lpc_model.specs.World.{Birth, MessageRow, ThreadRow, World}
 use Rattle.lpc_model.specs.Found.{handles_of, is_live, is_thread, live_thread, wait_of}
-use Rattle.lpc_model.specs.Basics.{AddsThread, Basic, Cuts, Dies, DrawsIdentifier, DrawsOrdinal, DropsOwned, Empties, Enters, Frees, Registers, Unbinds, Unregisters, Wakes, Withdraws, basic, ended, in_turn, posted, posts_of, unregistering, world_after, Acts}
+use Rattle.lpc_model.specs.Basics.{AddsThread, Basic, Cuts, Dies, DrawsIdentifier, DrawsOrdinal, DropsOwned, Empties, Enters, Frees, Registers, Unbinds, Unregisters, Wakes, Withdraws, basic, ended, in_turn, posted, posts_of, unregistering, world_after, Acts, DropsViewsOf, Marks, LetsGo}
 use Rattle.lpc_model.specs.Entering.{enter}
 use Rattle.lpc_model.specs.Close.{close_handle}
 use Rattle.lpc_model.specs.Death.{answer_unless, end_client, die, end_process, end_threads, post_death, post_deaths, death_post}
-use Rattle.lpc_model.specs.Deaths.{DeathsAreTold, TellsDeaths, ended_registrations, ending_registrations, is_died_post, leaves, rank_of, registration, registrations_of, rises, death_posts, deaths_posted}
+use Rattle.lpc_model.specs.Deaths.{TellsDeaths, ended_registrations, ending_registrations, is_died_post, leaves, rank_of, registration, registrations_of, rises, death_posts, deaths_posted}
 use Rattle.lpc_model.specs.Lawful.{HasThreadsOnce}
 use Rattle.lpc_model.specs.Lines.{ScriptLine}
-use Rattle.lpc_model.specs.Machine.{bare_steps}
+use Rattle.lpc_model.specs.Machine.{own_steps}
 use Rattle.lpc_model.specs.SoundWaits.{IsSoundWorld}
-use Rattle.lpc_model.specs.Sweep.{sweep}
 use Rattle.lpc_model.proofs.Steps.Closing.{behind, takes_away}
 use Rattle.lpc_model.proofs.Deaths.Deathless.{AreDeathless, LifeLaw, away-deathless, deathless-taken, handle-deathless, is_deathless, life-outcomes, milds-deathless}
-use Rattle.lpc_model.proofs.Deaths.Order.{deathless-order, order-behind, parts-order}
+use Rattle.lpc_model.proofs.Deaths.Order.{deathless-order, parts-order}
 use Rattle.lpc_model.proofs.Deaths.Doomed.{AreFound, doomed-found, found-live, found-other}
-use Rattle.lpc_model.proofs.Steps.Sweep.{sweep_every}
 use Rattle.lpc_model.proofs.Steps.Ending.{AreEnding, accepted-pass, answered_end, behind_dead, behind_told, die-ending, die-pass, ending-death, is_ending, told-facts, turn-pass}
 use Rattle.lpc_model.proofs.Calls.Lines.{LineLaw, line-does, passing-lines}
 use Rattle.lpc_model.proofs.Steps.Rows.{first-change}
@@ -29,19 +27,19 @@ use Rattle.lpc_model.proofs.Calls.Taking.{taken_at_once}
 use Rattle.lpc_model.proofs.Closings.Told.{posts-append, which-append}
 
 -- Lists of steps
-posts-both : (xs ys : List Basic) → which is_died_post (posts_of (xs ++ ys)) ≡ which is_died_post (posts_of xs) ++ which is_died_post (posts_of ys)
+pub posts-both : (xs ys : List Basic) → which is_died_post (posts_of (xs ++ ys)) ≡ which is_died_post (posts_of xs) ++ which is_died_post (posts_of ys)
 posts-both xs ys = ap (which is_died_post) (posts-append xs ys) ∙ which-append is_died_post (posts_of xs) (posts_of ys)
 
-told-both : (w : World) (xs ys : List Basic) → deaths_posted w (xs ++ ys) ≡ deaths_posted w xs ++ deaths_posted (world_after w xs) ys
+pub told-both : (w : World) (xs ys : List Basic) → deaths_posted w (xs ++ ys) ≡ deaths_posted w xs ++ deaths_posted (world_after w xs) ys
 told-both w [] ys = refl
 told-both w (x ∷ xs) ys =
     ap (λ ms. death_posts w x ++ ms) (told-both (basic w x) xs ys) ∙ sym (append_assoc (death_posts w x) (deaths_posted (basic w x) xs) (deaths_posted (world_after (basic w x) xs) ys))
 
-leaves-both : (xs ys : List Basic) → each leaves (xs ++ ys) ≡ each leaves xs ++ each leaves ys
+pub leaves-both : (xs ys : List Basic) → each leaves (xs ++ ys) ≡ each leaves xs ++ each leaves ys
 leaves-both [] ys = refl
 leaves-both (x ∷ xs) ys = ap (λ rs. leaves x ++ rs) (leaves-both xs ys) ∙ sym (append_assoc (leaves x) (each leaves xs) (each leaves ys))
 
-registrations-both : (w : World) (xs ys : List Basic) → ending_registrations w (xs ++ ys) ≡ ending_registrations w xs ++ ending_registrations (world_after w xs) ys
+pub registrations-both : (w : World) (xs ys : List Basic) → ending_registrations w (xs ++ ys) ≡ ending_registrations w xs ++ ending_registrations (world_after w xs) ys
 registrations-both w [] ys = refl
 registrations-both w (x ∷ xs) ys =
     ap (λ rs. ended_registrations w x ++ rs) (registrations-both (basic w x) xs ys) ∙ sym (append_assoc (ended_registrations w x) (ending_registrations (basic w x) xs) (ending_registrations (world_after (basic w x) xs) ys))
@@ -257,6 +255,7 @@ keeps_threads (Withdraws who) = true
 keeps_threads (Empties q) = true
 keeps_threads (Unbinds b) = true
 keeps_threads (DropsOwned b) = true
+keeps_threads (Marks who) = true
 keeps_threads (Cuts b) = true
 keeps_threads b = false
 
@@ -266,6 +265,7 @@ threads-step w (Withdraws who) is = refl
 threads-step w (Empties q) is = refl
 threads-step w (Unbinds b) is = refl
 threads-step w (DropsOwned b) is = refl
+threads-step w (Marks who) is = refl
 threads-step w (Cuts b) is = refl
 threads-step w b is = absurd (cc)
 
@@ -279,6 +279,7 @@ away-threads (Withdraws who) is = refl
 away-threads (Empties q) is = refl
 away-threads (Unbinds b) is = refl
 away-threads (DropsOwned b) is = refl
+away-threads (Marks who) is = refl
 away-threads x is = absurd (cc)
 
 pub away-still : (x : Basic) → takes_away x ≡ true → is_still x ≡ true
@@ -360,7 +361,10 @@ end-deaths pid code ts w found = at (not (is_live (behind_told code ts w) pid))
         }
 
     at : (last : Bool) → TellsDeaths w (in_turn (die code) ts w ++ (in_turn post_deaths ts (behind_dead code ts w) ++ when last (end_process pid (behind_told code ts w))))
-    at true = ended-part (end_process pid (behind_told code ts w)) (every-append is_deathless (in_turn (close_handle pid) (handles_of (behind_told code ts w) pid) (behind_told code ts w)) _ (turn-pass is_deathless (close_handle pid) (λ r u. handle-deathless pid r u) (handles_of (behind_told code ts w) pid) (behind_told code ts w)) refl)
+    at true =
+        let u = basic (behind_told code ts w) (LetsGo pid) in
+        let rows = handles_of u pid in
+        ended-part (end_process pid (behind_told code ts w)) (every-append is_deathless (LetsGo pid ∷ []) (in_turn (close_handle pid) rows u ++ DropsViewsOf pid ∷ []) refl (every-append is_deathless (in_turn (close_handle pid) rows u) (DropsViewsOf pid ∷ []) (turn-pass is_deathless (close_handle pid) (λ r z. handle-deathless pid r z) rows u) refl))
     at false = ended-part [] refl
 
 -- The calls
@@ -378,12 +382,8 @@ deaths-law by = record {
 
 -- Lines
 deaths-lines : LineLaw HasThreadsOnce (λ _. TellsDeaths)
-deaths-lines = passing-lines HasThreadsOnce TellsDeaths (λ _. is_deathless) deathless-tells (λ w. record { tells = λ _. refl; processes = λ _. refl; threads = λ _ _ _. refl; binds = λ _ _. refl; names = λ _. refl }) (λ by. life-outcomes by HasThreadsOnce TellsDeaths (deaths-law by))
+deaths-lines = passing-lines HasThreadsOnce TellsDeaths (λ _. is_deathless) deathless-tells (λ w. record { tells = λ _. refl; processes = λ _ _ _. refl; threads = λ _ _ _. refl; binds = λ _ _. refl; names = λ _. refl }) (λ by. life-outcomes by HasThreadsOnce TellsDeaths (deaths-law by))
 
--- the steps of a line tell of the threads that end by it
-pub deaths_told : (w : World) (line : ScriptLine) → IsSoundWorld w → HasThreadsOnce w → DeathsAreTold w line
-deaths_told w line s once =
-    let bs = bare_steps line w in
-    let v = world_after w bs in
-    let bare = line-does HasThreadsOnce (λ _. TellsDeaths) deaths-lines w s once line in
-    let swept = sweep_every is_deathless (λ _. refl) v in tells-both w bs (sweep v) (order-behind bs (sweep v) bare.order swept) bare (deathless-tells v (sweep v) swept)
+-- the own steps of a line tell of the threads that end by it
+pub line-deaths : (w : World) (line : ScriptLine) → IsSoundWorld w → HasThreadsOnce w → TellsDeaths w (own_steps line w)
+line-deaths w line s once = line-does HasThreadsOnce (λ _. TellsDeaths) deaths-lines w s once line

@@ -11,7 +11,7 @@ use Rattle.lpc_model.specs.World.{Birth, MessageRow, ThreadRow, WaitRow, World}
 use Rattle.lpc_model.specs.Found.{is_accepted, is_connect, wait_of}
 use Rattle.lpc_model.specs.Basics.{Basic, Cuts, Dies, DropsHandle, DropsOwned, DropsViewsOf, Enters, Receives, Steps, Takes, TakesConnect, Unbinds, Unregisters, Wakes, Withdraws, basic, end_each, in_turn, world_after}
 use Rattle.lpc_model.specs.Entering.{enter}
-use Rattle.lpc_model.specs.Close.{cut_pair, end_accepted, end_request, is_accepted_across, is_receive_across, is_request_across, wake}
+use Rattle.lpc_model.specs.Close.{cut_pair, end_accepted, end_request, is_accepted_across, is_receive_across, is_request_across, wake, is_event_across, mark_event}
 use Rattle.lpc_model.specs.Death.{end_client, die, post_death, post_deaths, death_post}
 use Rattle.lpc_model.specs.Deaths.{is_died_post, rank_of, rises}
 use Rattle.lpc_model.proofs.Steps.Closing.{behind}
@@ -113,11 +113,14 @@ cut-rank b w =
     let requests : Steps = end_each (is_request_across b) (end_request LPC_REPLY_LOST) in
     let receives : Steps = end_each (is_receive_across b) (wake PORT_DISCONNECTED) in
     let accepts : Steps = end_each (is_accepted_across b) end_accepted in
-    let v = behind requests w in
+    let events : Steps = end_each (is_event_across b) mark_event in
+    let t = behind requests w in
+    let v = behind events t in
     let u = behind receives v in
     every-append (has_rank 0) (requests w) _ (ends-rank (end_request LPC_REPLY_LOST) (λ x. refl) (which (is_request_across b w) w.waits))
+    (every-append (has_rank 0) (events t) _ (ends-rank mark_event (λ x. refl) (which (is_event_across b t) t.waits))
     (every-append (has_rank 0) (receives v) _ (ends-rank (wake PORT_DISCONNECTED) (λ x. refl) (which (is_receive_across b v) v.waits))
-    (every-append (has_rank 0) (accepts u) (Cuts b ∷ []) (ends-rank end_accepted (λ x. refl) (which (is_accepted_across b u) u.waits)) refl))
+    (every-append (has_rank 0) (accepts u) (Cuts b ∷ []) (ends-rank end_accepted (λ x. refl) (which (is_accepted_across b u) u.waits)) refl)))
 
 accepted-rank : (o : Option WaitRow) (w : World) → every (has_rank 0) (end_client o w) ≡ true
 accepted-rank None w = refl

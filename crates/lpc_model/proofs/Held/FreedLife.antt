@@ -4,13 +4,15 @@ use Rattle.std.specs.Prelude.{◌==◌, ◌&&◌, ◌||◌}
 use Rattle.lpc_base.specs.Rows.{count, has, without}
 use Rattle.lpc_base.proofs.Births.{birth-same}
 use Rattle.lpc_model.specs.World.{Birth, ObjectName, PortRow, ProcessRow, SectionRow, ThreadRow, World, TokenRow}
-use Rattle.lpc_model.specs.Found.{all_views, handle_count, is_connected_to, is_content, is_made_on, is_owned_by, is_paired_to, is_section, is_sent_on, port_name, process_name, same_birth, section_name, thread_name, is_token, token_name}
+use Rattle.lpc_model.specs.Found.{all_views, handle_count, is_connected_to, is_content, is_made_on, is_owned_by, is_paired_to, is_section, is_sent_on, port_name, process_name, same_birth, section_name, thread_name, is_token, token_name, all_registrations, event_ports}
 use Rattle.lpc_model.specs.Basics.{Frees, basic, world_after}
 use Rattle.lpc_model.specs.Sweep.{is_unheld, sweep}
 use Rattle.lpc_model.proofs.Sound.Frees.{freed-registrations}
 use Rattle.lpc_model.proofs.Held.Ports.{without-same, without-twice}
 use Rattle.lpc_model.proofs.Held.Lives.{has-apart, same-process, same-thread}
 use Rattle.lpc_model.proofs.Held.FreedPort.{goes_section, known-twice, passed, rows-same, sweep-passes, without-after}
+use Rattle.lpc_model.proofs.Held.Events.{freed-events}
+use Rattle.lpc_model.specs.Left.{HasLivingPorts}
 
 -- as many rows count for each thread and each process, where the row of an object goes that no row counts for
 module _ (w : World) (o : ObjectName) (none : is_unheld w o ≡ true) where
@@ -26,8 +28,13 @@ module _ (w : World) (o : ObjectName) (none : is_unheld w o ≡ true) where
 -- and for each port, where that is a thread or a process
 port-aside : (w : World) (b c : Birth) → is_unheld w (thread_name c) ≡ true → is_unheld w (port_name b) ≡ is_unheld (basic w (Frees (thread_name c))) (port_name b)
 port-aside w b c none =
-    ap (λ rs. (handle_count w (port_name b) + (count (is_paired_to b) w.ports + (count (is_connected_to b) w.ports + (count (is_sent_on b) w.messages + (count (is_made_on b) w.waits + (count (same_birth b) rs + count (is_owned_by b) (all_views w))))))) == 0)
+    ap (λ rs. (handle_count w (port_name b) + (count (is_paired_to b) w.ports + (count (is_connected_to b) w.ports + (count (is_sent_on b) w.messages + (count (is_made_on b) w.waits + (count (same_birth b) rs + (count (is_owned_by b) (all_views w) + count (same_birth b) (event_ports w)))))))) == 0)
     (sym (freed-registrations w (thread_name c) none))
+
+process-aside : (w : World) (b c : Birth) → HasLivingPorts w → is_unheld w (process_name c) ≡ true → is_unheld w (port_name b) ≡ is_unheld (basic w (Frees (process_name c))) (port_name b)
+process-aside w b c e none =
+    ap (λ rs. (handle_count w (port_name b) + (count (is_paired_to b) w.ports + (count (is_connected_to b) w.ports + (count (is_sent_on b) w.messages + (count (is_made_on b) w.waits + (count (same_birth b) (all_registrations w) + (count (is_owned_by b) (all_views w) + count (same_birth b) rs))))))) == 0)
+    (sym (freed-events w (process_name c) none e))
 
 module _ (w : World) (b : Birth) where
   pub thread_first : is_unheld w (thread_name b) ≡ true → world_after (basic w (Frees (thread_name b))) (sweep (basic w (Frees (thread_name b)))) ≡ world_after w (sweep w)
@@ -44,15 +51,15 @@ module _ (w : World) (b : Birth) where
       refl)
       ∙ sym (sweep-passes w)
 
-  pub process_first : is_unheld w (process_name b) ≡ true → world_after (basic w (Frees (process_name b))) (sweep (basic w (Frees (process_name b)))) ≡ world_after w (sweep w)
-  process_first none =
+  pub process_first : HasLivingPorts w → is_unheld w (process_name b) ≡ true → world_after (basic w (Frees (process_name b))) (sweep (basic w (Frees (process_name b)))) ≡ world_after w (sweep w)
+  process_first e none =
       let once = basic w (Frees (process_name b)) in
       let goes = λ (p : ProcessRow). is_unheld w (process_name p.birth) in
       sweep-passes once
       ∙ ap passed (rows-same w _ _ _ _ _ _ _ _ _ _ _ _
       (without-same (λ (p : ProcessRow). is_unheld once (process_name p.birth)) goes (λ p. process-alike w (process_name b) none p.birth) once.processes ∙ without-after (λ (p : ProcessRow). same_birth p.birth b) goes (λ p is. subst (λ c. is_unheld w (process_name c) ≡ true) (sym (birth-same p.birth b is)) none) w.processes)
       (without-same (λ (t : ThreadRow). is_unheld once (thread_name t.birth)) (λ t. is_unheld w (thread_name t.birth)) (λ t. thread-alike w (process_name b) none t.birth) w.threads)
-      refl
+      (without-same (λ (p : PortRow). is_unheld once (port_name p.birth)) (λ p. is_unheld w (port_name p.birth)) (λ p. process-aside w p.birth b e none) w.ports)
       refl
       refl
       refl)

@@ -9,7 +9,7 @@ use Rattle.lpc_base.proofs.Births.{birth-same, birth-self, birth-turned}
 use Rattle.lpc_base.proofs.Bools.{or-last}
 use Rattle.lpc_model.specs.declared.entry.ObjectKind.TheVariants as kind
 use Rattle.lpc_model.specs.World.{Birth, ContentRow, Contents, Known, MessageRow, ObjectKind, ObjectName, PortRow, ProcessRow, SectionRow, ThreadRow, Unknown, World, TokenRow}
-use Rattle.lpc_model.specs.Found.{all_registrations, is_connected_to, is_content, is_paired_to, is_port, is_section, is_the, kind_rank, object_names, port_name, process_name, same_birth, same_kind, same_object, section_name, thread_name, token_name}
+use Rattle.lpc_model.specs.Found.{all_registrations, is_connected_to, is_content, is_paired_to, is_port, is_section, is_the, kind_rank, object_names, port_name, process_name, same_birth, same_kind, same_object, section_name, thread_name, token_name, event_ports}
 use Rattle.lpc_model.specs.declared.entry.Entry.{Entry}
 use Rattle.lpc_model.specs.Lines.{ScriptLine}
 use Rattle.lpc_model.specs.Machine.{Stepped, bare_step, bare_steps, step}
@@ -20,6 +20,8 @@ use Rattle.lpc_model.proofs.Steps.Rows.{has-append, has-less, has-without}
 use Rattle.lpc_model.proofs.Sound.Frees.{frees-registrations, less-held, which-all}
 use Rattle.lpc_model.proofs.Held.Ports.{connected-end, found-self, is_held_aside, lonely, unheld-parts, without-same, without-twice}
 use Rattle.lpc_model.proofs.Steps.InTurn.{after-append}
+use Rattle.lpc_model.proofs.Held.Events.{frees-events}
+use Rattle.lpc_model.specs.Left.{HasLivingPorts}
 
 -- Names of objects
 kind_of : ℕ → ObjectKind
@@ -220,12 +222,15 @@ sweep-passes w =
 passed-registrations : (w : World) → all_registrations (passed w) ≡ all_registrations w
 passed-registrations w = ap all_registrations (sym (pass-frees w)) ∙ frees-registrations w (unheld w) (which-all (is_unheld w) _)
 
-passed-aside : (w : World) (b : Birth) → is_held_aside (passed w) b ≡ is_held_aside w b
-passed-aside w b = rw (passed-registrations w) refl
+passed-events : (w : World) → HasLivingPorts w → event_ports (passed w) ≡ event_ports w
+passed-events w e = ap event_ports (sym (pass-frees w)) ∙ (frees-events w (unheld w) (which-all (is_unheld w) _) e).0
+
+passed-aside : (w : World) → HasLivingPorts w → (b : Birth) → is_held_aside (passed w) b ≡ is_held_aside w b
+passed-aside w e b = rw (passed-registrations w, passed-events w e) refl
 
 -- a port that no row counts for behind a pass
-passed-parts : (w : World) (b : Birth) → is_unheld (passed w) (port_name b) ≡ not (is_held_aside w b || (has (is_paired_to b) (passed w).ports || has (is_connected_to b) (passed w).ports))
-passed-parts w b = subst (λ a. is_unheld (passed w) (port_name b) ≡ not (a || (has (is_paired_to b) (passed w).ports || has (is_connected_to b) (passed w).ports))) (passed-aside w b) (unheld-parts (passed w) b)
+passed-parts : (w : World) → HasLivingPorts w → (b : Birth) → is_unheld (passed w) (port_name b) ≡ not (is_held_aside w b || (has (is_paired_to b) (passed w).ports || has (is_connected_to b) (passed w).ports))
+passed-parts w e b = subst (λ a. is_unheld (passed w) (port_name b) ≡ not (a || (has (is_paired_to b) (passed w).ports || has (is_connected_to b) (passed w).ports))) (passed-aside w e b) (unheld-parts (passed w) b)
 
 -- Ports that go
 has-apart : {X : Type 0} (p s t : X → Bool) (xs : List X) → every (λ x. s x || (not (t x) || not (p x))) xs ≡ true → has p (without s xs) ≡ true → has p (without t xs) ≡ true
@@ -247,13 +252,13 @@ without-after s t more = without-twice s t t (λ x. parts _ _ (more x))
 less-aside : (a p q pp qq u v : Bool) → u ≡ not (a || (p || q)) → v ≡ not (a || (pp || qq)) → (pp ≡ true → p ≡ true) → (qq ≡ true → q ≡ true) → u ≡ true → v ≡ true
 less-aside a p q pp qq u v one two paired connected is = grind (arith, paired, connected)
 
-pass-unheld : (w : World) (b : Birth) → is_unheld w (port_name b) ≡ true → is_unheld (passed w) (port_name b) ≡ true
-pass-unheld w b =
+pass-unheld : (w : World) → HasLivingPorts w → (b : Birth) → is_unheld w (port_name b) ≡ true → is_unheld (passed w) (port_name b) ≡ true
+pass-unheld w e b =
     let goes = λ (p : PortRow). is_unheld w (port_name p.birth) in
     less-aside (is_held_aside w b) (has (is_paired_to b) w.ports) (has (is_connected_to b) w.ports) (has (is_paired_to b) (without goes w.ports)) (has (is_connected_to b) (without goes w.ports)) (is_unheld w (port_name b)) (is_unheld (passed w) (port_name b))
-    (unheld-parts w b) (passed-parts w b) (has-less (is_paired_to b) goes w.ports) (has-less (is_connected_to b) goes w.ports)
+    (unheld-parts w b) (passed-parts w e b) (has-less (is_paired_to b) goes w.ports) (has-less (is_connected_to b) goes w.ports)
 
-module _ (w : World) (b : Birth) (l : IsLinked w) (none : is_unheld w (port_name b) ≡ true) where
+module _ (w : World) (b : Birth) (l : IsLinked w) (e : HasLivingPorts w) (none : is_unheld w (port_name b) ≡ true) where
   abbrev once : World
   once = basic w (Frees (port_name b))
 
@@ -328,7 +333,7 @@ module _ (w : World) (b : Birth) (l : IsLinked w) (none : is_unheld w (port_name
   last-alike : (p : PortRow) → is_unheld (passed w) (port_name p.birth) ≡ is_unheld (passed once) (port_name p.birth)
   last-alike p =
       let c = p.birth in
-      parts (is_held_aside w c) _ _ _ _ _ _ (passed-parts w c) (passed-parts once c) (paired-alike c ∙ ap (has (is_paired_to c)) (sym ports-once)) (connected-alike c ∙ ap (has (is_connected_to c)) (sym ports-once))
+      parts (is_held_aside w c) _ _ _ _ _ _ (passed-parts w e c) (passed-parts once e c) (paired-alike c ∙ ap (has (is_paired_to c)) (sym ports-once)) (connected-alike c ∙ ap (has (is_connected_to c)) (sym ports-once))
     where
       parts : (a p q pp qq u v : Bool) → u ≡ not (a || (p || q)) → v ≡ not (a || (pp || qq)) → p ≡ pp → q ≡ qq → u ≡ v
       parts a p q pp qq u v one two paired connected = grind arith
@@ -337,15 +342,15 @@ module _ (w : World) (b : Birth) (l : IsLinked w) (none : is_unheld w (port_name
   last-ports =
       let last = λ (p : PortRow). is_unheld (passed w) (port_name p.birth) in
       let last-once = λ (p : PortRow). is_unheld (passed once) (port_name p.birth) in
-      ap (without last-once) ports-once ∙ (without-after goes-once last-once (λ p. pass-unheld once p.birth) w.ports
-      ∙ (without-same last-once last (λ p. last-alike p) w.ports ∙ sym (without-after goes last (λ p. pass-unheld w p.birth) w.ports)))
+      ap (without last-once) ports-once ∙ (without-after goes-once last-once (λ p. pass-unheld once e p.birth) w.ports
+      ∙ (without-same last-once last (λ p. last-alike p) w.ports ∙ sym (without-after goes last (λ p. pass-unheld w e p.birth) w.ports)))
 
   swept-alike : world_after once (sweep once) ≡ world_after w (sweep w)
   swept-alike = sweep-passes once ∙ (rows-same (passed (passed w)) _ _ _ _ _ _ _ _ _ _ _ _ refl refl last-ports refl refl refl ∙ sym (sweep-passes w))
 
 -- a port that no row names may go first: the sweep leaves the same world
-pub free_one : (w : World) (b : Birth) → IsLinked w → is_unheld w (port_name b) ≡ true → world_after (basic w (Frees (port_name b))) (sweep (basic w (Frees (port_name b)))) ≡ world_after w (sweep w)
-free_one w b l none = swept-alike w b l none
+pub free_one : (w : World) (b : Birth) → IsLinked w → HasLivingPorts w → is_unheld w (port_name b) ≡ true → world_after (basic w (Frees (port_name b))) (sweep (basic w (Frees (port_name b)))) ≡ world_after w (sweep w)
+free_one w b l e none = swept-alike w b l e none
 
 -- processes and threads are named by as many rows then
 pub lives_freed : (w : World) (b : Birth) → AreLivesHeld w → AreLivesHeld (basic w (Frees (port_name b)))

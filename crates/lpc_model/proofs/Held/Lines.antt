@@ -1,7 +1,7 @@
 -- A line that lets no name go leaves no row of an object that no row names.
 use Rattle.lpc_base.proofs.Births.{birth-self}
 use Rattle.lpc_base.proofs.RowWords.{count-has, every-more, every-push, has-kept, has-push, every-append}
-use Rattle.lpc_base.specs.Rows.{count, has, when, which}
+use Rattle.lpc_base.specs.Rows.{count, has, when, which, every}
 use Rattle.lpc_base.specs.declared.port_kind.PortKind.{PortKind}
 use Rattle.lpc_base.specs.declared.port_kind.PortKind.TheVariants.{Connection, Unnamed}
 use Rattle.lpc_base.specs.declared.status.Status.{Status}
@@ -20,39 +20,46 @@ use Rattle.lpc_model.proofs.Steps.Registrations.{back-more, push-each, same-each
 use Rattle.lpc_model.proofs.Steps.Rows.{count-change}
 use Rattle.lpc_model.proofs.Sound.Basics.{sound-ordinal, sound-process}
 use Rattle.lpc_model.proofs.Sound.Frees.{fewer-pass}
-use Rattle.lpc_model.proofs.Steps.Steady.{AreSteady, steady-ask, steady-await, steady-enter, steady-receipt, steady-receive, steady-send}
+use Rattle.lpc_model.proofs.Steps.Steady.{AreSteady, steady-ask, steady-await, steady-enter, steady-receipt, steady-receive, steady-send, steady-hears}
 use Rattle.lpc_model.proofs.Held.FreedPort.{unheld_ports}
 use Rattle.lpc_model.proofs.Calls.Usable.{CanCall}
-use Rattle.lpc_model.specs.Basics.{AddsHandle, AddsProcess, AddsThread, Basic, Binds, Dies, DrawsIdentifier, DrawsOrdinal, DropsHandle, Makes, Registers, Tells, Withdraws, basic, in_turn, no_handles, no_views, past_identifier, past_ordinal, with_handle, world_after, AddsSection, AddsToken, NamesToken, Secures}
-use Rattle.lpc_model.specs.Close.{close_port, close_steps, is_last}
+use Rattle.lpc_model.specs.Basics.{AddsHandle, AddsProcess, AddsThread, Basic, Binds, Dies, DrawsIdentifier, DrawsOrdinal, DropsHandle, Makes, Registers, Tells, Withdraws, basic, in_turn, no_handles, no_views, past_identifier, past_ordinal, with_handle, world_after, AddsSection, AddsToken, NamesToken, Secures, Dooms, DropsViewsOf, LetsGo, first_code, left_by}
+use Rattle.lpc_model.specs.Close.{close_port, close_steps, is_last, close_handle}
 use Rattle.lpc_model.specs.Connect.{client_port, connect_wait, connection_request, create_steps, listen_steps, new_port, allow_steps, named_steps}
 use Rattle.lpc_model.specs.Counts.{asked}
 use Rattle.lpc_model.specs.Creation.{gives_life, making_process, making_thread, second_birth}
-use Rattle.lpc_model.specs.Death.{end_client, die, end_threads}
+use Rattle.lpc_model.specs.Death.{end_client, die, end_threads, code_status, end_process}
 use Rattle.lpc_model.specs.Entering.{enter, row_of}
-use Rattle.lpc_model.specs.Found.{all_registrations, all_views, free_handle, handle_count, is_connected_to, is_life, is_made_on, is_owned_by, is_paired_to, is_sent_on, is_table, is_thread, live_threads, lives_by, lives_in, port_name, process_name, registered_by, same_birth, same_object, section_name, shows_section, thread_name, wait_of, was_process, offers_section, token_name, token_of}
+use Rattle.lpc_model.specs.Found.{all_registrations, all_views, free_handle, handle_count, is_connected_to, is_life, is_made_on, is_owned_by, is_paired_to, is_sent_on, is_table, is_thread, live_threads, lives_by, lives_in, port_name, process_name, registered_by, same_birth, same_object, section_name, shows_section, thread_name, wait_of, was_process, offers_section, token_name, token_of, event_ports, event_ports_of, handles_of, is_live}
 use Rattle.lpc_model.specs.Lines.{ScriptLine}
 use Rattle.lpc_model.specs.Linked.{AreLivesHeld, HasHeldPorts, HasHeldRows, HasHeldSections, HasHeldTokens}
 use Rattle.lpc_model.specs.Memory.{SECTION_ACCESS, map_steps, mapped_view, new_section, section_steps, write_steps}
 use Rattle.lpc_model.specs.Ranges.{write_range_steps}
-use Rattle.lpc_model.specs.Machine.{bare_steps, directive_birth, new_process, new_thread}
-use Rattle.lpc_model.specs.Request.{datagram_steps, receive_steps, request_steps, sent_by}
+use Rattle.lpc_model.specs.Machine.{bare_steps, directive_birth, new_process, new_thread, own_steps}
+use Rattle.lpc_model.specs.Request.{datagram_steps, receive_steps, request_steps, sent_by, reply_steps}
 use Rattle.lpc_model.specs.SoundWaits.{IsSoundWorld}
 use Rattle.lpc_model.specs.Sweep.{loosened, loosens, unheld}
 use Rattle.lpc_model.specs.Targets.{LIFE_ACCESS}
 use Rattle.lpc_model.specs.Tests.{PORT_ACCESS, handle_row, next_birth}
-use Rattle.lpc_model.specs.World.{Birth, HandleRow, Message, Node, ObjectName, Path, ProcessRow, ThreadRow, ViewTable, World, Offer, CallName, Effective, Security, Token}
+use Rattle.lpc_model.specs.World.{Birth, HandleRow, Message, Node, ObjectName, Path, ProcessRow, ThreadRow, ViewTable, World, Offer, CallName, Effective, Security, Token, Raised, WaitRow}
 use Rattle.lpc_model.specs.declared.entry.CallName.{CallName}
-use Rattle.lpc_model.specs.declared.entry.CallName.TheVariants.{NtRegisterThreadTerminatePort, NtOpenProcessToken, NtOpenThreadToken}
+use Rattle.lpc_model.specs.declared.entry.CallName.TheVariants.{NtRegisterThreadTerminatePort, NtOpenProcessToken, NtOpenThreadToken, NtReplyPort}
 use Rattle.lpc_model.specs.declared.entry.Entry.TheVariants.{Answer, Directive}
 use Rattle.lpc_names.specs.Walk.{LinkTo, Stands}
 use Rattle.lpc_names.specs.declared.names.Found.TheVariants.{Directory, Item}
-use Rattle.std.proofs.Common.{Bool, List, None, Option, Some, [], ap, arith, false, refl, true, ℕ, ◌++◌, ◌+◌, ◌∙◌, ◌∷◌, ◌≡◌, ◌≤◌}
+use Rattle.std.proofs.Common.{Bool, List, None, Option, Some, [], ap, arith, false, refl, true, ℕ, ◌++◌, ◌+◌, ◌∙◌, ◌∷◌, ◌≡◌, ◌≤◌, not, subst, sym}
 use Rattle.std.proofs.lemmas.Bool.Decides.{nat_tests}
 use Rattle.std.specs.Prelude.{◌&&◌, ◌==◌, ◌||◌}
 use Rattle.lpc_model.proofs.Calls.Sharing.{connect_begun, mapped-pass, guarded-keeps}
 use Rattle.lpc_model.specs.Offers.{mapped, shared_steps}
 use Rattle.lpc_model.specs.Impersonation.{TOKEN_ACCESS, held_content, impersonate_steps, new_token, process_content, revert_steps, token_steps}
+use Rattle.lpc_model.proofs.Calls.Raising.{set-passes, on-holds}
+use Rattle.lpc_model.proofs.Sound.Reply.{reply-cases}
+use Rattle.lpc_model.specs.Raise.{Heard, raise_steps, Handled, Next, Unhandled, behind_chance, go_on, goes_on, send_event}
+use Rattle.lpc_model.proofs.Settling.Keeps.{bare-does}
+use Rattle.lpc_model.proofs.Settling.Loop.{settle-holds}
+use Rattle.lpc_model.proofs.Steps.InTurn.{after-append}
+use Rattle.lpc_model.specs.Settle.{end_doomed, settle}
 
 -- What lets a name go
 -- the last step lets a handle go
@@ -68,6 +75,11 @@ loosened-front : (xs ys : List Basic) (before : Bool) → loosened before xs ≡
 loosened-front [] ys true is = loosened-on ys
 loosened-front [] ys false is = absurd (cc)
 loosened-front (x ∷ xs) ys before is = loosened-front xs ys (loosens x || before) is
+
+loosened-parts : (xs ys : List Basic) (before : Bool) → loosened before (xs ++ ys) ≡ false → (loosened before xs ≡ false) × (loosened false ys ≡ false)
+loosened-parts [] ys false off = (refl, off)
+loosened-parts [] ys true off = let on = loosened-on ys in absurd (cc)
+loosened-parts (x ∷ xs) ys before off = loosened-parts xs ys (loosens x || before) off
 
 die-loosens : (code : Status) (t : ThreadRow) (w : World) → loosened false (die code t w) ≡ true
 die-loosens code t w =
@@ -235,7 +247,7 @@ module _ (w : World) (pid tid : ℕ) (maker : Option ℕ) (birth next : Birth) (
       }
 
   boot-ports : HasHeldPorts w → HasHeldPorts booted
-  boot-ports held = ports-more w booted (λ b. counts-more _ (count (is_paired_to b) w.ports) (count (is_connected_to b) w.ports) (count (is_sent_on b) w.messages) (count (is_made_on b) w.waits) _ _ _ _ _ _ _ (booted-handles (port_name b)) (omega arith) (omega arith) (omega arith) (omega arith) (both-more _ _ (count (is_owned_by b) (all_views w)) _ (not-less _ _ (ap (count (same_birth b)) (push-each registered_by booted_thread refl w.threads))) (not-less _ _ (ap (count (is_owned_by b)) (push-each (λ (t : ViewTable). t.rows) (no_views booted_process.number) refl w.views))))) held
+  boot-ports held = ports-more w booted (λ b. counts-more _ (count (is_paired_to b) w.ports) (count (is_connected_to b) w.ports) (count (is_sent_on b) w.messages) (count (is_made_on b) w.waits) _ _ _ _ _ _ _ (booted-handles (port_name b)) (omega arith) (omega arith) (omega arith) (omega arith) (both-more _ _ (count (is_owned_by b) (all_views w) + count (same_birth b) (event_ports w)) _ (not-less _ _ (ap (count (same_birth b)) (push-each registered_by booted_thread refl w.threads))) (both-more _ _ (count (same_birth b) (event_ports w)) _ (not-less _ _ (ap (count (is_owned_by b)) (push-each (λ (t : ViewTable). t.rows) (no_views booted_process.number) refl w.views))) (not-less _ _ (ap (count (same_birth b)) (push-each event_ports_of booted_process refl w.processes)))))) held
 
   boot-sections : HasHeldSections w → HasHeldSections booted
   boot-sections held = sections-more w booted (λ b. both-more _ _ _ _ (booted-handles (section_name b)) (both-more _ _ (count (offers_section b) w.waits) _ (not-less _ _ (ap (count (shows_section b)) (push-each (λ (t : ViewTable). t.rows) (no_views booted_process.number) refl w.views))) (omega arith))) held
@@ -314,7 +326,7 @@ module _ (Q : World → Type 0) (k : KeepsRows Q) where
     completes = λ handle c at quiet. absurd (cc);
     sends = λ handle bytes s at. k.steady w (datagram_steps by s.port s.queue (sent_by by DATAGRAM s.message) w) (steady-send w by s);
     asks = λ handle bytes s at. k.steady w (request_steps by s.port s.queue (sent_by by REQUEST s.message) w) (steady-ask w by s);
-    replies = λ handle bytes port m x at read fits quiet. absurd (cc);
+    replies = λ handle bytes port m x at read fits. k.steady w (reply_steps by x m) (reply-cases (λ b. every is_steady (Tells (Answer by.number NtReplyPort SUCCESS []) ∷ b ∷ []) ≡ true) x m refl refl (λ _. refl));
     receives = λ handle bytes o port queue replied m r at. k.steady w (receive_steps by port queue replied (Some m)) (steady-receive w by handle bytes o port queue replied m r);
     awaits_message = λ handle bytes o port queue replied r at. k.steady w (receive_steps by port queue replied None) (steady-await w by handle bytes o port queue replied r);
     registers = λ handle port at new few. k.steady w (Tells (Answer by.number NtRegisterThreadTerminatePort SUCCESS []) ∷ Registers by.number port.birth ∷ []) refl;
@@ -336,6 +348,10 @@ module _ (Q : World → Type 0) (k : KeepsRows Q) where
     opens_own = λ own at quiet. k.holds w by NtOpenThreadToken (held_content own) is.can is.sound;
     opens_primary = λ quiet. k.holds w by NtOpenProcessToken (process_content w by) is.can is.sound;
     asks_token = λ handle class t field at told quiet held. held;
+    sets = λ target class handle pid port at found live quiet. absurd (set-passes (λ bs. loosened false bs ≡ false → ⊥) by class pid port.birth (λ off. absurd (cc)) (λ off. absurd (cc)) quiet);
+    handles = λ code handled quiet held. held;
+    hears = λ code handled h is. k.steady w (raise_steps by code handled (Heard h) w) (steady-hears w by code handled h);
+    fails = λ code handled. k.steady w (Dooms by.process code ∷ []) refl;
     ends = λ call name own pid code ts doomed quiet. let loose = doomed-loosens w by name own pid code ts doomed in absurd (cc);
   }
     where
@@ -354,8 +370,38 @@ module _ (Q : World → Type 0) (k : KeepsRows Q) where
     links = λ w text target path to free _ quiet. k.binds w path (LinkTo to);
   }
 
+  -- settling lets a name go, where it does anything
+  ended-quiet : (pid : ℕ) (code : Status) (ts : List ThreadRow) (w : World) → KeepQuiet Q w (end_threads pid code ts w)
+  unfolding end_threads
+  ended-quiet pid code [] w quiet held = at (is_live w pid) quiet held
+    where
+      at : (live : Bool) → KeepQuiet Q w (when (not live) (end_process pid w))
+      at true quiet held = held
+      at false quiet held = let u = basic w (LetsGo pid) in let loose = loosened-on (in_turn (close_handle pid) (handles_of u pid) u ++ DropsViewsOf pid ∷ []) in absurd (cc)
+  ended-quiet pid code (t ∷ ts) w quiet held = let loose = end-loosens pid code t ts w in absurd (cc)
+
+  doomed-quiet : (w : World) (p : ProcessRow) → KeepQuiet Q w (end_doomed p w)
+  unfolding end_doomed
+  doomed-quiet w p = ended-quiet p.number (code_status (first_code 0 p.doom)) (live_threads w p.number) w
+
+  on-quiet : (w : World) (tid : ℕ) → KeepQuiet Q w (go_on tid w)
+  on-quiet w tid = on-holds (KeepQuiet Q w) w tid (λ quiet held. held) (λ t x r g. at t x r (behind_chance w x.process r.handled r.chance))
+    where
+      at : (t : ThreadRow) (x : WaitRow) (r : Raised) (n : Next) → KeepQuiet Q w (goes_on t x r n w)
+      at t x r Handled quiet = absurd (cc)
+      at t x r (Heard h) quiet = let loose = loosened-on (send_event t r.code r.handled h (left_by x.thread w)) in absurd (cc)
+      at t x r Unhandled quiet = absurd (cc)
+
+  quiet-both : (w : World) (xs ys : List Basic) → KeepQuiet Q w xs → KeepQuiet Q (world_after w xs) ys → KeepQuiet Q w (xs ++ ys)
+  quiet-both w xs ys here there quiet held =
+      let parts = loosened-parts xs ys false quiet in
+      subst Q (sym (after-append w xs ys)) (there parts.1 (here parts.0 held))
+
+  settle-quiet : (w : World) → KeepQuiet Q w (settle w)
+  settle-quiet w = settle-holds AnyWorld (KeepQuiet Q) (λ u quiet held. held) quiet-both (λ u bs some is. tt) (λ u tid later some is. on-quiet u tid) (λ u p some is. doomed-quiet u p) w tt
+
   line-quiet : (w : World) (line : ScriptLine) → IsSoundWorld w → KeepQuiet Q w (bare_steps line w)
-  line-quiet w line s = line-does AnyWorld (λ _. KeepQuiet Q) quiet-lines w s tt line
+  line-quiet w line s = bare-does (KeepQuiet Q) quiet-both w line (line-does AnyWorld (λ _. KeepQuiet Q) quiet-lines w s tt line) (settle-quiet (world_after w (own_steps line w)))
 
 -- before rows go, each process and thread row is named by a row, where the line lets no name go
 pub lives_kept : (w : World) (line : ScriptLine) → IsSoundWorld w → AreLivesHeld w → loosened false (bare_steps line w) ≡ false → AreLivesHeld (world_after w (bare_steps line w))

@@ -10,12 +10,14 @@ use Rattle.lpc_base.proofs.Births.{birth-same, birth-self, birth-turned}
 use Rattle.lpc_base.proofs.Bools.{or-last, unless-more}
 use Rattle.lpc_model.specs.declared.entry.ObjectKind.TheVariants as kind
 use Rattle.lpc_model.specs.World.{Birth, ObjectKind, ObjectName, PortRow, World}
-use Rattle.lpc_model.specs.Found.{all_registrations, all_views, handle_count, is_connected_to, is_made_on, is_owned_by, is_paired_to, is_port, is_sent_on, is_the, pair_of, port_name, port_row, process_name, same_birth, same_kind, same_object, section_name, thread_name, token_name}
+use Rattle.lpc_model.specs.Found.{all_registrations, all_views, handle_count, is_connected_to, is_made_on, is_owned_by, is_paired_to, is_port, is_sent_on, is_the, pair_of, port_name, port_row, process_name, same_birth, same_kind, same_object, section_name, thread_name, token_name, event_ports}
 use Rattle.lpc_model.specs.Basics.{Frees, basic, freed, world_after}
 use Rattle.lpc_model.specs.Sweep.{free_unheld, is_unheld, unheld}
 use Rattle.lpc_model.specs.Linked.{HasHeldPorts, IsLinked, is_root_port, is_mutual, is_rooted, names_nothing, passes_or_none}
 use Rattle.lpc_model.proofs.Steps.Rows.{has-found, has-without}
 use Rattle.lpc_model.proofs.Sound.Frees.{frees-registrations, none-pass, which-all}
+use Rattle.lpc_model.proofs.Held.Events.{frees-events}
+use Rattle.lpc_model.specs.Left.{HasLivingPorts}
 
 -- What a pass leaves
 -- a port whose name stands in a list
@@ -129,7 +131,7 @@ listed-ports w =
 -- a row that isn't a port holds it; a port does
 abbrev pub is_held_aside : World → Birth → Bool
 is_held_aside w b =
-    not (handle_count w (port_name b) == 0) || (has (is_sent_on b) w.messages || (has (is_made_on b) w.waits || (has (same_birth b) (all_registrations w) || has (is_owned_by b) (all_views w))))
+    not (handle_count w (port_name b) == 0) || (has (is_sent_on b) w.messages || (has (is_made_on b) w.waits || (has (same_birth b) (all_registrations w) || (has (is_owned_by b) (all_views w) || has (same_birth b) (event_ports w)))))
 
 abbrev pub is_held_by : List PortRow → Birth → Bool
 is_held_by ports b = has (is_paired_to b) ports || has (is_connected_to b) ports
@@ -142,23 +144,24 @@ count-zero p (x ∷ xs) = at (p x) refl (count-zero p xs)
     at true is later = grind (arith, nat_tests)
     at false is later = grind (arith, later)
 
-sum-zero : (a b c d e f g : ℕ) → ((a + (b + (c + (d + (e + (f + g)))))) == 0) ≡ ((a == 0) && ((b == 0) && ((c == 0) && ((d == 0) && ((e == 0) && ((f == 0) && (g == 0)))))))
-sum-zero a b c d e f g = grind (arith, nat_tests)
+sum-zero : (a b c d e f g h : ℕ) → ((a + (b + (c + (d + (e + (f + (g + h))))))) == 0) ≡ ((a == 0) && ((b == 0) && ((c == 0) && ((d == 0) && ((e == 0) && ((f == 0) && ((g == 0) && (h == 0))))))))
+sum-zero a b c d e f g h = grind (arith, nat_tests)
 
 pub unheld-parts : (w : World) (b : Birth) → is_unheld w (port_name b) ≡ not (is_held_aside w b || is_held_by w.ports b)
 unheld-parts w b =
     let a = handle_count w (port_name b) in
-    let sums = sum-zero a (count (is_paired_to b) w.ports) (count (is_connected_to b) w.ports) (count (is_sent_on b) w.messages) (count (is_made_on b) w.waits) (count (same_birth b) (all_registrations w)) (count (is_owned_by b) (all_views w)) in
+    let sums = sum-zero a (count (is_paired_to b) w.ports) (count (is_connected_to b) w.ports) (count (is_sent_on b) w.messages) (count (is_made_on b) w.waits) (count (same_birth b) (all_registrations w)) (count (is_owned_by b) (all_views w)) (count (same_birth b) (event_ports w)) in
     let one = count-zero (is_paired_to b) w.ports in
     let two = count-zero (is_connected_to b) w.ports in
     let three = count-zero (is_sent_on b) w.messages in
     let four = count-zero (is_made_on b) w.waits in
     let five = count-zero (same_birth b) (all_registrations w) in
     let six = count-zero (is_owned_by b) (all_views w) in
-    sums ∙ all-parts (a == 0) _ _ _ _ _ _ _ _ _ _ _ _ one two three four five six
+    let seven = count-zero (same_birth b) (event_ports w) in
+    sums ∙ all-parts (a == 0) _ _ _ _ _ _ _ _ _ _ _ _ _ _ one two three four five six seven
   where
-    all-parts : (a b c d e f g p q r s t u : Bool) → b ≡ not p → c ≡ not q → d ≡ not r → e ≡ not s → f ≡ not t → g ≡ not u → (a && (b && (c && (d && (e && (f && g)))))) ≡ not ((not a || (r || (s || (t || u)))) || (p || q))
-    all-parts a b c d e f g p q r s t u one two three four five six = grind arith
+    all-parts : (a b c d e f g h p q r s t u v : Bool) → b ≡ not p → c ≡ not q → d ≡ not r → e ≡ not s → f ≡ not t → g ≡ not u → h ≡ not v → (a && (b && (c && (d && (e && (f && (g && h))))))) ≡ not ((not a || (r || (s || (t || (u || v))))) || (p || q))
+    all-parts a b c d e f g h p q r s t u v one two three four five six seven = grind arith
 
 -- Two passes
 -- a port that isn't held has no other end
@@ -229,7 +232,7 @@ connected-end w l c is = at (first (is_connected_to c) w.ports) refl is
     at None none some = absurd (cc)
     at (Some p) here some = root p.connection (first-passes (is_connected_to c) w.ports p here) (every-first (is_rooted w) (is_connected_to c) w.ports p l.rooted here)
 
-module _ (w : World) (l : IsLinked w) where
+module _ (w : World) (l : IsLinked w) (e : HasLivingPorts w) where
   abbrev once_swept : World
   once_swept = world_after w (free_unheld w)
 
@@ -249,10 +252,10 @@ module _ (w : World) (l : IsLinked w) where
   goes-later p = is_listed (unheld once_swept) p
 
   aside-one : (b : Birth) → is_held_aside once_swept b ≡ is_held_aside w b
-  aside-one b = rw (one.messages, one.waits, one.handles, one.views, frees-registrations w (unheld w) (which-all (is_unheld w) _)) refl
+  aside-one b = rw (one.messages, one.waits, one.handles, one.views, frees-registrations w (unheld w) (which-all (is_unheld w) _), (frees-events w (unheld w) (which-all (is_unheld w) _) e).0) refl
 
   aside-two : (b : Birth) → is_held_aside swept b ≡ is_held_aside once_swept b
-  aside-two b = rw (two.messages, two.waits, two.handles, two.views, frees-registrations once_swept (unheld once_swept) (which-all (is_unheld once_swept) _)) refl
+  aside-two b = rw (two.messages, two.waits, two.handles, two.views, frees-registrations once_swept (unheld once_swept) (which-all (is_unheld once_swept) _), (frees-events once_swept (unheld once_swept) (which-all (is_unheld once_swept) _) (frees-events w (unheld w) (which-all (is_unheld w) _) e).1).0) refl
 
   -- what goes first isn't paired
   gone-unpaired : (c : Birth) → every (λ q. not (goes q) || not (is_paired_to c q)) w.ports ≡ true

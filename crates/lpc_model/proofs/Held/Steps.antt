@@ -4,11 +4,11 @@ use Rattle.std.specs.Prelude.{◌&&◌, ◌||◌, ◌==◌, nat_lt}
 use Rattle.std.proofs.lemmas.Bool.Decides.{nat_tests}
 use Rattle.std.proofs.Math.Bool.{or-true}
 use Rattle.lpc_base.specs.Rows.{change, count, each, every, has, which}
-use Rattle.lpc_base.proofs.RowWords.{count-append, count-push, every-change, every-more}
+use Rattle.lpc_base.proofs.RowWords.{count-append, count-push, every-change, every-more, has-change}
 use Rattle.lpc_base.proofs.Bools.{first-true, number-apart, second-true}
 use Rattle.lpc_model.specs.World.{Birth, HandleRow, HandleTable, ObjectName, PortRow, ProcessRow, SectionRow, ThreadRow, ViewTable, World, TokenRow}
-use Rattle.lpc_model.specs.Found.{all_registrations, all_views, free_handle, handle_count, has_value, is_connected_to, is_life, is_made_on, is_owned_by, is_paired_to, is_port, is_sent_on, is_space, is_table, is_thread, lives_by, pointer_count, port_name, process_name, registered_by, same_birth, same_object, section_name, shows_section, thread_name, waits_as, waits_at, offers_section, token_name}
-use Rattle.lpc_model.specs.Basics.{Accepts, AddsHandle, AddsProcess, AddsSection, AddsThread, Awaits, Basic, Binds, Completes, Cuts, Dies, DrawsIdentifier, DrawsOrdinal, DropsHandle, DropsOwned, DropsViewsOf, Empties, Enters, Frees, Joins, Makes, Maps, Receives, Registers, Takes, TakesConnect, Tells, Unbinds, Unmaps, Unregisters, Wakes, Withdraws, Writes, accepted, basic, completed, past_identifier, past_ordinal, put_handle, received, registering, unregistering, with_handle, with_view, world_after, Acts, AddsToken, NamesToken, Secures, acting, secured}
+use Rattle.lpc_model.specs.Found.{all_registrations, all_views, free_handle, handle_count, has_value, is_connected_to, is_life, is_made_on, is_owned_by, is_paired_to, is_port, is_sent_on, is_space, is_table, is_thread, lives_by, pointer_count, port_name, process_name, registered_by, same_birth, same_object, section_name, shows_section, thread_name, waits_as, waits_at, offers_section, token_name, event_ports, event_ports_of, is_process}
+use Rattle.lpc_model.specs.Basics.{Accepts, AddsHandle, AddsProcess, AddsSection, AddsThread, Awaits, Basic, Binds, Completes, Cuts, Dies, DrawsIdentifier, DrawsOrdinal, DropsHandle, DropsOwned, DropsViewsOf, Empties, Enters, Frees, Joins, Makes, Maps, Receives, Registers, Takes, TakesConnect, Tells, Unbinds, Unmaps, Unregisters, Wakes, Withdraws, Writes, accepted, basic, completed, past_identifier, past_ordinal, put_handle, received, registering, unregistering, with_handle, with_view, world_after, Acts, AddsToken, NamesToken, Secures, acting, secured, Dooms, Leaves, LetsGo, Marks, SetsDebug, SetsException, debugged, doomed, excepted, portless}
 use Rattle.lpc_model.specs.Sweep.{is_unheld, loosened, loosens}
 use Rattle.lpc_model.specs.Linked.{AreLivesHeld, HasHeldPorts, HasHeldSections, HasHeldTokens}
 use Rattle.lpc_model.specs.Tests.{handle_row}
@@ -17,6 +17,7 @@ use Rattle.lpc_model.proofs.Steps.Handles.{alone, value-free}
 use Rattle.lpc_model.proofs.Steps.Registrations.{back-more, more-each, registering-more, same-each}
 use Rattle.lpc_model.proofs.Linked.Steps.{is_steady}
 use Rattle.lpc_model.proofs.Steps.InTurn.{steps-keep}
+use Rattle.lpc_model.proofs.Sound.Cuts.{rest}
 
 -- Counts
 pub held-more : (a b : ℕ) → a ≤ b → not (a == 0) ≡ true → not (b == 0) ≡ true
@@ -128,12 +129,30 @@ drawn-lives w who f births lives processes held =
     (λ b. same-sum (handle_count w (process_name b)) _ _ (count-change (lives_by w b) (is_thread who) f (λ t. rw (lives t, processes t) refl) w.threads)) held in
     record { threads = every-change (holds-thread v) (is_thread who) f (λ t is. rw (births t) is) w.threads more.0; processes = more.1 }
 
+-- a process gets or lets go a port, or is to end
+count-alike : {X : Type 0} (p q : X → Bool) → ((x : X) → p x ≡ q x) → (xs : List X) → count p xs ≡ count q xs
+count-alike p q same [] = refl
+count-alike p q same (x ∷ xs) = grind (arith, same x, count-alike p q same xs)
+
+changed-lives : (w : World) (pid : ℕ) (f : ProcessRow → ProcessRow) → ((p : ProcessRow) → (f p).birth ≡ p.birth) → ((p : ProcessRow) → (f p).number ≡ p.number) → AreLivesHeld w → AreLivesHeld (record w { processes = change (is_process pid) f w.processes })
+changed-lives w pid f births numbers held =
+    let v : World = record w { processes = change (is_process pid) f w.processes } in
+    let more = lives-more w v (λ b. omega arith) (λ b. same-sum (handle_count w (process_name b)) _ _ (count-alike (lives_by v b) (lives_by w b) (same b) w.threads)) held in
+    record { threads = more.0; processes = every-change (holds-process v) (is_process pid) f (λ p is. rw (births p) is) w.processes more.1 }
+  where
+    same : (b : Birth) (t : ThreadRow) → lives_by (record w { processes = change (is_process pid) f w.processes }) b t ≡ lives_by w b t
+    same b t = ap (λ c. t.live && c) (has-change (λ p. same_birth p.birth b && (p.number == t.process)) (is_process pid) f (λ p. rw (births p, numbers p) refl) w.processes)
+
 lives-step : (w : World) (b : Basic) → keeps_lives b ≡ true → AreLivesHeld w → AreLivesHeld (basic w b)
 lives-step w (DrawsIdentifier who) is held = drawn-lives w who past_identifier (λ t. refl) (λ t. refl) (λ t. refl) held
 lives-step w (DrawsOrdinal who) is held = drawn-lives w who past_ordinal (λ t. refl) (λ t. refl) (λ t. refl) held
 lives-step w (Registers who b) is held = drawn-lives w who (registering b) (λ t. refl) (λ t. refl) (λ t. refl) held
 lives-step w (Unregisters who b) is held = drawn-lives w who (unregistering b) (λ t. refl) (λ t. refl) (λ t. refl) held
 lives-step w (Acts who own) is held = drawn-lives w who (acting own) (λ t. refl) (λ t. refl) (λ t. refl) held
+lives-step w (SetsDebug pid b) is held = changed-lives w pid (debugged b) (λ p. refl) (λ p. refl) held
+lives-step w (SetsException pid b) is held = changed-lives w pid (excepted b) (λ p. refl) (λ p. refl) held
+lives-step w (LetsGo pid) is held = changed-lives w pid portless (λ p. refl) (λ p. refl) held
+lives-step w (Dooms pid code) is held = changed-lives w pid (doomed code) (λ p. refl) (λ p. refl) held
 lives-step w (Dies who status) is held = absurd (cc)
 lives-step w (AddsProcess p) is held = absurd (cc)
 lives-step w (AddsThread t) is held = absurd (cc)
@@ -167,12 +186,15 @@ ports-more w v more held = every-more (holds-port w) (holds-port v) (λ p is. he
 pub counts-more : (a b c d e f i j k l m n : ℕ) → a ≤ i → b ≤ j → c ≤ k → d ≤ l → e ≤ m → f ≤ n → a + (b + (c + (d + (e + f)))) ≤ i + (j + (k + (l + (m + n))))
 counts-more a b c d e f i j k l m n one two three four five six = omega (arith, one, two, three, four, five, six)
 
--- the registrations of a port, and the views that it owns
+-- the registrations of a port, the views that it owns, and the processes of whose exceptions it is told
 abbrev pub claims : World → Birth → ℕ
-claims w b = count (same_birth b) (all_registrations w) + count (is_owned_by b) (all_views w)
+claims w b = count (same_birth b) (all_registrations w) + (count (is_owned_by b) (all_views w) + count (same_birth b) (event_ports w))
 
-pub claims-more : (w : World) (b : Birth) (m n : ℕ) → m ≤ n → m + count (is_owned_by b) (all_views w) ≤ n + count (is_owned_by b) (all_views w)
+pub claims-more : (w : World) (b : Birth) (m n : ℕ) → m ≤ n → m + (count (is_owned_by b) (all_views w) + count (same_birth b) (event_ports w)) ≤ n + (count (is_owned_by b) (all_views w) + count (same_birth b) (event_ports w))
 claims-more w b m n is = omega (arith, is)
+
+front-more : (a b c : ℕ) → a ≤ b → a + c ≤ b + c
+front-more a b c is = omega (arith, is)
 
 pub not-less : (a b : ℕ) → b ≡ a → a ≤ b
 not-less a b is = omega (arith, is)
@@ -209,6 +231,13 @@ quiet-step w (Secures c y) is quiet held =
 quiet-step w (Acts who own) is quiet held = drawn-quiet w who (acting own) (λ t. refl) held
 quiet-step w (AddsToken t) is quiet held = absurd (cc)
 quiet-step w (NamesToken n) is quiet held = held
+quiet-step w (Marks who) is quiet held = held
+quiet-step w (Dooms pid code) is quiet held = ports-more w (basic w (Dooms pid code)) (λ b. counts-more (handle_count w (port_name b)) (count (is_paired_to b) w.ports) (count (is_connected_to b) w.ports) (count (is_sent_on b) w.messages) (count (is_made_on b) w.waits) _ _ _ _ _ _ _
+    (omega arith) (omega arith) (omega arith) (omega arith) (omega arith) (back-more (count (same_birth b) (all_registrations w)) _ _ (back-more (count (is_owned_by b) (all_views w)) _ _ (not-less _ _ (ap (count (same_birth b)) (same-each event_ports_of (is_process pid) (doomed code) (λ p. refl) w.processes)))))) held
+quiet-step w (SetsDebug pid b) is quiet held = absurd (cc)
+quiet-step w (SetsException pid b) is quiet held = absurd (cc)
+quiet-step w (LetsGo pid) is quiet held = absurd (cc)
+quiet-step w (Leaves who) is quiet held = absurd (cc)
 quiet-step w (Dies who status) is quiet held = absurd (cc)
 quiet-step w (Unregisters who c) is quiet held = absurd (cc)
 quiet-step w (Makes p) is quiet held = absurd (cc)
@@ -228,7 +257,7 @@ quiet-step w (AddsSection s) is quiet held = absurd (cc)
 quiet-step w (Writes b place new) is quiet held = held
 quiet-step w (Maps pid v) is quiet held =
     ports-more w (basic w (Maps pid v)) (λ b. counts-more (handle_count w (port_name b)) (count (is_paired_to b) w.ports) (count (is_connected_to b) w.ports) (count (is_sent_on b) w.messages) (count (is_made_on b) w.waits) (claims w b) _ _ _ _ _ _
-    (omega arith) (omega arith) (omega arith) (omega arith) (omega arith) (back-more (count (same_birth b) (all_registrations w)) _ _ (more-each (is_owned_by b) (λ (t : ViewTable). t.rows) (is_space pid) (with_view v) (λ t. push-more (is_owned_by b) t.rows v) w.views))) held
+    (omega arith) (omega arith) (omega arith) (omega arith) (omega arith) (back-more (count (same_birth b) (all_registrations w)) _ _ (front-more _ _ (count (same_birth b) (event_ports w)) (more-each (is_owned_by b) (λ (t : ViewTable). t.rows) (is_space pid) (with_view v) (λ t. push-more (is_owned_by b) t.rows v) w.views)))) held
 quiet-step w (Unmaps pid base) is quiet held = absurd (cc)
 quiet-step w (DropsViewsOf pid) is quiet held = absurd (cc)
 quiet-step w (DropsOwned b) is quiet held = absurd (cc)
@@ -255,6 +284,7 @@ handle-sections w pid object access few held =
 -- steps that make no section, give and take no handle, and by which no object, no view and no wait goes, and no offer
 abbrev pub keeps_sections : Basic → Bool
 keeps_sections (Wakes who call status fields) = false
+keeps_sections (Leaves who) = false
 keeps_sections (Accepts who a) = false
 keeps_sections (Dies who status) = false
 keeps_sections (AddsProcess p) = false
@@ -272,6 +302,7 @@ sections-step w (Maps pid v) is held = sections-more w (basic w (Maps pid v)) (�
 sections-step w (Awaits x) is held = sections-more w (basic w (Awaits x)) (λ b. more-views (handle_count w (section_name b)) _ _ (more-views (count (shows_section b) (all_views w)) _ _ (push-more (offers_section b) w.waits x))) held
 sections-step w (Receives who queue) is held = sections-more w (basic w (Receives who queue)) (λ b. more-views (handle_count w (section_name b)) _ _ (more-views (count (shows_section b) (all_views w)) _ _ (not-less _ _ (count-change (offers_section b) (waits_at who queue) received (λ x. refl) w.waits)))) held
 sections-step w (Wakes who call status fields) is held = absurd (cc)
+sections-step w (Leaves who) is held = absurd (cc)
 sections-step w (Accepts who a) is held = absurd (cc)
 sections-step w (Dies who status) is held = absurd (cc)
 sections-step w (AddsProcess p) is held = absurd (cc)
@@ -290,6 +321,7 @@ sections-all = steps-keep keeps_sections HasHeldSections sections-step
 -- a steady step that lets no name go does so
 steady-sections : (b : Basic) → is_steady b ≡ true → loosens b ≡ false → keeps_sections b ≡ true
 steady-sections (Wakes who call status fields) is quiet = absurd (cc)
+steady-sections (Leaves who) is quiet = absurd (cc)
 steady-sections (Accepts who a) is quiet = absurd (cc)
 steady-sections (Dies who status) is quiet = absurd (cc)
 steady-sections (AddsProcess p) is quiet = absurd (cc)

@@ -112,7 +112,7 @@ connected-linked w by connection offer bytes c ends s l =
 -- other connects wait elsewhere
 elsewhere : (w : World) (by : ThreadRow) (x y : WaitRow) → (x.port.maker == x.thread) ≡ true → can_stay_sound w y ≡ true → not (waits_as by.number y) ≡ true → (waits_as x.thread y || (not (is_offered y) || (not (same_birth y.port x.port) && not (same_birth y.port (next_birth by))))) ≡ true
 elsewhere w by x y own = by_kind (λ y. can_stay_sound w y ≡ true → not (waits_as by.number y) ≡ true → (waits_as x.thread y || (not (is_offered y) || (not (same_birth y.port x.port) && not (same_birth y.port (next_birth by))))) ≡ true)
-    (λ y m is off. or-true _) (λ y is off. or-true _) (λ y is off. or-true _) (λ y m offer is off. grind (arith, nat_tests)) (λ y m r is off. or-true _) y
+    (λ y m is off. or-true _) (λ y is off. or-true _) (λ y is off. or-true _) (λ y m offer is off. grind (arith, nat_tests)) (λ y m r is off. or-true _) (λ y r is off. or-true _) y
 
 pub lone-parts : (w : World) (x : WaitRow) → is_offered x ≡ true → is_lone_offer w x ≡ true → (is_root_port w x.queue ≡ true) × (passes (port_row w x.port) is_unjoined ≡ true)
 lone-parts w x of lone = (one _ _ _ of lone, two _ _ _ of lone)
@@ -124,7 +124,7 @@ lone-parts w x of lone = (one _ _ _ of lone, two _ _ _ of lone)
     two o a b is all = grind arith
 
 offered-own : (w : World) (x : WaitRow) → is_offered x ≡ true → can_stay_sound w x ≡ true → (x.port.maker == x.thread) ≡ true
-offered-own w = by_kind (λ x. is_offered x ≡ true → can_stay_sound w x ≡ true → (x.port.maker == x.thread) ≡ true) (λ x m of is. absurd (cc)) (λ x of is. absurd (cc)) (λ x of is. absurd (cc)) (λ x m offer of is. grind arith) (λ x m r of is. absurd (cc))
+offered-own w = by_kind (λ x. is_offered x ≡ true → can_stay_sound w x ≡ true → (x.port.maker == x.thread) ≡ true) (λ x m of is. absurd (cc)) (λ x of is. absurd (cc)) (λ x of is. absurd (cc)) (λ x m offer of is. grind arith) (λ x m r of is. absurd (cc)) (λ x r of is. absurd (cc))
 
 standing-apart : (w : World) (c b : Birth) → passes (port_row w c) is_unjoined ≡ true → has (is_port b) w.ports ≡ false → same_birth c b ≡ false
 standing-apart w c b is none = false_from_ne_true (same_birth c b) (λ same. let here = subst (λ d. has (is_port d) w.ports ≡ true) (birth-same c b same) (stands (port_row w c) is) in cc)

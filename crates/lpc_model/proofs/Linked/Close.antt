@@ -5,7 +5,7 @@ use Rattle.lpc_base.specs.Rows.{given, when}
 use Rattle.lpc_base.proofs.RowWords.{every-append, every-more}
 use Rattle.lpc_model.specs.World.{Birth, Creator, HandleRow, PortRow, World}
 use Rattle.lpc_model.specs.Found.{port_row}
-use Rattle.lpc_model.specs.Basics.{Basic, DropsHandle, DropsOwned, Empties, Unbinds, Wakes, Withdraws}
+use Rattle.lpc_model.specs.Basics.{Basic, DropsHandle, DropsOwned, Empties, Unbinds, Wakes, Withdraws, Marks}
 use Rattle.lpc_model.specs.Entering.{enter}
 use Rattle.lpc_model.specs.Close.{close_handle, close_port, closed_row, is_last, post_closed, server_of, closing_post}
 use Rattle.lpc_model.proofs.Steps.Closing.{close-pass, stage_five, takes_away}
@@ -20,6 +20,7 @@ away-steady (Withdraws who) is = refl
 away-steady (Empties q) is = refl
 away-steady (Unbinds b) is = refl
 away-steady (DropsOwned b) is = refl
+away-steady (Marks who) is = refl
 away-steady x is = absurd (cc)
 
 posted-steady : (b : Birth) (w : World) → AreSteady (post_closed b w)

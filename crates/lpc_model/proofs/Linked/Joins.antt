@@ -12,7 +12,7 @@ use Rattle.lpc_names.specs.Walk.{LinkTo, Stands}
 use Rattle.lpc_names.specs.declared.names.Found.TheVariants.{Directory, Item}
 use Rattle.lpc_model.specs.declared.entry.ObjectKind.TheVariants as kind
 use Rattle.lpc_model.specs.World.{Acceptance, Birth, Node, ObjectKind, ObjectName, PortRow, WaitRow, World}
-use Rattle.lpc_model.specs.Found.{all_registrations, all_views, is_connected_to, is_made_on, is_offered, is_open, is_owned_by, is_paired_to, is_port, is_the, pair_of, pointer_count, port_name, port_row, same_birth, waits_as}
+use Rattle.lpc_model.specs.Found.{all_registrations, all_views, is_connected_to, is_made_on, is_offered, is_open, is_owned_by, is_paired_to, is_port, is_the, pair_of, pointer_count, port_name, port_row, same_birth, waits_as, event_ports}
 use Rattle.lpc_model.specs.Basics.{Accepts, Frees, Joins, accepted, basic, freed, joined, paired, world_after}
 use Rattle.lpc_model.specs.Sweep.{free_unheld, is_unheld, sweep, unheld}
 use Rattle.lpc_model.specs.Linked.{IsLinked, is_root_port, is_lone_offer, is_mutual, is_rooted, is_unjoined, leads_to_root, names_nothing, passes_or_none}
@@ -159,7 +159,7 @@ module _ (w : World) (client server : Birth) (context who : ℕ) (reply : Accept
           offer-kept w joined_world ends-joined x (row-kept ports.0 ports.1) was
 
   accepted-lone : (x : WaitRow) → is_lone_offer joined_world (accepted reply x) ≡ true
-  accepted-lone = by_kind (λ x. is_lone_offer joined_world (accepted reply x) ≡ true) (λ x m. refl) (λ x. refl) (λ x. refl) (λ x m offer. refl) (λ x m r. refl)
+  accepted-lone = by_kind (λ x. is_lone_offer joined_world (accepted reply x) ≡ true) (λ x m. refl) (λ x. refl) (λ x. refl) (λ x m offer. refl) (λ x m r. refl) (λ x m. refl)
 
   pub joined-linked : IsLinked (basic joined_world (Accepts who reply))
   joined-linked = record {
@@ -192,7 +192,7 @@ other-open w b c off is = false_from_ne_true (same_birth c b) (λ same. let open
 port-gone : (w : World) (b : Birth) → pointer_count w (port_name b) ≤ 0 → IsSoundWorld w → IsLinked w → IsLinked (basic w (Frees (port_name b)))
 port-gone w b few s l =
     let v = basic w (Frees (port_name b)) in
-    let held : count (is_paired_to b) w.ports + (count (is_connected_to b) w.ports + (count (λ m. same_birth m.sender b) w.messages + (count (is_made_on b) w.waits + (count (same_birth b) (all_registrations w) + count (is_owned_by b) (all_views w))))) ≤ 0 = sum-second _ _ few in
+    let held : count (is_paired_to b) w.ports + (count (is_connected_to b) w.ports + (count (λ m. same_birth m.sender b) w.messages + (count (is_made_on b) w.waits + (count (same_birth b) (all_registrations w) + (count (is_owned_by b) (all_views w) + count (same_birth b) (event_ports w)))))) ≤ 0 = sum-second _ _ few in
     let made = none-pass (is_made_on b) w.waits (omega (arith, held)) in
     let unpaired = none-pass (is_paired_to b) w.ports (omega (arith, held)) in
     let unconnected = none-pass (is_connected_to b) w.ports (omega (arith, held)) in
@@ -222,6 +222,7 @@ port-gone w b few s l =
         let port : passes (port_row (basic w (Frees (port_name b))) x.port) is_unjoined ≡ true = rw (row-freed w b x.port made) two in
         and_from _ _ queue port)
         (λ x m r both sound. refl)
+        (λ x m both sound. refl)
 
     gone-leads : (w : World) (b : Birth) → is_open w b ≡ false → (node : Node Birth) → leads_to_root w node ≡ true → leads_open w node ≡ true → leads_to_root (basic w (Frees (port_name b))) node ≡ true
     gone-leads w b closed (LinkTo target) one two = refl

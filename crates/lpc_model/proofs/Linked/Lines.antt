@@ -1,49 +1,59 @@
 -- Each line keeps ports linked, and leaves no port row that no row names.
 use Rattle.lpc_base.proofs.RowWords.{every-more}
-use Rattle.lpc_model.specs.SoundWaits.{HasShutConnects, IsSoundWorld}
+use Rattle.lpc_model.specs.SoundWaits.{IsSoundWorld}
 use Rattle.lpc_model.specs.Sweep.{free_unheld, sweep}
-use Rattle.lpc_model.specs.Linked.{HasHeldRows, IsLinked}
-use Rattle.lpc_model.proofs.Sound.Lines.{line-sound}
+use Rattle.lpc_model.specs.Linked.{HasHeldRows, IsLinked, is_root_port}
 use Rattle.lpc_model.proofs.Linked.Joins.{swept-linked}
 use Rattle.lpc_model.proofs.Held.Ports.{two-passes}
 use Rattle.lpc_model.proofs.Held.Lives.{processes-held, sections-held, threads-held, tokens-held}
 use Rattle.lpc_model.proofs.Linked.Steps.{is_plain, plain-all}
 use Rattle.lpc_model.proofs.Steps.InTurn.{after-append}
 use Rattle.std.proofs.Common.{List, None, Some, [], arith, refl, true, ◌∷◌, ◌≡◌}
-use Rattle.lpc_base.specs.Rows.{first}
+use Rattle.lpc_base.specs.Rows.{first, every}
 use Rattle.lpc_base.specs.declared.status.TheConstants.{SUCCESS}
 use Rattle.lpc_message.specs.declared.kind.TheConstants.{DATAGRAM, REQUEST}
 use Rattle.lpc_names.specs.Walk.{LinkTo, Stands}
 use Rattle.lpc_names.specs.declared.names.Found.TheVariants.{Directory}
-use Rattle.lpc_model.specs.declared.entry.CallName.TheVariants.{NtRegisterThreadTerminatePort, NtOpenProcessToken, NtOpenThreadToken}
+use Rattle.lpc_model.specs.declared.entry.CallName.TheVariants.{NtRegisterThreadTerminatePort, NtOpenProcessToken, NtOpenThreadToken, NtReplyPort}
 use Rattle.lpc_model.specs.declared.entry.Entry.TheVariants as entry
 use Rattle.lpc_model.specs.declared.entry.Entry.TheVariants.{Answer}
 use Rattle.lpc_model.specs.declared.entry.Word.TheVariants as word
-use Rattle.lpc_model.specs.World.{ThreadRow, World, no_rows}
-use Rattle.lpc_model.specs.Basics.{AddsProcess, AddsThread, Awaits, Basic, Binds, Frees, Joins, Makes, Registers, Tells, world_after, Maps, NamesToken, Secures}
+use Rattle.lpc_model.specs.World.{ThreadRow, World, no_rows, ProcessRow}
+use Rattle.lpc_model.specs.Basics.{AddsProcess, AddsThread, Awaits, Basic, Binds, Frees, Joins, Makes, Registers, Tells, world_after, Maps, NamesToken, Secures, Dooms, first_code}
 use Rattle.lpc_model.specs.Close.{close_steps}
 use Rattle.lpc_model.specs.Connect.{ConnectAnswer, answer_test, complete_steps, listen_steps, names_connect, refuse_steps, connection_request, connect_steps, create_steps, named_steps}
 use Rattle.lpc_model.specs.Counts.{asked, duplicate_steps}
 use Rattle.lpc_model.specs.Creation.{making_process, making_thread}
-use Rattle.lpc_model.specs.Found.{free_handle, acting_token}
+use Rattle.lpc_model.specs.Found.{free_handle, acting_token, live_threads}
 use Rattle.lpc_model.specs.Lines.{ScriptLine}
-use Rattle.lpc_model.specs.Linked.{is_root_port}
 use Rattle.lpc_model.specs.Memory.{map_steps, mapped_view, section_steps, unmap_steps, write_steps}
 use Rattle.lpc_model.specs.Ranges.{write_range_steps}
-use Rattle.lpc_model.specs.Machine.{bare_steps, directive_birth, new_process, new_thread, step}
+use Rattle.lpc_model.specs.Machine.{bare_steps, directive_birth, new_process, new_thread, step, own_steps}
 use Rattle.lpc_model.specs.Named.{named_port}
 use Rattle.lpc_model.specs.Request.{datagram_steps, receive_steps, reply_steps, request_steps, sent_by}
-use Rattle.lpc_model.proofs.Steps.Ending.{AreEnding, answered_end, is_ending, steps-end}
+use Rattle.lpc_model.proofs.Steps.Ending.{AreEnding, answered_end, is_ending, steps-end, end-ending}
 use Rattle.lpc_model.proofs.Calls.Holding.{holds_ok}
 use Rattle.lpc_model.proofs.Calls.Lines.{AnyWorld, IsCalled, Keep, LineLaw, line-does}
 use Rattle.lpc_model.proofs.Linked.Calls.{accepted-linked, connected-linked, name-ends, named-linked, steady-all, unnamed-linked}
 use Rattle.lpc_model.proofs.Linked.Close.{handle-plain}
 use Rattle.lpc_model.proofs.Calls.Outcomes.{Outcomes}
 use Rattle.lpc_model.proofs.Calls.Tested.{named-wait}
-use Rattle.lpc_model.proofs.Steps.Steady.{steady-ask, steady-await, steady-receipt, steady-receive, steady-send}
+use Rattle.lpc_model.proofs.Steps.Steady.{steady-ask, steady-await, steady-receipt, steady-receive, steady-send, steady-hears}
 use Rattle.lpc_model.proofs.Calls.Sharing.{connected-keeps, accepted-keeps, allowed-keeps, guarded-keeps}
 use Rattle.lpc_model.specs.Impersonation.{held_content, impersonate_steps, process_content, revert_steps, token_steps}
 use Rattle.lpc_model.specs.Tests.{next_birth}
+use Rattle.lpc_model.proofs.Calls.Raising.{set-passes}
+use Rattle.lpc_model.proofs.Sound.Reply.{reply-cases}
+use Rattle.lpc_model.specs.Raise.{Heard, raise_steps, set_port_steps, go_on}
+use Rattle.lpc_model.proofs.Calls.Acts.{keeps_on}
+use Rattle.lpc_model.proofs.Settling.Keeps.{bare-does, bare-ready}
+use Rattle.lpc_model.proofs.Settling.Loop.{settle-kept}
+use Rattle.lpc_model.proofs.Settling.Settled.{IsReady}
+use Rattle.lpc_model.proofs.Settling.Steady.{on-steady}
+use Rattle.lpc_model.proofs.Steps.Closing.{behind}
+use Rattle.lpc_model.specs.Death.{code_status, end_threads}
+use Rattle.lpc_model.specs.Left.{HasLivingPorts}
+use Rattle.lpc_model.specs.Settle.{end_doomed, settle}
 
 -- what ends is plain
 pub ending-plain : (b : Basic) → is_ending b ≡ true → is_plain b ≡ true
@@ -73,7 +83,7 @@ linked-calls by w is = record {
   completes = λ handle c at. plain-all w (complete_steps by (free_handle w c.wait.process) c) refl;
   sends = λ handle bytes s at. steady-all w (datagram_steps by s.port s.queue (sent_by by DATAGRAM s.message) w) (steady-send w by s);
   asks = λ handle bytes s at. steady-all w (request_steps by s.port s.queue (sent_by by REQUEST s.message) w) (steady-ask w by s);
-  replies = λ handle bytes port m x at read fits. plain-all w (reply_steps by x m) refl;
+  replies = λ handle bytes port m x at read fits. plain-all w (reply_steps by x m) (reply-cases (λ b. every is_plain (Tells (entry.Answer by.number NtReplyPort SUCCESS []) ∷ b ∷ []) ≡ true) x m refl refl (λ _. refl));
   receives = λ handle bytes o port queue replied m r at. steady-all w (receive_steps by port queue replied (Some m)) (steady-receive w by handle bytes o port queue replied m r);
   awaits_message = λ handle bytes o port queue replied r at. steady-all w (receive_steps by port queue replied None) (steady-await w by handle bytes o port queue replied r);
   registers = λ handle port at new few. plain-all w (Tells (Answer by.number NtRegisterThreadTerminatePort SUCCESS []) ∷ Registers by.number port.birth ∷ []) refl;
@@ -95,6 +105,10 @@ linked-calls by w is = record {
   opens_own = λ own at. plain-all w (token_steps by NtOpenThreadToken (held_content own) (free_handle w by.process)) refl;
   opens_primary = plain-all w (token_steps by NtOpenProcessToken (process_content w by) (free_handle w by.process)) refl;
   asks_token = λ handle class t field at told l. l;
+  sets = λ target class handle pid port at found live. plain-all w (set_port_steps by class pid port.birth) (set-passes (λ bs. every is_plain bs ≡ true) by class pid port.birth refl refl);
+  handles = λ code handled l. l;
+  hears = λ code handled h is. steady-all w (raise_steps by code handled (Heard h) w) (steady-hears w by code handled h);
+  fails = λ code handled. plain-all w (Dooms by.process code ∷ []) refl;
   ends = λ call name own pid code ts doomed. ended-linked w (answered_end by name own pid code ts w) (steps-end w by name own pid code ts);
 }
 
@@ -110,26 +124,38 @@ linked-lines = record {
   links = λ w text target path to free _. plain-all w (Tells (entry.Directive word.Link SUCCESS) ∷ Binds path (LinkTo to) ∷ []) refl;
 }
 
--- before rows go
-pub line_linked : (w : World) (line : ScriptLine) → IsSoundWorld w → IsLinked w → IsLinked (world_after w (bare_steps line w))
+-- before the world settles
+pub line_linked : (w : World) (line : ScriptLine) → IsSoundWorld w → IsLinked w → IsLinked (world_after w (own_steps line w))
 line_linked w line s l = line-does AnyWorld (λ _. Keep IsLinked) linked-lines w s tt line l
 
+doomed-linked : (w : World) (p : ProcessRow) → IsLinked w → IsLinked (behind (end_doomed p) w)
+unfolding end_doomed
+doomed-linked w p l = ended-linked w (end_threads p.number (code_status (first_code 0 p.doom)) (live_threads w p.number) w) (end-ending p.number (code_status (first_code 0 p.doom)) (live_threads w p.number) w) l
+
+pub linked-settles : (w : World) → IsLinked w → IsLinked (behind settle w)
+linked-settles = settle-kept IsLinked (λ w tid later some l. steady-all w (go_on tid w) (on-steady w tid) l) (λ w p some l. doomed-linked w p l)
+
+-- before rows go
+pub bare_linked : (w : World) (line : ScriptLine) → IsSoundWorld w → IsLinked w → IsLinked (world_after w (bare_steps line w))
+bare_linked w line s l = bare-does (Keep IsLinked) (λ w xs ys one two. keeps_on IsLinked w xs ys one two) w line (line_linked w line s) (linked-settles (world_after w (own_steps line w))) l
+
 -- the step of a line keeps ports linked, and leaves no port row that no row names
-pub linked_step : (w : World) (line : ScriptLine) → IsSoundWorld w → HasShutConnects w → IsLinked w → IsLinked (step w line).world
-linked_step w line s shut l =
+pub linked_step : (w : World) (line : ScriptLine) → IsSoundWorld w → IsReady (world_after w (own_steps line w)) → IsLinked w → IsLinked (step w line).world
+linked_step w line s ready l =
     let bs = bare_steps line w in
-    rw (after-append w bs (sweep (world_after w bs))) (swept-linked (world_after w bs) (line-sound w line s shut) (line_linked w line s l))
+    let r = bare-ready w line ready in
+    rw (after-append w bs (sweep (world_after w bs))) (swept-linked (world_after w bs) r.safe.sound (bare_linked w line s l))
 
-swept-rows : (w : World) → IsLinked w → HasHeldRows (world_after w (sweep w))
+swept-rows : (w : World) → IsLinked w → HasLivingPorts w → HasHeldRows (world_after w (sweep w))
 unfolding sweep
-swept-rows w l =
+swept-rows w l e =
     let v = world_after w (free_unheld w) in
-    rw (after-append w (free_unheld w) (free_unheld v)) (record { ports = two-passes w l; lives = record { threads = threads-held w; processes = processes-held w }; sections = sections-held w; tokens = tokens-held w })
+    rw (after-append w (free_unheld w) (free_unheld v)) (record { ports = two-passes w l e; lives = record { threads = threads-held w; processes = processes-held w }; sections = sections-held w; tokens = tokens-held w })
 
-pub held_step : (w : World) (line : ScriptLine) → IsSoundWorld w → IsLinked w → HasHeldRows (step w line).world
-held_step w line s l =
+pub held_step : (w : World) (line : ScriptLine) → IsSoundWorld w → HasLivingPorts (world_after w (bare_steps line w)) → IsLinked w → HasHeldRows (step w line).world
+held_step w line s e l =
     let bs = bare_steps line w in
-    rw (after-append w bs (sweep (world_after w bs))) (swept-rows (world_after w bs) (line_linked w line s l))
+    rw (after-append w bs (sweep (world_after w bs))) (swept-rows (world_after w bs) (bare_linked w line s l) e)
 
 pub linked_none : IsLinked no_rows
 linked_none = record { births = λ b. grind arith; pairs = refl; rooted = refl; offers = refl; targets = refl }

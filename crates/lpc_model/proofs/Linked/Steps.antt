@@ -12,7 +12,7 @@ use Rattle.lpc_names.specs.Walk.{LinkTo, Stands}
 use Rattle.lpc_names.specs.declared.names.Found.TheVariants.{Directory, Item}
 use Rattle.lpc_model.specs.World.{Acceptance, Birth, Node, PortRow, WaitRow, World, Security}
 use Rattle.lpc_model.specs.Found.{is_offered, is_port, is_the, pair_of, port_row, same_birth, waits_as, waits_at}
-use Rattle.lpc_model.specs.Basics.{Accepts, AddsHandle, AddsProcess, AddsSection, AddsThread, Awaits, Basic, Binds, Completes, Cuts, Dies, DropsHandle, Frees, Joins, Makes, Receives, Tells, Unbinds, Wakes, accepted, basic, completed, cut, is_end_of, received, world_after, AddsToken, Secures, secured}
+use Rattle.lpc_model.specs.Basics.{Accepts, AddsHandle, AddsProcess, AddsSection, AddsThread, Awaits, Basic, Binds, Completes, Cuts, Dies, DropsHandle, Frees, Joins, Makes, Receives, Tells, Unbinds, Wakes, accepted, basic, completed, cut, is_end_of, received, world_after, AddsToken, Secures, secured, Leaves}
 use Rattle.lpc_model.specs.Linked.{IsLinked, is_root_port, is_lone_offer, is_mutual, is_rooted, is_unjoined, leads_to_root, names_nothing, passes_or_none}
 use Rattle.lpc_model.proofs.Sound.Pairs.{tied}
 use Rattle.lpc_model.proofs.Sound.Ties.{completed-birth, secured-birth}
@@ -59,7 +59,7 @@ linked-same w v same waits names l = record {
     }
 
 accepted-offer : (w : World) (reply : Acceptance) (x : WaitRow) → is_lone_offer w x ≡ true → is_lone_offer w (accepted reply x) ≡ true
-accepted-offer w reply = by_kind (λ x. is_lone_offer w x ≡ true → is_lone_offer w (accepted reply x) ≡ true) (λ x m is. refl) (λ x is. refl) (λ x is. refl) (λ x m offer is. refl) (λ x m r is. refl)
+accepted-offer w reply = by_kind (λ x. is_lone_offer w x ≡ true → is_lone_offer w (accepted reply x) ≡ true) (λ x m is. refl) (λ x is. refl) (λ x is. refl) (λ x m offer is. refl) (λ x m r is. refl) (λ x m is. refl)
 
 -- a name of no port, or none at all
 abbrev pub is_portless : Node Birth → Bool
@@ -234,6 +234,7 @@ cut-linked w b l =
 plain-linked : (w : World) (b : Basic) → is_plain b ≡ true → IsLinked w → IsLinked (basic w b)
 plain-linked w (Tells e) is l = l
 plain-linked w (Wakes who call status fields) is l = linked-same w (basic w (Wakes who call status fields)) refl (every-without (is_lone_offer w) (waits_as who) w.waits) (λ all. all) l
+plain-linked w (Leaves who) is l = linked-same w (basic w (Leaves who)) refl (every-without (is_lone_offer w) (waits_as who) w.waits) (λ all. all) l
 plain-linked w (Awaits x) is l = linked-same w (basic w (Awaits x)) refl (λ all. every-push (is_lone_offer w) w.waits x all (or_left (not (is_offered x)) _ is)) (λ all. all) l
 plain-linked w (Receives who queue) is l = linked-same w (basic w (Receives who queue)) refl (every-change (is_lone_offer w) (waits_at who queue) received (λ x is. is) w.waits) (λ all. all) l
 plain-linked w (Accepts who reply) is l = linked-same w (basic w (Accepts who reply)) refl (every-change (is_lone_offer w) (waits_as who) (accepted reply) (accepted-offer w reply) w.waits) (λ all. all) l

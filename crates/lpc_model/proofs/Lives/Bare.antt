@@ -7,17 +7,18 @@ use Rattle.lpc_base.specs.Rows.{count, each, every, first, has, passes}
 use Rattle.lpc_base.proofs.RowWords.{every-more, first-passes}
 use Rattle.lpc_base.proofs.RowMaps.{every-both}
 use Rattle.lpc_base.proofs.Bools.{first-true, or-second, second-true}
-use Rattle.lpc_model.specs.World.{Birth, HandleRow, HandleTable, PortRow, ThreadRow, ViewRow, ViewTable, WaitRow, World}
-use Rattle.lpc_model.specs.Found.{all_handles, all_views, is_connected_to, is_life, is_live, is_live_thread, is_open, is_paired_to, is_port, is_the, lives_by, lives_in, live_thread, names_port, port_name, process_name, registered_by, section_name, thread_name, token_name}
+use Rattle.lpc_model.specs.World.{Birth, HandleRow, HandleTable, PortRow, ThreadRow, ViewRow, ViewTable, WaitRow, World, ProcessRow}
+use Rattle.lpc_model.specs.Found.{all_handles, all_views, is_connected_to, is_life, is_live, is_live_thread, is_open, is_paired_to, is_port, is_the, lives_by, lives_in, live_thread, names_port, port_name, process_name, registered_by, section_name, thread_name, token_name, event_ports, event_ports_of}
 use Rattle.lpc_model.specs.Sweep.{is_unheld}
 use Rattle.lpc_model.specs.Linked.{HasHeldRows, IsLinked, names_nothing}
 use Rattle.lpc_model.specs.OpenQueues.{HasOpenQueues}
 use Rattle.lpc_model.specs.SoundWaits.{IsSoundWorld, is_sound_as, is_sound_wait, waiter_of}
 use Rattle.lpc_model.specs.Tests.{is_client}
-use Rattle.lpc_model.specs.Left.{HasKeptPairs, HasLivingHandles, HasLivingViews, IsBare, is_kept_pair, is_living_space, is_living_table, lacks_handles, lacks_views}
+use Rattle.lpc_model.specs.Left.{HasKeptPairs, HasLivingHandles, HasLivingViews, IsBare, is_kept_pair, is_living_space, is_living_table, lacks_handles, lacks_views, HasLivingPorts, is_living_process}
 use Rattle.lpc_model.proofs.Steps.Rows.{has-found, has-off}
 use Rattle.lpc_model.proofs.Steps.Handles.{open-count}
 use Rattle.lpc_model.proofs.Held.Ports.{connected-end, found-self, is_held_aside, unheld-parts}
+use Rattle.lpc_model.proofs.Held.Events.{told-nothing}
 
 -- rows of which each passes and none does
 none-left : {X : Type 0} (p : X → Bool) (xs : List X) → every p xs ≡ true → ((x : X) → p x ≡ false) → xs ≡ []
@@ -77,6 +78,13 @@ none-handles w dead living = of w.handles (every-more (is_living_table w) lacks_
     of (t ∷ ts) all = rw (empty t (first-true (lacks_handles t) (every lacks_handles ts) all), of ts (second-true (lacks_handles t) (every lacks_handles ts) all)) refl
 
 -- and no view
+none-told : (w : World) → ((pid : ℕ) → is_live w pid ≡ false) → HasLivingPorts w → event_ports w ≡ []
+none-told w dead living = of w.processes living
+  where
+    of : (ps : List ProcessRow) → every (is_living_process w) ps ≡ true → each event_ports_of ps ≡ []
+    of [] all = refl
+    of (p ∷ ps) all = rw (told-nothing w p (first-true (is_living_process w p) _ all) (dead p.number)) (of ps (second-true (is_living_process w p) _ all))
+
 none-views : (w : World) → ((pid : ℕ) → is_live w pid ≡ false) → HasLivingViews w → all_views w ≡ []
 none-views w dead living = of w.views (every-more (is_living_space w) lacks_views (λ t is. or-second (is_live w t.process) _ (dead t.process) is) w.views living)
   where
@@ -91,7 +99,7 @@ none-views w dead living = of w.views (every-more (is_living_space w) lacks_view
     of [] all = refl
     of (t ∷ ts) all = rw (empty t (first-true (lacks_views t) (every lacks_views ts) all), of ts (second-true (lacks_views t) (every lacks_views ts) all)) refl
 
-module _ (w : World) (s : IsSoundWorld w) (l : IsLinked w) (held : HasHeldRows w) (queues : HasOpenQueues w) (living : HasLivingHandles w) (viewing : HasLivingViews w) (pairs : HasKeptPairs w) (dead : (pid : ℕ) → is_live w pid ≡ false) where
+module _ (w : World) (s : IsSoundWorld w) (l : IsLinked w) (held : HasHeldRows w) (queues : HasOpenQueues w) (living : HasLivingHandles w) (viewing : HasLivingViews w) (told_ports : HasLivingPorts w) (pairs : HasKeptPairs w) (dead : (pid : ℕ) → is_live w pid ≡ false) where
   none : all_handles w ≡ []
   none = none-handles w dead living
 
@@ -152,8 +160,11 @@ module _ (w : World) (s : IsSoundWorld w) (l : IsLinked w) (held : HasHeldRows w
   no-views : all_views w ≡ []
   no-views = none-views w dead viewing
 
+  no-events : event_ports w ≡ []
+  no-events = none-told w dead told_ports
+
   aside : (b : Birth) → is_held_aside w b ≡ false
-  aside b = rw (none, no-messages, no-waits, none-registered w.threads lifeless, no-views) refl
+  aside b = rw (none, no-messages, no-waits, none-registered w.threads lifeless, no-views, no-events) refl
 
   connected : every (λ p. has (is_connected_to p.birth) w.ports) w.ports ≡ true
   connected = every-more (λ p. not (is_unheld w (port_name p.birth))) (λ p. has (is_connected_to p.birth) w.ports) (λ p is. by (is_unheld w (port_name p.birth)) (is_held_aside w p.birth) (has (is_paired_to p.birth) w.ports) (has (is_connected_to p.birth) w.ports) (unheld-parts w p.birth) (aside p.birth) (no-pairs p.birth) is) w.ports held.ports

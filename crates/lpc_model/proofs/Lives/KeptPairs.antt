@@ -1,4 +1,6 @@
 -- The step of each line leaves of two ports that are each other's other end one at least open.
+use Rattle.lpc_model.proofs.Settling.Keeps.{step-keeps, settling-does}
+use Rattle.lpc_model.proofs.Settling.Settled.{IsReady}
 use Rattle.lpc_model.specs.declared.entry.ObjectKind.TheVariants as kind
 use Rattle.lpc_base.proofs.Births.{birth-same, births-apart}
 use Rattle.lpc_base.proofs.Bools.{first-off, second-off}
@@ -6,7 +8,7 @@ use Rattle.lpc_base.proofs.RowMaps.{every-change_to, every-map}
 use Rattle.lpc_base.proofs.RowWords.{every-change, every-more, every-push, every-without, has-kept}
 use Rattle.lpc_base.specs.Rows.{count, every, passes, when}
 use Rattle.lpc_model.proofs.Calls.Acts.{Law, accept_act, complete_act, keeps_on, outcomes}
-use Rattle.lpc_model.proofs.Calls.Lines.{AnyWorld, Shut, LineLaw, passing-lines, step-keeps}
+use Rattle.lpc_model.proofs.Calls.Lines.{AnyWorld, Shut, LineLaw, passing-lines}
 use Rattle.lpc_model.proofs.Steps.Closing.{behind, takes_away}
 use Rattle.lpc_model.proofs.Steps.Sweep.{sweep_every}
 use Rattle.lpc_model.proofs.Steps.Ending.{die-pass}
@@ -19,7 +21,7 @@ use Rattle.lpc_model.proofs.Sound.Worlds.{kept-pair-open}
 use Rattle.lpc_model.proofs.Steps.Steady.{steady-enter}
 use Rattle.lpc_model.proofs.Steps.InTurn.{after-append, steps-keep}
 use Rattle.lpc_model.proofs.Calls.Usable.{CanCall}
-use Rattle.lpc_model.specs.Basics.{Accepts, AddsHandle, AddsProcess, AddsThread, Awaits, Basic, Completes, Cuts, DrawsIdentifier, DrawsOrdinal, DropsHandle, DropsOwned, DropsViewsOf, Empties, Frees, Joins, Makes, Receives, Registers, Takes, TakesConnect, Unbinds, Unregisters, Wakes, Withdraws, basic, completed, cut, freed, is_end_of, joined, no_handles, paired, world_after, AddsSection, Maps, Unmaps, Writes, secured, Secures, Acts, AddsToken}
+use Rattle.lpc_model.specs.Basics.{Accepts, AddsHandle, AddsProcess, AddsThread, Awaits, Basic, Completes, Cuts, DrawsIdentifier, DrawsOrdinal, DropsHandle, DropsOwned, DropsViewsOf, Empties, Frees, Joins, Makes, Receives, Registers, Takes, TakesConnect, Unbinds, Unregisters, Wakes, Withdraws, basic, completed, cut, freed, is_end_of, joined, no_handles, paired, world_after, AddsSection, Maps, Unmaps, Writes, secured, Secures, Acts, AddsToken, Dooms, Leaves, LetsGo, Marks, SetsDebug, SetsException}
 use Rattle.lpc_model.specs.Close.{close_handle, close_port, is_last}
 use Rattle.lpc_model.specs.Connect.{Completable, client_port, connection_request, server_port}
 use Rattle.lpc_model.specs.Creation.{new_process, new_thread, second_birth}
@@ -30,7 +32,7 @@ use Rattle.lpc_model.specs.Found.{free_handle, handle_at, has_handle_to, is_cut,
 use Rattle.lpc_model.specs.Left.{HasKeptPairs, is_kept_pair}
 use Rattle.lpc_model.specs.Lines.{ScriptLine}
 use Rattle.lpc_model.specs.Memory.{new_section}
-use Rattle.lpc_model.specs.Machine.{step}
+use Rattle.lpc_model.specs.Machine.{step, own_steps}
 use Rattle.lpc_model.specs.Message.{asks}
 use Rattle.lpc_model.specs.SoundWaits.{IsSoundWorld}
 use Rattle.lpc_model.specs.Sweep.{sweep}
@@ -161,6 +163,7 @@ away-pairing (Withdraws who) is = refl
 away-pairing (Empties q) is = refl
 away-pairing (Unbinds b) is = refl
 away-pairing (DropsOwned b) is = refl
+away-pairing (Marks who) is = refl
 away-pairing x is = absurd (cc)
 
 entered-pairs : (w : World) (m : MessageRow) → KeepPairs w (enter m w)
@@ -181,6 +184,11 @@ pairs-law by = record {
   says = λ w e k. k;
   numbers = λ w. pair-all w (DrawsIdentifier by.number ∷ []) refl;
   wakes = λ w status fields x. pair-all w (woken status fields x ∷ []) refl;
+  marks = λ w who is. pair-all w (Marks who ∷ []) refl;
+  abandons = λ w who. pair-all w (Leaves who ∷ []) refl;
+  debugs = λ w pid b stands live. pair-all w (SetsDebug pid b ∷ []) refl;
+  excepts = λ w pid b stands live. pair-all w (SetsException pid b ∷ []) refl;
+  dooms = λ w pid code. pair-all w (Dooms pid code ∷ []) refl;
   takes = λ w m. taken-pairs w (Takes m.queue) m refl;
   listens = λ w m. taken-pairs w (TakesConnect m.queue) m refl;
   waits = λ w x off is. pair-all w (Awaits x ∷ []) refl;
@@ -198,6 +206,7 @@ pairs-law by = record {
   closes = λ w pid r at s _. pair-closed w pid r at s;
   dies = λ w code t is. pair-all w (die code t w) (die-pass is_pairing away-pairing (λ n c. refl) (λ b. refl) code t w);
   leaves = λ w n b. pair-all w (Unregisters n b ∷ []) refl;
+  lets_go = λ w pid. pair-all w (LetsGo pid ∷ []) refl;
   vacates = λ w pid. pair-all w (DropsViewsOf pid ∷ []) refl;
   disowns = λ w b. pair-all w (DropsOwned b ∷ []) refl;
   secures = λ w b s. pair-all w (Secures b s ∷ []) refl;
@@ -211,8 +220,8 @@ pairs-law by = record {
 
 -- Lines
 pairs-lines : LineLaw (Shut AnyWorld) (λ _. KeepPairs)
-pairs-lines = passing-lines (Shut AnyWorld) KeepPairs (λ w. is_pairing) pair-all (λ w. record { tells = λ _. refl; processes = λ _. refl; threads = λ _ _ _. refl; binds = λ _ _. refl; names = λ _. refl }) (λ by. outcomes by (Shut AnyWorld) AnyWorld KeepPairs (pairs-law by) (λ w c. c))
+pairs-lines = passing-lines (Shut AnyWorld) KeepPairs (λ w. is_pairing) pair-all (λ w. record { tells = λ _. refl; processes = λ _ _ _. refl; threads = λ _ _ _. refl; binds = λ _ _. refl; names = λ _. refl }) (λ by. outcomes by (Shut AnyWorld) AnyWorld KeepPairs (pairs-law by) (λ w c. c))
 
 -- the step of a line
-pub pairs_step : (w : World) (line : ScriptLine) → IsSafe w → HasKeptPairs w → HasKeptPairs (step w line).world
-pairs_step w line is = step-keeps (Shut AnyWorld) HasKeptPairs pairs-lines (λ v. pair-all v (sweep v) (sweep_every is_pairing (λ _. refl) v)) w line is.sound (is.shut, tt)
+pub pairs_step : (w : World) (line : ScriptLine) → IsSafe w → IsReady (world_after w (own_steps line w)) → HasKeptPairs w → HasKeptPairs (step w line).world
+pairs_step w line is = step-keeps (Shut AnyWorld) HasKeptPairs pairs-lines (λ v r. settling-does (Shut AnyWorld) AnyWorld KeepPairs pairs-law (λ w tid _ _. tt) v r tt) (λ v. pair-all v (sweep v) (sweep_every is_pairing (λ _. refl) v)) w line is.sound (is.shut, tt)

@@ -1,4 +1,6 @@
 -- The step of each line leaves registrations to live threads alone.
+use Rattle.lpc_model.proofs.Settling.Keeps.{bare-does}
+use Rattle.lpc_model.proofs.Settling.Settled.{IsReady}
 use Rattle.std.proofs.Common.{◌≡◌, ℕ, ◌≤◌, List, [], ◌∷◌, Bool, true, false, length, not, refl, sym, subst, arith}
 use Rattle.std.specs.Prelude.{◌&&◌, ◌||◌, ◌==◌}
 use Rattle.std.proofs.lemmas.Bool.Decides.{nat_tests}
@@ -11,27 +13,30 @@ use Rattle.lpc_base.proofs.Bools.{first-true, same-number, second-true}
 use Rattle.lpc_base.proofs.Births.{birth-self}
 use Rattle.lpc_model.specs.declared.entry.ObjectKind.TheVariants as kind
 use Rattle.lpc_model.specs.World.{Birth, ObjectKind, ThreadRow, World}
-use Rattle.lpc_model.specs.Found.{handles_of, is_live, is_live_thread, is_thread, same_birth}
-use Rattle.lpc_model.specs.Basics.{AddsThread, Basic, Dies, DrawsIdentifier, DrawsOrdinal, DropsViewsOf, Frees, Registers, Unregisters, basic, doing, ended, freed, in_turn, past_identifier, past_ordinal, provided, registering, unregistering, world_after, ◌▹◌, Acts, acting}
+use Rattle.lpc_model.specs.Found.{handles_of, is_live, is_live_thread, is_thread, same_birth, live_threads}
+use Rattle.lpc_model.specs.Basics.{AddsThread, Basic, Dies, DrawsIdentifier, DrawsOrdinal, DropsViewsOf, Frees, Registers, Unregisters, basic, doing, ended, freed, in_turn, past_identifier, past_ordinal, provided, registering, unregistering, world_after, ◌▹◌, Acts, acting, LetsGo}
 use Rattle.lpc_model.specs.Close.{close_handle}
 use Rattle.lpc_model.specs.Death.{die, end_process, end_threads, post_death, post_deaths, death_post}
 use Rattle.lpc_model.specs.Deaths.{HasLivingRegistrations, has_living_registrations}
 use Rattle.lpc_model.specs.Entering.{enter}
 use Rattle.lpc_model.specs.Lawful.{HasThreadsOnce}
 use Rattle.lpc_model.specs.Lines.{ScriptLine}
-use Rattle.lpc_model.specs.Machine.{bare_steps, step}
+use Rattle.lpc_model.specs.Machine.{step, own_steps}
 use Rattle.lpc_model.specs.SoundWaits.{IsSoundWorld}
 use Rattle.lpc_model.specs.Sweep.{sweep}
 use Rattle.lpc_model.proofs.Steps.Closing.{behind, then-holds}
 use Rattle.lpc_model.proofs.Deaths.Deathless.{AreMild, LifeLaw, handle-mild, is_mild, life-outcomes}
 use Rattle.lpc_model.proofs.Deaths.Lines.{death-still, die-threads, is_still}
-use Rattle.lpc_model.proofs.Deaths.Doomed.{AreFound, doomed-found}
-use Rattle.lpc_model.proofs.Steps.Sweep.{sweep_every}
+use Rattle.lpc_model.proofs.Deaths.Doomed.{AreFound, doomed-found, live-found}
+use Rattle.lpc_model.proofs.Steps.Sweep.{sweep_every, stepped}
 use Rattle.lpc_model.proofs.Steps.Ending.{behind_dead, behind_told, ending-death, is_ending, turn-keeps, world-ends}
-use Rattle.lpc_model.proofs.Calls.Lines.{Keep, LineLaw, line-does, passing-lines, step-keeps}
+use Rattle.lpc_model.proofs.Calls.Lines.{Keep, LineLaw, line-does, passing-lines}
 use Rattle.lpc_model.proofs.Steps.Rows.{lone}
 use Rattle.lpc_model.proofs.Steps.InTurn.{steps-keep}
 use Rattle.lpc_model.proofs.Calls.Usable.{CanCall}
+use Rattle.lpc_model.proofs.Calls.Acts.{keeps_on}
+use Rattle.lpc_model.specs.Settle.{settle}
+use Rattle.lpc_model.proofs.Settling.Life.{life-settles}
 
 -- a list with a row that passes
 abbrev some : {X : Type 0} → (X → Bool) → List X → Bool
@@ -263,11 +268,11 @@ mild-lasting w (Registers who b) is = absurd (cc)
 mild-lasting w (AddsThread t) is = or_left t.live _ (first-true t.live _ is)
 mild-lasting w b is = refl
 
-milds-living : (w : World) (bs : List Basic) → AreMild w bs → HasLivingRegistrations w → HasLivingRegistrations (world_after w bs)
+pub milds-living : (w : World) (bs : List Basic) → AreMild w bs → HasLivingRegistrations w → HasLivingRegistrations (world_after w bs)
 milds-living w bs all = living-all w bs (every-more (is_mild w) is_lasting (mild-lasting w) bs all)
 
 -- Calls
-end-living : (pid : ℕ) (code : Status) (ts : List ThreadRow) (w : World) → HasThreadsOnce w → AreFound w.threads ts → HasLivingRegistrations w → HasLivingRegistrations (behind (end_threads pid code ts) w)
+pub end-living : (pid : ℕ) (code : Status) (ts : List ThreadRow) (w : World) → HasThreadsOnce w → AreFound w.threads ts → HasLivingRegistrations w → HasLivingRegistrations (behind (end_threads pid code ts) w)
 unfolding end_threads
 end-living pid code ts w once found l =
     then-holds HasLivingRegistrations (in_turn (die code) ts) (in_turn post_deaths ts ▹ provided (λ w. not (is_live w pid)) (end_process pid)) w
@@ -277,8 +282,9 @@ end-living pid code ts w once found l =
     at : (last : Bool) → HasLivingRegistrations (behind_told code ts w) → HasLivingRegistrations (world_after (behind_told code ts w) (when last (end_process pid (behind_told code ts w))))
     at true l =
         let v = behind_told code ts w in
-        then-holds HasLivingRegistrations (in_turn (close_handle pid) (handles_of v pid)) (doing (DropsViewsOf pid ∷ [])) v
-        (turn-keeps HasLivingRegistrations (close_handle pid) (λ r u. milds-living u (close_handle pid r u) (handle-mild u pid r)) (handles_of v pid) v l)
+        let u = basic v (LetsGo pid) in
+        then-holds HasLivingRegistrations (in_turn (close_handle pid) (handles_of u pid)) (doing (DropsViewsOf pid ∷ [])) u
+        (turn-keeps HasLivingRegistrations (close_handle pid) (λ r z. milds-living z (close_handle pid r z) (handle-mild z pid r)) (handles_of u pid) u l)
     at false l = l
 
 -- a caller lives
@@ -299,13 +305,15 @@ living-law by = record {
 }
 
 -- Lines
-living-lines : LineLaw HasThreadsOnce (λ _. Keep HasLivingRegistrations)
-living-lines = passing-lines HasThreadsOnce (Keep HasLivingRegistrations) (λ _. is_lasting) living-all (λ w. record { tells = λ _. refl; processes = λ _. refl; threads = λ _ _ _. refl; binds = λ _ _. refl; names = λ _. refl }) (λ by. life-outcomes by HasThreadsOnce (Keep HasLivingRegistrations) (living-law by))
+pub living-lines : LineLaw HasThreadsOnce (λ _. Keep HasLivingRegistrations)
+living-lines = passing-lines HasThreadsOnce (Keep HasLivingRegistrations) (λ _. is_lasting) living-all (λ w. record { tells = λ _. refl; processes = λ _ _ _. refl; threads = λ _ _ _. refl; binds = λ _ _. refl; names = λ _. refl }) (λ by. life-outcomes by HasThreadsOnce (Keep HasLivingRegistrations) (living-law by))
 
--- before rows go
-pub line-living : (w : World) (line : ScriptLine) → IsSoundWorld w → HasThreadsOnce w → HasLivingRegistrations w → HasLivingRegistrations (world_after w (bare_steps line w))
-line-living w line s once = line-does HasThreadsOnce (λ _. Keep HasLivingRegistrations) living-lines w s once line
+pub living-settles : (v : World) → IsReady v → HasThreadsOnce v → HasLivingRegistrations v → HasLivingRegistrations (behind settle v)
+living-settles = life-settles HasLivingRegistrations milds-living (λ pid code u _ one l. end-living pid code (live_threads u pid) u one (live-found pid [] u.threads one) l)
 
 -- the step of a line leaves registrations to live threads alone
-pub living_registrations_step : (w : World) (line : ScriptLine) → IsSoundWorld w → HasThreadsOnce w → HasLivingRegistrations w → HasLivingRegistrations (step w line).world
-living_registrations_step = step-keeps HasThreadsOnce HasLivingRegistrations living-lines (λ v. living-all v (sweep v) (sweep_every is_lasting (λ _. refl) v))
+pub living_registrations_step : (w : World) (line : ScriptLine) → IsSoundWorld w → HasThreadsOnce w → HasThreadsOnce (world_after w (own_steps line w)) → IsReady (world_after w (own_steps line w)) → HasLivingRegistrations w → HasLivingRegistrations (step w line).world
+living_registrations_step w line s once after ready l =
+    let v = world_after w (own_steps line w) in
+    let bare = bare-does (Keep HasLivingRegistrations) (λ w xs ys one two. keeps_on HasLivingRegistrations w xs ys one two) w line (line-does HasThreadsOnce (λ _. Keep HasLivingRegistrations) living-lines w s once line) (living-settles v ready after) l in
+    stepped HasLivingRegistrations w line (λ u. living-all u (sweep u) (sweep_every is_lasting (λ _. refl) u)) bare

@@ -1,4 +1,6 @@
 -- The step of each line leaves each port registered once with a thread.
+use Rattle.lpc_model.proofs.Settling.Keeps.{step-keeps}
+use Rattle.lpc_model.proofs.Settling.Settled.{IsReady}
 use Rattle.std.proofs.Common.{Bool, List, [], arith, false, length, not, refl, true, ◌++◌, ◌∷◌, ◌≡◌}
 use Rattle.std.proofs.lemmas.Bool.{and_from}
 use Rattle.std.proofs.lemmas.Bool.Decides.{nat_tests}
@@ -8,23 +10,29 @@ use Rattle.lpc_base.proofs.RowWords.{every-change, every-more, every-push, every
 use Rattle.lpc_base.proofs.RowMaps.{every-both, every-change_to}
 use Rattle.lpc_base.proofs.Bools.{first-true, second-true}
 use Rattle.lpc_model.specs.declared.entry.ObjectKind.TheVariants as kind
-use Rattle.lpc_model.specs.World.{Birth, ObjectKind, ThreadRow, World}
-use Rattle.lpc_model.specs.Found.{is_live_thread, is_thread, same_birth}
-use Rattle.lpc_model.specs.Basics.{AddsThread, Basic, Dies, DrawsIdentifier, DrawsOrdinal, Frees, Registers, Unregisters, basic, ended, freed, past_identifier, past_ordinal, registering, unregistering, world_after, Acts, acting}
+use Rattle.lpc_model.specs.World.{Birth, ObjectKind, ThreadRow, World, ProcessRow}
+use Rattle.lpc_model.specs.Found.{is_live_thread, is_thread, same_birth, live_threads}
+use Rattle.lpc_model.specs.Basics.{AddsThread, Basic, Dies, DrawsIdentifier, DrawsOrdinal, Frees, Registers, Unregisters, basic, ended, freed, past_identifier, past_ordinal, registering, unregistering, world_after, Acts, acting, first_code}
 use Rattle.lpc_model.specs.Deaths.{HasSingleRegistrations, are_different, registers_once}
 use Rattle.lpc_model.specs.Lawful.{HasThreadsOnce}
 use Rattle.lpc_model.specs.Lines.{ScriptLine}
-use Rattle.lpc_model.specs.Machine.{step}
+use Rattle.lpc_model.specs.Machine.{step, own_steps}
 use Rattle.lpc_model.specs.Register.{is_registered}
 use Rattle.lpc_model.specs.SoundWaits.{IsSoundWorld}
 use Rattle.lpc_model.specs.Sweep.{sweep}
-use Rattle.lpc_model.proofs.Deaths.Deathless.{LifeLaw, is_mild, life-outcomes}
+use Rattle.lpc_model.proofs.Deaths.Deathless.{LifeLaw, is_mild, life-outcomes, AreMild}
 use Rattle.lpc_model.proofs.Steps.Sweep.{sweep_every}
-use Rattle.lpc_model.proofs.Steps.Ending.{answered_end, is_ending, steps-end}
-use Rattle.lpc_model.proofs.Calls.Lines.{Keep, LineLaw, passing-lines, step-keeps}
+use Rattle.lpc_model.proofs.Steps.Ending.{answered_end, is_ending, steps-end, end-ending}
+use Rattle.lpc_model.proofs.Calls.Lines.{Keep, LineLaw, passing-lines}
 use Rattle.lpc_model.proofs.Steps.Rows.{lone}
 use Rattle.lpc_model.proofs.Steps.InTurn.{steps-keep}
 use Rattle.lpc_model.proofs.Calls.Usable.{CanCall}
+use Rattle.lpc_model.proofs.Settling.Life.{on-mild}
+use Rattle.lpc_model.proofs.Settling.Loop.{settle-kept}
+use Rattle.lpc_model.proofs.Steps.Closing.{behind}
+use Rattle.lpc_model.specs.Death.{code_status, end_threads}
+use Rattle.lpc_model.specs.Raise.{go_on}
+use Rattle.lpc_model.specs.Settle.{end_doomed, settle}
 
 -- Ports that are different
 pub different-less : (b : Birth) (bs : List Birth) → are_different bs ≡ true → are_different (without (same_birth b) bs) ≡ true
@@ -73,6 +81,10 @@ mild-lasting w (Registers who b) is = absurd (cc)
 mild-lasting w (AddsThread t) is = fresh-once t.registrations (second-true t.live _ is)
 mild-lasting w b is = refl
 
+-- mild steps register no port twice
+pub milds-single : (u : World) (bs : List Basic) → AreMild u bs → HasSingleRegistrations u → HasSingleRegistrations (world_after u bs)
+milds-single u bs all = single-all u bs (every-more (is_mild u) is_lasting (mild-lasting u) bs all)
+
 ending-lasting : (b : Basic) → is_ending b ≡ true → is_lasting b ≡ true
 ending-lasting (Registers who b) is = absurd (cc)
 ending-lasting (AddsThread t) is = absurd (cc)
@@ -94,15 +106,22 @@ registered-single w by b off once c l =
 
 single-law : (by : ThreadRow) → LifeLaw by HasThreadsOnce (Keep HasSingleRegistrations)
 single-law by = record {
-  mild = λ w bs all. single-all w bs (every-more (is_mild w) is_lasting (mild-lasting w) bs all);
+  mild = milds-single;
   registers = λ w b new is. registered-single w by b new is.known is.can;
   ends = λ w name own pid code ts doomed is. let bs = answered_end by name own pid code ts w in single-all w bs (every-more is_ending is_lasting ending-lasting bs (steps-end w by name own pid code ts));
 }
 
 -- Lines
-single-lines : LineLaw HasThreadsOnce (λ _. Keep HasSingleRegistrations)
-single-lines = passing-lines HasThreadsOnce (Keep HasSingleRegistrations) (λ _. is_lasting) single-all (λ w. record { tells = λ _. refl; processes = λ _. refl; threads = λ _ _ _. refl; binds = λ _ _. refl; names = λ _. refl }) (λ by. life-outcomes by HasThreadsOnce (Keep HasSingleRegistrations) (single-law by))
+pub single-lines : LineLaw HasThreadsOnce (λ _. Keep HasSingleRegistrations)
+single-lines = passing-lines HasThreadsOnce (Keep HasSingleRegistrations) (λ _. is_lasting) single-all (λ w. record { tells = λ _. refl; processes = λ _ _ _. refl; threads = λ _ _ _. refl; binds = λ _ _. refl; names = λ _. refl }) (λ by. life-outcomes by HasThreadsOnce (Keep HasSingleRegistrations) (single-law by))
+
+pub doomed-single : (w : World) (p : ProcessRow) → HasSingleRegistrations w → HasSingleRegistrations (behind (end_doomed p) w)
+unfolding end_doomed
+doomed-single w p l = let bs = end_threads p.number (code_status (first_code 0 p.doom)) (live_threads w p.number) w in single-all w bs (every-more is_ending is_lasting ending-lasting bs (end-ending p.number (code_status (first_code 0 p.doom)) (live_threads w p.number) w)) l
 
 -- the step of a line leaves each port registered once with a thread
-pub single_step : (w : World) (line : ScriptLine) → IsSoundWorld w → HasThreadsOnce w → HasSingleRegistrations w → HasSingleRegistrations (step w line).world
-single_step = step-keeps HasThreadsOnce HasSingleRegistrations single-lines (λ v. single-all v (sweep v) (sweep_every is_lasting (λ _. refl) v))
+pub single_step : (w : World) (line : ScriptLine) → IsSoundWorld w → HasThreadsOnce w → IsReady (world_after w (own_steps line w)) → HasSingleRegistrations w → HasSingleRegistrations (step w line).world
+single_step w line s once ready = step-keeps HasThreadsOnce HasSingleRegistrations single-lines (λ v r. settle-kept-single v r) (λ v. single-all v (sweep v) (sweep_every is_lasting (λ _. refl) v)) w line s once ready
+  where
+    settle-kept-single : (v : World) → IsReady v → HasSingleRegistrations v → HasSingleRegistrations (behind settle v)
+    settle-kept-single v r l = settle-kept HasSingleRegistrations (λ u tid later some is. milds-single u (go_on tid u) (on-mild u tid) is) (λ u p some is. doomed-single u p is) v l

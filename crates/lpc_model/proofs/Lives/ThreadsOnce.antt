@@ -1,15 +1,17 @@
 -- A thread number has one row at most, behind each line.
+use Rattle.lpc_model.proofs.Settling.Keeps.{step-keeps, settling-does}
+use Rattle.lpc_model.proofs.Calls.Lines.{AnyWorld, Shut, Keep, LineLaw, line-does}
+use Rattle.lpc_model.proofs.Settling.Settled.{IsReady}
 use Rattle.lpc_model.specs.declared.entry.ObjectKind.TheVariants as kind
 use Rattle.lpc_base.proofs.RowWords.{count-none, count-push, every-more}
 use Rattle.lpc_base.specs.Rows.{change, count, every, has}
 use Rattle.lpc_model.proofs.Calls.Acts.{Law, accept_act, complete_act, create_act, keeps_on, outcomes}
-use Rattle.lpc_model.proofs.Calls.Lines.{AnyWorld, Shut, Keep, LineLaw, step-keeps}
 use Rattle.lpc_model.proofs.Steps.Sweep.{sweep_every}
 use Rattle.lpc_model.proofs.Steps.Ending.{AreEnding, die-ending, ending-enter, ending-receipt, handle-ending, is_ending}
 use Rattle.lpc_model.proofs.Steps.Rows.{count-change, count-less, has-off}
 use Rattle.lpc_model.proofs.Sound.Basics.{sound-ordinal}
 use Rattle.lpc_model.proofs.Steps.InTurn.{steps-keep}
-use Rattle.lpc_model.specs.Basics.{AddsThread, Awaits, Basic, Dies, DrawsIdentifier, DrawsOrdinal, DropsOwned, DropsViewsOf, Frees, Registers, Unregisters, basic, ended, freed, past_identifier, past_ordinal, registering, unregistering, world_after, AddsSection, Maps, Unmaps, Writes, Acts, acting, Secures, AddsToken}
+use Rattle.lpc_model.specs.Basics.{AddsThread, Awaits, Basic, Dies, DrawsIdentifier, DrawsOrdinal, DropsOwned, DropsViewsOf, Frees, Registers, Unregisters, basic, ended, freed, past_identifier, past_ordinal, registering, unregistering, world_after, AddsSection, Maps, Unmaps, Writes, Acts, acting, Secures, AddsToken, Leaves}
 use Rattle.lpc_model.specs.Close.{close_handle}
 use Rattle.lpc_model.specs.Connect.{client_port, connection_request, named_steps, unnamed_steps}
 use Rattle.lpc_model.specs.Creation.{new_thread, second_birth}
@@ -19,7 +21,7 @@ use Rattle.lpc_model.specs.Found.{is_thread, same_birth, was_thread}
 use Rattle.lpc_model.specs.Lawful.{HasThreadsOnce}
 use Rattle.lpc_model.specs.Lines.{ScriptLine}
 use Rattle.lpc_model.specs.Memory.{new_section}
-use Rattle.lpc_model.specs.Machine.{directive_birth, step}
+use Rattle.lpc_model.specs.Machine.{directive_birth, step, own_steps}
 use Rattle.lpc_model.specs.SoundWaits.{HasShutConnects, IsSoundWorld}
 use Rattle.lpc_model.specs.Sweep.{sweep}
 use Rattle.lpc_model.specs.Tests.{next_birth}
@@ -88,7 +90,7 @@ unused-none w tid off s = has-off (is_thread tid) w.threads (every-more (λ t. w
     apart : (t : ThreadRow) → was_thread w t.number ≡ true → not (is_thread tid t) ≡ true
     apart t is = at t is (is_thread tid t) refl
 
-once-law : (by : ThreadRow) → Law by (Shut AnyWorld) AnyWorld KeepOnce
+pub once-law : (by : ThreadRow) → Law by (Shut AnyWorld) AnyWorld KeepOnce
 once-law by = record {
   keeps = λ w bs all _. tt;
   nothing = λ w once. once;
@@ -96,6 +98,11 @@ once-law by = record {
   says = λ w e once. once;
   numbers = λ w. once-all w (DrawsIdentifier by.number ∷ []) refl;
   wakes = λ w status fields x once. once;
+  marks = λ w who is t. t;
+  abandons = λ w who. once-all w (Leaves who ∷ []) refl;
+  debugs = λ w pid b stands live t. t;
+  excepts = λ w pid b stands live t. t;
+  dooms = λ w pid code t. t;
   takes = λ w m. ended-once w (take_steps m) (ending-receipt m);
   listens = λ w m. ended-once w (take_connect_steps m) (ending-receipt m);
   waits = λ w x off is once. once;
@@ -122,6 +129,7 @@ once-law by = record {
   closes = λ w pid r at s _. ended-once w (close_handle pid r w) (handle-ending pid r w);
   dies = λ w code t is. ended-once w (die code t w) (die-ending code t w);
   leaves = λ w n b. ended-once w (Unregisters n b ∷ []) refl;
+  lets_go = λ w pid t. t;
   vacates = λ w pid. ended-once w (DropsViewsOf pid ∷ []) refl;
   disowns = λ w b. ended-once w (DropsOwned b ∷ []) refl;
   secures = λ w b s. once-all w (Secures b s ∷ []) refl;
@@ -134,7 +142,7 @@ once-law by = record {
 }
 
 -- Lines
-once-lines : LineLaw (Shut AnyWorld) (λ _. KeepOnce)
+pub once-lines : LineLaw (Shut AnyWorld) (λ _. KeepOnce)
 once-lines = record {
   tells = λ line w e _ once. once;
   calls = λ by. outcomes by (Shut AnyWorld) AnyWorld KeepOnce (once-law by) (λ w c. c);
@@ -145,5 +153,8 @@ once-lines = record {
   links = λ w text target path to free _ once. once;
 }
 
-pub once_step : (w : World) (line : ScriptLine) → IsSoundWorld w → HasShutConnects w → HasThreadsOnce w → HasThreadsOnce (step w line).world
-once_step w line s shut = step-keeps (Shut AnyWorld) HasThreadsOnce once-lines (λ v. once-all v (sweep v) (sweep_every is_childless (λ _. refl) v)) w line s (shut, tt)
+pub once_line : (w : World) (line : ScriptLine) → IsSoundWorld w → HasShutConnects w → HasThreadsOnce w → HasThreadsOnce (world_after w (own_steps line w))
+once_line w line s shut once = line-does (Shut AnyWorld) (λ _. KeepOnce) once-lines w s (shut, tt) line once
+
+pub once_step : (w : World) (line : ScriptLine) → IsSoundWorld w → HasShutConnects w → IsReady (world_after w (own_steps line w)) → HasThreadsOnce w → HasThreadsOnce (step w line).world
+once_step w line s shut = step-keeps (Shut AnyWorld) HasThreadsOnce once-lines (λ v r. settling-does (Shut AnyWorld) AnyWorld KeepOnce once-law (λ w tid _ _. tt) v r tt) (λ v. once-all v (sweep v) (sweep_every is_childless (λ _. refl) v)) w line s (shut, tt)

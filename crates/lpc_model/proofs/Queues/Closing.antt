@@ -2,7 +2,7 @@
 use Rattle.std.proofs.Common.{◌≡◌, List, [], ◌∷◌, ◌++◌, Bool, true, false, not, Option, Some, None, refl, sym, subst, arith}
 use Rattle.std.proofs.lemmas.Bool.{and_from}
 use Rattle.std.specs.Prelude.{◌&&◌, is_none, option_and_then, option_map, if◌then◌else◌}
-use Rattle.lpc_base.specs.Rows.{every, first, given, without_first}
+use Rattle.lpc_base.specs.Rows.{every, first, given, without_first, passes}
 use Rattle.lpc_base.proofs.RowWords.{every-push}
 use Rattle.lpc_base.proofs.RowMaps.{every-both, every-first, every-without_first}
 use Rattle.lpc_base.proofs.Births.{birth-same}
@@ -76,7 +76,8 @@ module _ (Q : List MessageRow → Type 0) (keeps : (test : MessageRow → Bool) 
       (λ x. keeps (is_queued q) ms all)
       (λ x. keeps (is_queued_connect q) ms all)
       (λ x r offer. keeps (is_queued q) ms all)
-      (λ x r reply. keeps (is_queued q) ms all) x
+      (λ x r reply. keeps (is_queued q) ms all)
+      (λ x r. keeps (is_queued q) ms all) x
 
   pub posted-messages : (b : Birth) (w : World) → Q w.messages → ((p : PortRow) (q : Birth) (by : Creator) → port_row w b ≡ Some p → server_of w p ≡ Some q → Q (w.messages ++ closed_row p q by ∷ [])) → Q (behind (post_closed b) w).messages
   posted-messages b w all new = at (port_row w b) refl

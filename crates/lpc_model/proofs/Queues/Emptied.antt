@@ -12,10 +12,10 @@ use Rattle.lpc_model.proofs.Closings.Told.{close-dropless, dropless-basic, is_dr
 use Rattle.lpc_model.proofs.Calls.Taking.{is_taking, taken_at_once, taking-entered, taking-receipt}
 use Rattle.lpc_model.proofs.Sound.Close.{shut-found}
 use Rattle.lpc_model.proofs.Sound.Closing.{close-shut}
-use Rattle.lpc_model.proofs.Steps.Closing.{behind, stage_five, stage_four, stage_one, stage_three, stage_two}
+use Rattle.lpc_model.proofs.Steps.Closing.{behind, stage_five, stage_four, stage_one, stage_three, stage_two, stage_marked}
 use Rattle.lpc_model.proofs.Steps.Sweep.{sweep_every}
 use Rattle.lpc_model.specs.Basics.{Awaits, Basic, Cuts, Dies, DropsHandle, DropsOwned, Empties, Receives, Steps, Takes, TakesConnect, Wakes, Withdraws, basic, end_each, world_after}
-use Rattle.lpc_model.specs.Close.{close_handle, close_port, closed_row, closing_post, cut_pair, drop_name, empty_queue, end_accepted, end_offered, end_receives, end_request, end_requests, is_accepted_across, is_last, is_offered_to, is_queued_request, is_receive_across, is_receiver, is_request_across, is_request_on, post_closed, server_of, wake}
+use Rattle.lpc_model.specs.Close.{close_handle, close_port, closed_row, closing_post, cut_pair, drop_name, empty_queue, end_accepted, end_offered, end_receives, end_request, end_requests, is_accepted_across, is_last, is_offered_to, is_queued_request, is_receive_across, is_receiver, is_request_across, is_request_on, post_closed, server_of, wake, is_event_across, is_event_on, is_queued_event, mark_event, mark_events}
 use Rattle.lpc_model.specs.Closings.{closes}
 use Rattle.lpc_model.specs.Connect.{client_port, connection_request}
 use Rattle.lpc_model.specs.Death.{end_client, die}
@@ -23,11 +23,13 @@ use Rattle.lpc_model.specs.Entering.{enter, received_steps, row_of, take_connect
 use Rattle.lpc_model.specs.Found.{handle_at, is_accepted, is_connect, port_row, wait_of}
 use Rattle.lpc_model.specs.Leaving.{EmptiesWithHandles, closed, emptied, empties}
 use Rattle.lpc_model.specs.Lines.{ScriptLine}
-use Rattle.lpc_model.specs.Machine.{bare_steps}
+use Rattle.lpc_model.specs.Machine.{bare_steps, own_steps}
 use Rattle.lpc_model.specs.SoundWaits.{HasShutConnects, IsSoundWorld}
 use Rattle.lpc_model.specs.Sweep.{sweep}
 use Rattle.lpc_model.specs.World.{Birth, Creator, HandleRow, MessageRow, PortRow, ThreadRow, WaitRow, World}
 use Rattle.lpc_model.proofs.Calls.Sharing.{connect_begun}
+use Rattle.lpc_model.proofs.Settling.Keeps.{bare-does, settling-does}
+use Rattle.lpc_model.proofs.Settling.Settled.{IsReady}
 
 -- Still steps
 -- a step empties no queue, and no handle goes by it
@@ -111,11 +113,14 @@ pair-still b w =
     let requests : Steps = end_each (is_request_across b) (end_request LPC_REPLY_LOST) in
     let receives : Steps = end_each (is_receive_across b) (wake PORT_DISCONNECTED) in
     let accepts : Steps = end_each (is_accepted_across b) end_accepted in
-    let v = behind requests w in
+    let events : Steps = end_each (is_event_across b) mark_event in
+    let t = behind requests w in
+    let v = behind events t in
     let u = behind receives v in
     every-append is_still (requests w) _ (ends-still (is_request_across b) (end_request LPC_REPLY_LOST) (λ x. refl) w)
+    (every-append is_still (events t) _ (ends-still (is_event_across b) mark_event (λ x. refl) t)
     (every-append is_still (receives v) _ (ends-still (is_receive_across b) (wake PORT_DISCONNECTED) (λ x. refl) v)
-    (every-append is_still (accepts u) (Cuts b ∷ []) (ends-still (is_accepted_across b) end_accepted (λ x. refl) u) refl))
+    (every-append is_still (accepts u) (Cuts b ∷ []) (ends-still (is_accepted_across b) end_accepted (λ x. refl) u) refl)))
 
 -- A thread that ends
 die-still : (code : Status) (t : ThreadRow) (w : World) → AreStill (die code t w)
@@ -157,23 +162,28 @@ queue-emptied : (b : Birth) (w : World) → emptied (empty_queue b w) ≡ b ∷ 
 queue-emptied b w =
     let requests : Steps = end_each (λ w. is_queued_request b) (end_request LPC_REPLY_LOST) in
     let offers : Steps = end_each (λ w. is_offered_to b) end_offered in
-    let v = behind requests w in
-    emptied-behind (requests w) (offers v ++ Empties b ∷ []) (ends-still (λ w. is_queued_request b) (end_request LPC_REPLY_LOST) (λ x. refl) w)
-    ∙ emptied-behind (offers v) (Empties b ∷ []) (ends-still (λ w. is_offered_to b) end_offered (λ x. refl) v)
+    let events : Steps = end_each (is_queued_event b) mark_event in
+    let t = behind requests w in
+    let v = behind events t in
+    emptied-behind (requests w) (events t ++ (offers v ++ Empties b ∷ [])) (ends-still (λ w. is_queued_request b) (end_request LPC_REPLY_LOST) (λ x. refl) w)
+    ∙ (emptied-behind (events t) (offers v ++ Empties b ∷ []) (ends-still (is_queued_event b) mark_event (λ x. refl) t)
+    ∙ emptied-behind (offers v) (Empties b ∷ []) (ends-still (λ w. is_offered_to b) end_offered (λ x. refl) v))
 
 close-emptied : (b : Birth) (w : World) → emptied (close_port b w) ≡ b ∷ []
 unfolding close_port
 close-emptied b w =
     let six = post_closed b (stage_five w b) ++ DropsOwned b ∷ [] in
     let five = cut_pair b (stage_four w b) ++ six in
-    let four = empty_queue b (stage_three w b) ++ five in
-    let three = end_requests b (stage_two w b) ++ four in
+    let four = empty_queue b (stage_marked w b) ++ five in
+    let marked = mark_events b (stage_three w b) ++ four in
+    let three = end_requests b (stage_two w b) ++ marked in
     let two = end_receives b (stage_one w b) ++ three in
     emptied-behind (drop_name b w) two refl
     ∙ (emptied-behind (end_receives b (stage_one w b)) three (ends-still (λ w. is_receiver b) (wake PORT_DISCONNECTED) (λ x. refl) (stage_one w b))
-    ∙ (emptied-behind (end_requests b (stage_two w b)) four (ends-still (λ w. is_request_on b) (end_request PORT_DISCONNECTED) (λ x. refl) (stage_two w b))
-    ∙ (emptied-before (empty_queue b (stage_three w b)) five (every-append is_still (cut_pair b (stage_four w b)) six (pair-still b (stage_four w b)) (every-append is_still (post_closed b (stage_five w b)) (DropsOwned b ∷ []) (post-still b (stage_five w b)) refl))
-    ∙ queue-emptied b (stage_three w b))))
+    ∙ (emptied-behind (end_requests b (stage_two w b)) marked (ends-still (λ w. is_request_on b) (end_request PORT_DISCONNECTED) (λ x. refl) (stage_two w b))
+    ∙ (emptied-behind (mark_events b (stage_three w b)) four (ends-still (is_event_on b) mark_event (λ x. refl) (stage_three w b))
+    ∙ (emptied-before (empty_queue b (stage_marked w b)) five (every-append is_still (cut_pair b (stage_four w b)) six (pair-still b (stage_four w b)) (every-append is_still (post_closed b (stage_five w b)) (DropsOwned b ∷ []) (post-still b (stage_five w b)) refl))
+    ∙ queue-emptied b (stage_marked w b)))))
 
 -- and it loses its last handle
 handle-empties : (w : World) (pid : ℕ) (r : HandleRow) → handle_at w pid r.value ≡ Some r → IsSoundWorld w → Empty w (close_handle pid r w)
@@ -206,6 +216,11 @@ empties-law by = record {
   says = λ w e. refl;
   numbers = λ w. refl;
   wakes = λ w status fields x. refl;
+  marks = λ w who is. refl;
+  abandons = λ w who. refl;
+  debugs = λ w pid b stands live. refl;
+  excepts = λ w pid b stands live. refl;
+  dooms = λ w pid code. refl;
   takes = λ w m. still w (take_steps m) (still-receipt m);
   listens = λ w m. still w (take_connect_steps m) (still-receipt m);
   waits = λ w x off is. refl;
@@ -226,6 +241,7 @@ empties-law by = record {
   closes = λ w pid r at s _. handle-empties w pid r at s;
   dies = λ w code t is. still w (die code t w) (die-still code t w);
   leaves = λ w n b. refl;
+  lets_go = λ w pid. refl;
   vacates = λ w pid. refl;
   disowns = λ w b. refl;
   secures = λ w b s. refl;
@@ -239,11 +255,12 @@ empties-law by = record {
 
 -- Lines
 empties-lines : LineLaw (Shut AnyWorld) (λ _. Empty)
-empties-lines = passing-lines (Shut AnyWorld) Empty (λ _. is_still) still (λ w. record { tells = λ _. refl; processes = λ _. refl; threads = λ _ _ _. refl; binds = λ _ _. refl; names = λ _. refl }) (λ by. outcomes by (Shut AnyWorld) AnyWorld Empty (empties-law by) (λ w c. c))
+empties-lines = passing-lines (Shut AnyWorld) Empty (λ _. is_still) still (λ w. record { tells = λ _. refl; processes = λ _ _ _. refl; threads = λ _ _ _. refl; binds = λ _ _. refl; names = λ _. refl }) (λ by. outcomes by (Shut AnyWorld) AnyWorld Empty (empties-law by) (λ w c. c))
 
 -- and rows that go empty nothing
-pub line_empties : (w : World) (line : ScriptLine) → IsSoundWorld w → HasShutConnects w → EmptiesWithHandles w line
-line_empties w line s shut =
+pub line_empties : (w : World) (line : ScriptLine) → IsSoundWorld w → HasShutConnects w → IsReady (world_after w (own_steps line w)) → EmptiesWithHandles w line
+line_empties w line s shut ready =
     let bs = bare_steps line w in
     let v = world_after w bs in
-    empty-append w bs (sweep v) (line-does (Shut AnyWorld) (λ _. Empty) empties-lines w s (shut, tt) line) (still v (sweep v) (sweep_every is_still (λ _. refl) v))
+    let bare = bare-does Empty empty-append w line (line-does (Shut AnyWorld) (λ _. Empty) empties-lines w s (shut, tt) line) (settling-does (Shut AnyWorld) AnyWorld Empty empties-law (λ w tid _ _. tt) (world_after w (own_steps line w)) ready tt) in
+    empty-append w bs (sweep v) bare (still v (sweep v) (sweep_every is_still (λ _. refl) v))

@@ -10,21 +10,23 @@ use Rattle.lpc_base.specs.declared.status.TheConstants.{LPC_REPLY_LOST, PORT_DIS
 use Rattle.lpc_model.proofs.Calls.Acts.{Law, connect_act, outcomes}
 use Rattle.lpc_model.proofs.Calls.Lines.{AnyWorld, LineLaw, Shut, line-does, passing-lines}
 use Rattle.lpc_model.proofs.Calls.Taking.{is_taking, taken_at_once, taking-entered, taking-receipt}
-use Rattle.lpc_model.proofs.Steps.Closing.{behind, stage_five, stage_four, stage_one, stage_three, stage_two}
+use Rattle.lpc_model.proofs.Steps.Closing.{behind, stage_five, stage_four, stage_one, stage_three, stage_two, stage_marked}
 use Rattle.lpc_model.proofs.Steps.Sweep.{sweep_every}
-use Rattle.lpc_model.specs.Basics.{Awaits, Basic, Cuts, Dies, DropsHandle, DropsOwned, Empties, Receives, Steps, Takes, TakesConnect, Wakes, Withdraws, basic, end_each, world_after}
-use Rattle.lpc_model.specs.Close.{close_handle, close_port, closed_row, closing_post, cut_pair, drop_name, empty_queue, end_accepted, end_offered, end_receives, end_request, end_requests, is_accepted_across, is_last, is_offered_to, is_queued_request, is_receive_across, is_receiver, is_request_across, is_request_on, post_closed, server_of, wake}
+use Rattle.lpc_model.specs.Basics.{Awaits, Basic, Cuts, Dies, DropsHandle, DropsOwned, Empties, Receives, Steps, Takes, TakesConnect, Wakes, Withdraws, basic, end_each, world_after, Marks}
+use Rattle.lpc_model.specs.Close.{close_handle, close_port, closed_row, closing_post, cut_pair, drop_name, empty_queue, end_accepted, end_offered, end_receives, end_request, end_requests, is_accepted_across, is_last, is_offered_to, is_queued_request, is_receive_across, is_receiver, is_request_across, is_request_on, post_closed, server_of, wake, is_event_across, is_event_on, is_queued_event, mark_event, mark_events}
 use Rattle.lpc_model.specs.Connect.{client_port, connection_request}
 use Rattle.lpc_model.specs.Death.{end_client, die}
 use Rattle.lpc_model.specs.Entering.{enter, received_steps, row_of, take_connect_steps, take_steps}
 use Rattle.lpc_model.specs.Found.{is_accepted, is_connect, port_row, wait_of}
 use Rattle.lpc_model.specs.Leaving.{WithdrawsWithWaits, ends_wait, withdrawn, withdraws}
 use Rattle.lpc_model.specs.Lines.{ScriptLine}
-use Rattle.lpc_model.specs.Machine.{bare_steps, steps}
+use Rattle.lpc_model.specs.Machine.{bare_steps, steps, own_steps}
 use Rattle.lpc_model.specs.SoundWaits.{HasShutConnects, IsSoundWorld}
 use Rattle.lpc_model.specs.Sweep.{sweep}
 use Rattle.lpc_model.specs.World.{Birth, Creator, HandleRow, MessageRow, PortRow, ThreadRow, WaitRow, World}
 use Rattle.lpc_model.proofs.Calls.Sharing.{connect_begun}
+use Rattle.lpc_model.proofs.Settling.Keeps.{bare-does, settling-does}
+use Rattle.lpc_model.proofs.Settling.Settled.{IsReady}
 
 -- Steps that withdraw nothing
 abbrev is_staying : Basic → Bool
@@ -77,6 +79,7 @@ same-thread n = eq-eqb n n refl
 ended : (who : ℕ) (b : Basic) → ends_wait who b ≡ true → WithdrawsWithWaits (b ∷ Withdraws who ∷ [])
 ended who (Wakes thread call status fields) is = rw is refl
 ended who (Dies thread status) is = rw is refl
+ended who (Marks thread) is = rw is refl
 ended who b is = absurd (cc)
 
 -- Messages that enter
@@ -104,6 +107,9 @@ waits-end test ending all w = each-ends ending all (which (test w) w.waits)
 request-ends : (status : Status) (x : WaitRow) → WithdrawsWithWaits (end_request status x)
 request-ends status x = rw (same-thread x.thread) refl
 
+mark-ends : (x : WaitRow) → WithdrawsWithWaits (mark_event x)
+mark-ends x = rw (same-thread x.thread) refl
+
 offer-ends : (x : WaitRow) → WithdrawsWithWaits (end_offered x)
 offer-ends x = rw (same-thread x.thread) refl
 
@@ -112,11 +118,14 @@ pair-ends b w =
     let requests : Steps = end_each (is_request_across b) (end_request LPC_REPLY_LOST) in
     let receives : Steps = end_each (is_receive_across b) (wake PORT_DISCONNECTED) in
     let accepts : Steps = end_each (is_accepted_across b) end_accepted in
-    let v = behind requests w in
+    let events : Steps = end_each (is_event_across b) mark_event in
+    let t = behind requests w in
+    let v = behind events t in
     let u = behind receives v in
-    both (requests w) (receives v ++ (accepts u ++ Cuts b ∷ [])) (waits-end (is_request_across b) (end_request LPC_REPLY_LOST) (request-ends LPC_REPLY_LOST) w)
+    both (requests w) (events t ++ (receives v ++ (accepts u ++ Cuts b ∷ []))) (waits-end (is_request_across b) (end_request LPC_REPLY_LOST) (request-ends LPC_REPLY_LOST) w)
+    (both (events t) (receives v ++ (accepts u ++ Cuts b ∷ [])) (waits-end (is_event_across b) mark_event mark-ends t)
     (both (receives v) (accepts u ++ Cuts b ∷ []) (waits-end (is_receive_across b) (wake PORT_DISCONNECTED) (λ x. refl) v)
-    (both (accepts u) (Cuts b ∷ []) (waits-end (is_accepted_across b) end_accepted (λ x. refl) u) refl))
+    (both (accepts u) (Cuts b ∷ []) (waits-end (is_accepted_across b) end_accepted (λ x. refl) u) refl)))
 
 -- A thread that ends
 die-ends : (code : Status) (t : ThreadRow) (w : World) → WithdrawsWithWaits (die code t w)
@@ -161,9 +170,12 @@ queue-ends : (b : Birth) (w : World) → WithdrawsWithWaits (empty_queue b w)
 queue-ends b w =
     let requests : Steps = end_each (λ w. is_queued_request b) (end_request LPC_REPLY_LOST) in
     let offers : Steps = end_each (λ w. is_offered_to b) end_offered in
-    let v = behind requests w in
-    both (requests w) (offers v ++ Empties b ∷ []) (waits-end (λ w. is_queued_request b) (end_request LPC_REPLY_LOST) (request-ends LPC_REPLY_LOST) w)
-    (both (offers v) (Empties b ∷ []) (waits-end (λ w. is_offered_to b) end_offered offer-ends v) refl)
+    let events : Steps = end_each (is_queued_event b) mark_event in
+    let t = behind requests w in
+    let v = behind events t in
+    both (requests w) (events t ++ (offers v ++ Empties b ∷ [])) (waits-end (λ w. is_queued_request b) (end_request LPC_REPLY_LOST) (request-ends LPC_REPLY_LOST) w)
+    (both (events t) (offers v ++ Empties b ∷ []) (waits-end (is_queued_event b) mark_event mark-ends t)
+    (both (offers v) (Empties b ∷ []) (waits-end (λ w. is_offered_to b) end_offered offer-ends v) refl))
 
 close-ends : (b : Birth) (w : World) → WithdrawsWithWaits (close_port b w)
 unfolding close_port
@@ -171,14 +183,16 @@ close-ends b w =
     let seven : List Basic = DropsOwned b ∷ [] in
     let six = post_closed b (stage_five w b) ++ seven in
     let five = cut_pair b (stage_four w b) ++ six in
-    let four = empty_queue b (stage_three w b) ++ five in
-    let three = end_requests b (stage_two w b) ++ four in
+    let four = empty_queue b (stage_marked w b) ++ five in
+    let marked = mark_events b (stage_three w b) ++ four in
+    let three = end_requests b (stage_two w b) ++ marked in
     let two = end_receives b (stage_one w b) ++ three in
     both (drop_name b w) two refl
     (both (end_receives b (stage_one w b)) three (waits-end (λ w. is_receiver b) (wake PORT_DISCONNECTED) (λ x. refl) (stage_one w b))
-    (both (end_requests b (stage_two w b)) four (waits-end (λ w. is_request_on b) (end_request PORT_DISCONNECTED) (request-ends PORT_DISCONNECTED) (stage_two w b))
-    (both (empty_queue b (stage_three w b)) five (queue-ends b (stage_three w b))
-    (both (cut_pair b (stage_four w b)) six (pair-ends b (stage_four w b)) (both (post_closed b (stage_five w b)) seven (staying (post_closed b (stage_five w b)) (post-stays b (stage_five w b))) refl)))))
+    (both (end_requests b (stage_two w b)) marked (waits-end (λ w. is_request_on b) (end_request PORT_DISCONNECTED) (request-ends PORT_DISCONNECTED) (stage_two w b))
+    (both (mark_events b (stage_three w b)) four (waits-end (is_event_on b) mark_event mark-ends (stage_three w b))
+    (both (empty_queue b (stage_marked w b)) five (queue-ends b (stage_marked w b))
+    (both (cut_pair b (stage_four w b)) six (pair-ends b (stage_four w b)) (both (post_closed b (stage_five w b)) seven (staying (post_closed b (stage_five w b)) (post-stays b (stage_five w b))) refl))))))
 
 handle-ends : (w : World) (pid : ℕ) (r : HandleRow) → WithdrawsWithWaits (close_handle pid r w)
 handle-ends w pid r = at (is_last r w)
@@ -199,6 +213,11 @@ ends-law by = record {
   says = λ w e. refl;
   numbers = λ w. refl;
   wakes = λ w status fields x. refl;
+  marks = λ w who is. refl;
+  abandons = λ w who. refl;
+  debugs = λ w pid b stands live. refl;
+  excepts = λ w pid b stands live. refl;
+  dooms = λ w pid code. refl;
   takes = λ w m. staying (take_steps m) (stays-receipt m);
   listens = λ w m. staying (take_connect_steps m) (stays-receipt m);
   waits = λ w x off is. refl;
@@ -219,6 +238,7 @@ ends-law by = record {
   closes = λ w pid r at s _. handle-ends w pid r;
   dies = λ w code t is. die-ends code t w;
   leaves = λ w n b. refl;
+  lets_go = λ w pid. refl;
   vacates = λ w pid. refl;
   disowns = λ w b. refl;
   secures = λ w b s. refl;
@@ -232,11 +252,12 @@ ends-law by = record {
 
 -- Lines
 ends-lines : LineLaw (Shut AnyWorld) (λ _. Ends)
-ends-lines = passing-lines (Shut AnyWorld) Ends (λ _. is_staying) (λ w bs all. staying bs all) (λ w. record { tells = λ _. refl; processes = λ _. refl; threads = λ _ _ _. refl; binds = λ _ _. refl; names = λ _. refl }) (λ by. outcomes by (Shut AnyWorld) AnyWorld Ends (ends-law by) (λ w c. c))
+ends-lines = passing-lines (Shut AnyWorld) Ends (λ _. is_staying) (λ w bs all. staying bs all) (λ w. record { tells = λ _. refl; processes = λ _ _ _. refl; threads = λ _ _ _. refl; binds = λ _ _. refl; names = λ _. refl }) (λ by. outcomes by (Shut AnyWorld) AnyWorld Ends (ends-law by) (λ w c. c))
 
 -- and rows that go withdraw nothing
-pub line_withdraws : (w : World) (line : ScriptLine) → IsSoundWorld w → HasShutConnects w → WithdrawsWithWaits (steps line w)
-line_withdraws w line s shut =
+pub line_withdraws : (w : World) (line : ScriptLine) → IsSoundWorld w → HasShutConnects w → IsReady (world_after w (own_steps line w)) → WithdrawsWithWaits (steps line w)
+line_withdraws w line s shut ready =
     let bs = bare_steps line w in
     let v = world_after w bs in
-    both bs (sweep v) (line-does (Shut AnyWorld) (λ _. Ends) ends-lines w s (shut, tt) line) (staying (sweep v) (sweep_every is_staying (λ _. refl) v))
+    let bare = bare-does Ends (λ w. both) w line (line-does (Shut AnyWorld) (λ _. Ends) ends-lines w s (shut, tt) line) (settling-does (Shut AnyWorld) AnyWorld Ends ends-law (λ w tid _ _. tt) (world_after w (own_steps line w)) ready tt) in
+    both bs (sweep v) bare (staying (sweep v) (sweep_every is_staying (λ _. refl) v))

@@ -3,23 +3,23 @@ use Rattle.std.proofs.Common.{◌≡◌, ◌∙◌, ℕ, ◌+◌, ◌≤◌, Lis
 use Rattle.std.specs.Prelude.{◌&&◌, ◌||◌, ◌==◌, nat_lt}
 use Rattle.std.proofs.lemmas.Bool.{eqb-true}
 use Rattle.std.proofs.lemmas.Bool.Decides.{nat_tests}
-use Rattle.lpc_base.specs.Rows.{change, count, every, first, has}
+use Rattle.lpc_base.specs.Rows.{change, count, every, first, has, without}
 use Rattle.lpc_base.specs.declared.status.Status.{Status}
-use Rattle.lpc_base.proofs.RowWords.{count-none, count-push, every-change, every-more, every-push, every-without, first-kept, first-passes, has-change, has-kept, has-push, has_none-push}
-use Rattle.lpc_base.proofs.RowMaps.{every-first}
+use Rattle.lpc_base.proofs.RowWords.{count-none, count-push, every-change, every-more, every-push, every-without, first-kept, first-passes, has-change, has-kept, has-push, has_none-push, has-off}
+use Rattle.lpc_base.proofs.RowMaps.{every-first, every-both}
 use Rattle.lpc_base.proofs.Bools.{same-number}
 use Rattle.lpc_model.specs.declared.entry.CallName.{CallName}
 use Rattle.lpc_model.specs.declared.entry.Field.{Field}
 use Rattle.lpc_model.specs.World.{HandleTable, ObjectName, PortRow, ProcessRow, ThreadRow, UsedThread, WaitRow, World, Birth, Node, Path, Impersonation}
-use Rattle.lpc_model.specs.Found.{free_handle, has_handle_to, is_connect, is_live_thread, is_open, is_port, is_server_port, is_table, is_thread, live_thread, wait_of, waits_as, was_process, was_thread}
-use Rattle.lpc_model.specs.Basics.{AddsHandle, AddsProcess, AddsThread, Awaits, Binds, DrawsIdentifier, DrawsOrdinal, Makes, Registers, Unregisters, Wakes, basic, no_handles, past_identifier, past_ordinal, registering, unregistering, used, with_handle, Acts, acting}
+use Rattle.lpc_model.specs.Found.{free_handle, has_handle_to, is_connect, is_live_thread, is_open, is_port, is_server_port, is_table, is_thread, live_thread, wait_of, waits_as, was_process, was_thread, is_mark}
+use Rattle.lpc_model.specs.Basics.{AddsHandle, AddsProcess, AddsThread, Awaits, Binds, DrawsIdentifier, DrawsOrdinal, Makes, Registers, Unregisters, Wakes, basic, no_handles, past_identifier, past_ordinal, registering, unregistering, used, with_handle, Acts, acting, left_by}
 use Rattle.lpc_model.specs.Tests.{handle_row, next_birth}
 use Rattle.lpc_model.specs.SoundWaits.{IsSoundWorld, has_home, is_awaited, is_connect_on, is_past, lacks_connects, leads_open}
-use Rattle.lpc_model.proofs.Steps.Rows.{count-change, count-less, first-change, first-pushed, has-append, has-none, passes-change, passes-push}
+use Rattle.lpc_model.proofs.Steps.Rows.{count-change, count-less, first-change, first-pushed, has-append, has-none, passes-change, passes-push, every-left}
 use Rattle.lpc_model.proofs.Steps.Handles.{open-add}
 use Rattle.lpc_model.proofs.Calls.Usable.{CanCall}
 use Rattle.lpc_model.proofs.Sound.Pairs.{apart-other, awaited-quiet, is_quiet, tied-awaits, tied-ended, tied-made, tied-of}
-use Rattle.lpc_model.proofs.Sound.Worlds.{WaitOnce, is_sure, leads-kept, order-of, port-kept, sound-from, sound-kept, stands-same, sure-waits}
+use Rattle.lpc_model.proofs.Sound.Worlds.{WaitOnce, is_sure, leads-kept, order-of, port-kept, sound-from, sound-kept, stands-same, sure-waits, by_kind, exempt}
 
 -- Threads
 -- a thread whose next ordinal is past that of each port that it made; what is changed of it leaves it so
@@ -50,6 +50,7 @@ sound-identifier w who s =
       clients = λ c is. rw (passes-change (is_live_thread c.thread) (λ t. t.process == c.process) (is_thread who) past_identifier (λ t. refl) (λ t. refl) w.threads) is;
       opens = λ b is. is;
       messages = refl;
+      marks = refl;
     }) (λ b own. port-kept w v b own (λ b is. is) (λ p at. stands-same v b own p at)) refl (record {
       tables = s.tables;
       unused = s.unused;
@@ -68,6 +69,7 @@ sound-acts w who own s =
       clients = λ c is. rw (passes-change (is_live_thread c.thread) (λ t. t.process == c.process) (is_thread who) (acting own) (λ t. refl) (λ t. refl) w.threads) is;
       opens = λ b is. is;
       messages = refl;
+      marks = refl;
     }) (λ b own. port-kept w v b own (λ b is. is) (λ p at. stands-same v b own p at)) refl (record {
       tables = s.tables;
       unused = s.unused;
@@ -86,6 +88,7 @@ sound-registers w who b s =
       clients = λ c is. rw (passes-change (is_live_thread c.thread) (λ t. t.process == c.process) (is_thread who) (registering b) (λ t. refl) (λ t. refl) w.threads) is;
       opens = λ b is. is;
       messages = refl;
+      marks = refl;
     }) (λ b own. port-kept w v b own (λ b is. is) (λ p at. stands-same v b own p at)) refl (record {
       tables = s.tables;
       unused = s.unused;
@@ -103,6 +106,7 @@ sound-unregisters w who b s =
       clients = λ c is. rw (passes-change (is_live_thread c.thread) (λ t. t.process == c.process) (is_thread who) (unregistering b) (λ t. refl) (λ t. refl) w.threads) is;
       opens = λ b is. is;
       messages = refl;
+      marks = refl;
     }) (λ b own. port-kept w v b own (λ b is. is) (λ p at. stands-same v b own p at)) refl (record {
       tables = s.tables;
       unused = s.unused;
@@ -123,6 +127,7 @@ sound-ordinal w who s =
       clients = λ c is. rw (passes-change (is_live_thread c.thread) (λ t. t.process == c.process) (is_thread who) past_ordinal (λ t. refl) (λ t. refl) w.threads) is;
       opens = λ b is. is;
       messages = refl;
+      marks = refl;
     }) (λ b own. port-kept w v b own (λ b is. is) (λ p at. stands-same v b own p at)) refl (record {
       tables = s.tables;
       unused = s.unused;
@@ -153,6 +158,7 @@ sound-thread w t home new s =
       clients = λ c is. passes-push (is_live_thread c.thread) (λ t. t.process == c.process) w.threads t is;
       opens = λ b is. is;
       messages = refl;
+      marks = refl;
     }) (λ b own. port-kept w v b own (λ b is. is) (λ p at. stands-same v b own p at)) refl (record {
       tables = s.tables;
       unused = s.unused;
@@ -190,6 +196,7 @@ sound-process w p new s =
       clients = λ c is. is;
       opens = opens;
       messages = refl;
+      marks = refl;
     }) (λ b own. port-kept w v b own opens (λ p at. stands-same v b own p at)) refl (record {
       tables = λ pid. one-more p.number pid w.handles (s.tables pid) (s.unused p.number new);
       unused = λ pid. none-before p.number pid w.used_processes w.handles (s.unused pid);
@@ -234,6 +241,7 @@ sound-makes w p c s =
       clients = λ c is. is;
       opens = λ b is. is;
       messages = refl;
+      marks = refl;
     }) (λ b own. port-kept w v b own (λ b is. is) (λ q at. stands-same v b own q (first-kept (is_port b) w.ports p q at))) refl (record {
       tables = s.tables;
       unused = s.unused;
@@ -306,6 +314,7 @@ sound-handle w pid object access s =
       clients = λ c is. is;
       opens = opens;
       messages = refl;
+      marks = refl;
     }) (λ b own. port-kept w v b own opens (λ p at. stands-same v b own p at)) refl (record {
       tables = λ other. rw (count-change (is_table other) (is_table pid) (with_handle h) (λ t. refl) w.handles) (s.tables other);
       unused = λ other new. rw (same other) (s.unused other new);
@@ -316,11 +325,40 @@ sound-handle w pid object access s =
       makers = s.makers;
     }) (tied-of w s) s
 
+-- Processes
+-- nothing is read of the processes that stand
+pub sound-processes : (w : World) (ps : List ProcessRow) → IsSoundWorld w → IsSoundWorld (record w { processes = ps })
+sound-processes w ps s = record {
+  waits = s.waits;
+  stay = s.stay;
+  once = s.once;
+  names = s.names;
+  tables = s.tables;
+  unused = s.unused;
+  homes = s.homes;
+  pairs = s.pairs;
+  servers = s.servers;
+  ordinals = s.ordinals;
+  numbers = s.numbers;
+  makers = s.makers;
+}
+
 -- Waits
+-- the marks of other threads stay, and so do their waits
+pub still-marked : (who : ℕ) (x : WaitRow) (ns : List ℕ) → not (waits_as who x) ≡ true → has (is_mark x.thread) ns ≡ true → has (is_mark x.thread) (without (is_mark who) ns) ≡ true
+still-marked who x ns off is = has-off (is_mark x.thread) (is_mark who) (λ n one. grind (arith, nat_tests)) ns is
+
+pub left-sure : (w : World) (who : ℕ) (x : WaitRow) → is_sure w x ≡ true → not (waits_as who x) ≡ true → is_sure (left_by who w) x ≡ true
+left-sure w who =
+    let v = left_by who w in
+    by_kind (λ x. is_sure w x ≡ true → not (waits_as who x) ≡ true → is_sure v x ≡ true) (λ x m is off. is) (λ x is off. is) (λ x is off. is) (λ x m offer is off. is) (λ x m reply is off. is)
+    (λ x r is off. exempt w v x x (λ is. is) (still-marked who x w.marks off) (λ is. is) is)
+
 -- a wait that ends, and a wait that begins soundly, of a thread that doesn't wait
 pub sound-wakes : (w : World) (who : ℕ) (call : CallName) (status : Status) (fields : List Field) → every (is_awaited (basic w (Wakes who call status fields))) w.ports ≡ true → IsSoundWorld w → IsSoundWorld (basic w (Wakes who call status fields))
 sound-wakes w who call status fields pairs s =
-    sound-from (basic w (Wakes who call status fields)) (every-without (is_sure w) (waits_as who) w.waits (sure-waits w s)) (λ tid. count-less (waits_as tid) (waits_as who) w.waits 1 (s.once tid)) (order-of w s) (tied-ended w.ports w.waits who pairs (tied-of w s))
+    let v = left_by who w in
+    sound-from v (every-both (is_sure w) (λ x. not (waits_as who x)) (is_sure v) (left-sure w who) v.waits (every-without (is_sure w) (waits_as who) w.waits (sure-waits w s)) (every-left (waits_as who) w.waits)) (λ tid. count-less (waits_as tid) (waits_as who) w.waits 1 (s.once tid)) (order-of w s) (tied-ended w.ports w.waits who pairs (tied-of w s))
 
 -- a wait that ends, of a thread whose connect, if it waits for one, isn't accepted
 pub sound-wakes-quiet : (w : World) (who : ℕ) (call : CallName) (status : Status) (fields : List Field) → every (is_quiet who) w.waits ≡ true → IsSoundWorld w → IsSoundWorld (basic w (Wakes who call status fields))

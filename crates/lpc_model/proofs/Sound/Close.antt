@@ -11,19 +11,19 @@ use Rattle.lpc_names.specs.Binding.{is_name}
 use Rattle.lpc_names.specs.Walk.{LinkTo, Stands}
 use Rattle.lpc_names.specs.declared.names.Found.TheVariants.{Directory, Item}
 use Rattle.lpc_model.specs.declared.entry.ObjectKind.TheVariants as kind
-use Rattle.lpc_model.specs.World.{Birth, ObjectKind, ObjectName, HandleRow, HandleTable, Listen, Node, Path, Receive, WaitRow, World}
-use Rattle.lpc_model.specs.Found.{all_handles, handle_at, handle_count, handles_of, has_value, port_name, rows_in, is_open, is_table, is_the, names_port, pair_of, port_row, same_birth, same_kind, same_object}
+use Rattle.lpc_model.specs.World.{Birth, ObjectKind, ObjectName, HandleRow, HandleTable, Listen, Node, Path, Receive, WaitRow, World, Event}
+use Rattle.lpc_model.specs.Found.{all_handles, handle_at, handle_count, handles_of, has_value, port_name, rows_in, is_open, is_table, is_the, names_port, pair_of, port_row, same_birth, same_kind, same_object, is_marked}
 use Rattle.lpc_model.specs.Basics.{DropsHandle, basic, world_after, without_handle}
 use Rattle.lpc_model.specs.Tests.{is_client}
 use Rattle.lpc_model.specs.Close.{close_handle, close_port, is_last}
-use Rattle.lpc_model.specs.SoundWaits.{IsSoundWorld, has_client_port, has_come, has_home, is_answerable, is_joined, is_message_of, leads_open, waiter_of}
+use Rattle.lpc_model.specs.SoundWaits.{IsSoundWorld, has_client_port, has_come, has_home, is_answerable, is_joined, is_message_of, leads_open, waiter_of, is_sound_request}
 use Rattle.lpc_model.proofs.Steps.Rows.{count-change}
 use Rattle.lpc_model.proofs.Sound.Pairs.{tied-of}
-use Rattle.lpc_model.proofs.Sound.Worlds.{InOrder, by_kind, is_sure, leads-kept, port-kept, sound-from, sound-kept, stands-same, sure-waits}
+use Rattle.lpc_model.proofs.Sound.Worlds.{InOrder, by_kind, is_sure, leads-kept, port-kept, sound-from, sound-kept, stands-same, sure-waits, is_sure_event}
 use Rattle.lpc_model.proofs.Sound.Calls.{LeaveSound}
 use Rattle.lpc_model.proofs.Sound.Drops.{count-open, drop-count, open-dropped, open-kept}
 use Rattle.lpc_model.proofs.Steps.Handles.{open-count}
-use Rattle.lpc_model.proofs.Sound.Closing.{IsShut, close-shut, is_apart_from}
+use Rattle.lpc_model.proofs.Sound.Closing.{IsShut, close-shut, is_apart_from, is_clear, needs_port}
 use Rattle.lpc_model.proofs.Steps.InTurn.{after-append}
 
 -- A handle that goes
@@ -74,6 +74,7 @@ dropped-sound w pid r at more s =
       clients = λ c is. is;
       opens = opens;
       messages = refl;
+      marks = refl;
     }) (λ b own. port-kept w v b own opens (λ p at. stands-same v b own p at)) refl
     (order-dropped w pid r.value (every-more (λ x. leads_open w x.1) (λ x. leads_open v x.1) (λ x. leads-kept w v opens x.1) w.bindings s.names) s) (tied-of w s) s
 
@@ -97,10 +98,23 @@ pair-open w v b opens (Some c) off is = opens c (births-apart b c off) is
 abbrev pub OpensBut : World → World → Birth → Type 0
 OpensBut w v b = (c : Birth) → same_birth c b ≡ false → is_open w c ≡ true → is_open v c ≡ true
 
-last-sure : (w : World) (b : Birth) (pid value : ℕ) → OpensBut w (basic w (DropsHandle pid value)) b → (x : WaitRow) → is_sure w x ≡ true → is_apart_from w b x ≡ true → is_sure (basic w (DropsHandle pid value)) x ≡ true
+clear-of : (a c : Bool) → (a && c) ≡ true → c ≡ true
+clear-of a c is = grind arith
+
+marked-sure : (c m s a t d : Bool) → m ≡ true → ((c && (m || s)) && (m || a)) ≡ true → ((c && (m || t)) && (m || d)) ≡ true
+marked-sure c m s a t d one is = grind arith
+
+event-sure : (w : World) (b : Birth) (pid value : ℕ) (x : WaitRow) → OpensBut w (basic w (DropsHandle pid value)) b → (m : Bool) → is_marked w x ≡ m → (not (needs_port b x) || m) ≡ true → is_sure_event w x ≡ true → is_sure_event (basic w (DropsHandle pid value)) x ≡ true
+event-sure w b pid value x opens true marked clear is = marked-sure (is_client w (waiter_of x)) (is_marked w x) (is_sound_request w x) (is_answerable w x) (is_sound_request (basic w (DropsHandle pid value)) x) (is_answerable w x) marked is
+event-sure w b pid value x opens false marked clear is =
+    let v = basic w (DropsHandle pid value) in
+    let made : same_birth x.port b ≡ false = grind arith in
+    rw marked (request-parts (is_client w (waiter_of x)) (is_open w x.port) (is_open v x.port) x.received (is_answerable w x) (has (is_message_of x) w.messages) (is_open w x.queue) (is_open v x.queue) (is_answerable w x) (opens x.port made) (λ not_yet. let apart : same_birth x.queue b ≡ false = grind arith in opens x.queue apart) (rw marked at is))
+
+last-sure : (w : World) (b : Birth) (pid value : ℕ) → OpensBut w (basic w (DropsHandle pid value)) b → (x : WaitRow) → is_sure w x ≡ true → (is_apart_from w b x && is_clear w (needs_port b) x) ≡ true → is_sure (basic w (DropsHandle pid value)) x ≡ true
 last-sure w b pid value opens =
     let v = basic w (DropsHandle pid value) in
-    by_kind (λ x. is_sure w x ≡ true → is_apart_from w b x ≡ true → is_sure v x ≡ true)
+    by_kind (λ x. is_sure w x ≡ true → (is_apart_from w b x && is_clear w (needs_port b) x) ≡ true → is_sure v x ≡ true)
     (λ x m is off.
     let made : same_birth x.port b ≡ false = grind arith in
     request-parts (is_client w (waiter_of x)) (is_open w x.port) (is_open v x.port) x.received (is_answerable w x) (has (is_message_of x) w.messages) (is_open w x.queue) (is_open v x.queue) (is_answerable w x) (opens x.port made) (λ not_yet. let apart : same_birth x.queue b ≡ false = grind arith in opens x.queue apart) is)
@@ -118,6 +132,7 @@ last-sure w b pid value opens =
     (λ x m reply is off.
     let across : is_the b (pair_of w x.port) ≡ false = grind arith in
     accepted-parts (is_client w (waiter_of x)) (passes (pair_of w x.port) (is_open w)) (passes (pair_of w x.port) (is_open v)) (has_client_port w x) (pair-open w v b opens (pair_of w x.port) across) is)
+    (λ x r is off. event-sure w b pid value x opens (is_marked w x) refl (clear-of (is_apart_from w b (record x { kind = Event r })) (not (needs_port b x) || is_marked w x) off) is)
 
 last-leads : (w v : World) (b : Birth) → OpensBut w v b → (x : Path × Node Birth) → leads_open w x.1 ≡ true → not (is_name same_birth b x) ≡ true → leads_open v x.1 ≡ true
 last-leads w v b opens (path, LinkTo target) is off = refl
@@ -137,7 +152,7 @@ shut-dropped w v pid r at t =
     let b = r.object.birth in
     let u = basic v (DropsHandle pid r.value) in
     let opens = but-opens v pid r (t.sound.tables pid) (shut-found w v pid r t.handles at) in
-    sound-from u (every-both (is_sure v) (is_apart_from v b) (is_sure u) (last-sure v b pid r.value opens) v.waits (sure-waits v t.sound) t.waits) t.sound.once
+    sound-from u (every-both (is_sure v) (λ x. is_apart_from v b x && is_clear v (needs_port b) x) (is_sure u) (last-sure v b pid r.value opens) v.waits (sure-waits v t.sound) (every-both (is_apart_from v b) (is_clear v (needs_port b)) _ (λ x one two. and_from _ _ one two) v.waits t.waits t.events)) t.sound.once
     (order-dropped v pid r.value (every-both (λ x. leads_open v x.1) (λ x. not (is_name same_birth b x)) (λ x. leads_open u x.1) (last-leads v u b opens) v.bindings t.sound.names t.names) t.sound) (tied-of v t.sound)
 
 -- NtClose

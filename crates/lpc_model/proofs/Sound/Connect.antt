@@ -95,7 +95,7 @@ pub names-offered : (w : World) (by : ThreadRow) (m : Message) (x : WaitRow) →
 names-offered w by m x is = grind arith
 
 offered-quiet : (x : WaitRow) → is_offered x ≡ true → not (is_accepted x) ≡ true
-offered-quiet = by_kind (λ x. is_offered x ≡ true → not (is_accepted x) ≡ true) (λ x m is. refl) (λ x is. refl) (λ x is. refl) (λ x m offer is. refl) (λ x m reply is. absurd (cc))
+offered-quiet = by_kind (λ x. is_offered x ≡ true → not (is_accepted x) ≡ true) (λ x m is. refl) (λ x is. refl) (λ x is. refl) (λ x m offer is. refl) (λ x m reply is. absurd (cc)) (λ x r is. refl)
 
 pub named-alone : (w : World) (by : ThreadRow) (m : Message) (x : WaitRow) (f : WaitRow → Bool) → first (names_connect w by m) w.waits ≡ Some x → f x ≡ true → IsSoundWorld w → every (λ y. not (waits_as x.thread y) || f y) w.waits ≡ true
 named-alone w by m x f at is s =
@@ -116,6 +116,7 @@ foreign-connect w b =
     (λ y is off. refl)
     (λ y m offer is off. foreign y is off)
     (λ y m reply is off. foreign y is off)
+    (λ y r is off. refl)
   where
     foreign : (y : WaitRow) → has_client_port w y ≡ true → not (waits_as b.maker y) ≡ true → not (same_birth y.port b) ≡ true
     foreign y is off = grind (arith, nat_tests)
@@ -127,7 +128,7 @@ unconnected w by c s =
 -- a connect that isn't accepted has its client port
 pub offered-client : (w : World) (x : WaitRow) → is_offered x ≡ true → can_stay_sound w x ≡ true → has_client_port w x ≡ true
 offered-client w =
-    by_kind (λ x. is_offered x ≡ true → can_stay_sound w x ≡ true → has_client_port w x ≡ true) (λ x m of is. absurd (cc)) (λ x of is. absurd (cc)) (λ x of is. absurd (cc)) (λ x m offer of is. is) (λ x m reply of is. absurd (cc))
+    by_kind (λ x. is_offered x ≡ true → can_stay_sound w x ≡ true → has_client_port w x ≡ true) (λ x m of is. absurd (cc)) (λ x of is. absurd (cc)) (λ x of is. absurd (cc)) (λ x m offer of is. is) (λ x m reply of is. absurd (cc)) (λ x r of is. absurd (cc))
 
 -- no accepted connect waits on the client port of one that isn't accepted
 unaccepted : (w : World) (x : WaitRow) → has_client_port w x ≡ true → (y : WaitRow) → can_stay_sound w y ≡ true → (not (waits_as x.thread y) || is_offered y) ≡ true → not (is_accepted_on x.port y) ≡ true
@@ -138,6 +139,7 @@ unaccepted w x own =
     (λ y is off. refl)
     (λ y m offer is off. refl)
     (λ y m reply is off. other y is off)
+    (λ y r is off. refl)
   where
     other : (y : WaitRow) → has_client_port w y ≡ true → (not (waits_as x.thread y) || false) ≡ true → not (same_birth y.port x.port) ≡ true
     other y is off = grind (arith, nat_tests)

@@ -1,5 +1,5 @@
 -- A connection that is cut, once what needs it has ended, keeps a world's waits sound.
-use Rattle.std.proofs.Common.{◌≡◌, List, [], ◌∷◌, ◌++◌, Bool, map, true, false, cond, not, Option, Some, None, refl, sym, subst, arith}
+use Rattle.std.proofs.Common.{◌≡◌, List, [], ◌∷◌, ◌++◌, Bool, map, true, false, cond, not, Option, Some, None, refl, sym, subst, arith, ℕ}
 use Rattle.std.specs.Prelude.{◌&&◌, ◌||◌, ◌==◌}
 use Rattle.std.proofs.lemmas.Bool.{and_from}
 use Rattle.lpc_base.specs.Rows.{change, each, every, has, passes, which, without}
@@ -7,21 +7,22 @@ use Rattle.lpc_base.proofs.RowWords.{every-change, every-more, every-without, fi
 use Rattle.lpc_base.proofs.RowMaps.{every-both, every-change_to}
 use Rattle.lpc_base.proofs.Births.{birth-same, birth-self, births-apart}
 use Rattle.lpc_base.proofs.Bools.{first-off, first-true, second-off, second-true}
-use Rattle.lpc_model.specs.World.{Birth, PortRow, Receive, ViewTable, WaitRow, World}
-use Rattle.lpc_model.specs.Found.{is_accepted, is_client_port, is_open, is_port, is_server_port, is_the, pair_of, port_row, same_birth, waits_as}
-use Rattle.lpc_model.specs.Basics.{Cuts, basic, cut, is_end_of, without_owned, world_after}
+use Rattle.lpc_model.specs.World.{Birth, PortRow, Receive, ViewTable, WaitRow, World, Event}
+use Rattle.lpc_model.specs.Found.{is_accepted, is_client_port, is_open, is_port, is_server_port, is_the, pair_of, port_row, same_birth, waits_as, is_made_on, is_mark, is_marked}
+use Rattle.lpc_model.specs.Basics.{Cuts, basic, cut, is_end_of, without_owned, world_after, left_by}
 use Rattle.lpc_model.specs.Tests.{is_client}
-use Rattle.lpc_model.specs.Close.{end_accepted, is_accepted_across, is_receive_across, is_receiver, is_request_across, is_request_on}
+use Rattle.lpc_model.specs.Close.{end_accepted, is_accepted_across, is_across, is_event_across, is_event_on, is_receive_across, is_receiver, is_request_across, is_request_on}
 use Rattle.lpc_model.specs.Connect.{is_accepted_on}
-use Rattle.lpc_model.specs.SoundWaits.{IsSoundWorld, has_come, is_sound_connect, waiter_of, is_awaited, is_connect_on, is_joined, lacks_connects}
+use Rattle.lpc_model.specs.SoundWaits.{IsSoundWorld, has_come, is_sound_connect, waiter_of, is_awaited, is_connect_on, is_joined, lacks_connects, is_answerable, is_sound_request}
 use Rattle.lpc_model.proofs.Steps.Rows.{count-less, every-left, first-change, first-map, has-without}
 use Rattle.lpc_model.proofs.Calls.Usable.{by_port_kind}
 use Rattle.lpc_model.proofs.Sound.Pairs.{IsTied, awaited-kept, cut-awaited, lacks-parts, on-kept, tied, tied-of}
 use Rattle.lpc_model.proofs.Sound.Ties.{same-port}
-use Rattle.lpc_model.proofs.Sound.Worlds.{WaitOnce, by_kind, is_sure, sound-from, sound-memory, sure-waits}
+use Rattle.lpc_model.proofs.Sound.Worlds.{WaitOnce, by_kind, is_sure, sound-from, sound-memory, sure-waits, exempt, is_sure_event}
 use Rattle.lpc_model.proofs.Sound.Ports.{order-mapped}
 use Rattle.lpc_model.proofs.Sound.Less.{failing-apart, passing-shares, shares}
 use Rattle.lpc_model.proofs.Steps.InTurn.{after-append}
+use Rattle.lpc_model.proofs.Sound.Basics.{still-marked}
 
 -- Waits without those of some rows
 abbrev pub rest : List WaitRow → List WaitRow → List WaitRow
@@ -33,9 +34,22 @@ abbrev pub disowned : List WaitRow → List ViewTable → List ViewTable
 disowned [] ts = ts
 disowned (x ∷ xs) ts = disowned xs (map (without_owned x.port) ts)
 
-pub ended-world : (xs : List WaitRow) (w : World) → world_after w (each end_accepted xs) ≡ record w { waits = rest xs w.waits; views = disowned xs w.views }
+-- marks without those of some rows
+abbrev pub rest_marks : List WaitRow → List ℕ → List ℕ
+rest_marks [] ns = ns
+rest_marks (x ∷ xs) ns = rest_marks xs (without (is_mark x.thread) ns)
+
+pub ended-world : (xs : List WaitRow) (w : World) → world_after w (each end_accepted xs) ≡ record w { waits = rest xs w.waits; marks = rest_marks xs w.marks; views = disowned xs w.views }
 ended-world [] w = refl
-ended-world (x ∷ xs) w = ended-world xs (record w { waits = without (waits_as x.thread) w.waits; views = map (without_owned x.port) w.views })
+ended-world (x ∷ xs) w = ended-world xs (record (left_by x.thread w) { views = map (without_owned x.port) w.views })
+
+-- the marks of other rows stay
+pub still-rest : (y : WaitRow) (xs : List WaitRow) (ns : List ℕ) → not (shares xs y) ≡ true → has (is_mark y.thread) ns ≡ true → has (is_mark y.thread) (rest_marks xs ns) ≡ true
+still-rest y [] ns off is = is
+still-rest y (x ∷ xs) ns off is =
+    let here : not (waits_as x.thread y) ≡ true = grind arith in
+    let later : not (shares xs y) ≡ true = grind arith in
+    still-rest y xs (without (is_mark x.thread) ns) later (still-marked x.thread y ns here is)
 
 pub every-rest : (f : WaitRow → Bool) (xs ws : List WaitRow) → every f ws ≡ true → every f (rest xs ws) ≡ true
 every-rest f [] ws all = all
@@ -62,7 +76,7 @@ has-rest p (x ∷ xs) ws apart is =
     (every-without (λ y. not (p y) || not (shares xs y)) (waits_as x.thread) ws (every-more _ _ (later-parts p x xs) ws apart))
     (has-without p (waits_as x.thread) ws (every-more _ _ (first-parts p x xs) ws apart) is)
 
-rest-ends : (xs ws : List WaitRow) → every (λ y. not (shares xs y)) (rest xs ws) ≡ true
+pub rest-ends : (xs ws : List WaitRow) → every (λ y. not (shares xs y)) (rest xs ws) ≡ true
 rest-ends [] ws = none-shares ws
   where
     none-shares : (ws : List WaitRow) → every (λ y. not (shares [] y)) ws ≡ true
@@ -97,7 +111,8 @@ same-row w b c apart off = at (port_row w c) refl
 -- Waits behind the cut
 -- what is known of each wait: nothing that needs the pair is left
 abbrev pub is_free_of : World → Birth → WaitRow → Bool
-is_free_of w b x = not (is_receiver b x) && (not (is_request_on b x) && (not (is_request_across b w x) && not (is_receive_across b w x)))
+is_free_of w b x =
+    not (is_receiver b x) && (not (is_request_on b x) && (not (is_request_across b w x) && (not (is_receive_across b w x) && (not (is_event_on b w x) && not (is_event_across b w x)))))
 
 -- a receive there waits on no client port
 joined-cut : (p : PortRow) → is_client_port p ≡ false → is_joined (cut p) ≡ true
@@ -130,6 +145,22 @@ stands-parts c s h g m still is = grind (arith, still)
 served-parts : (c s t h g m : Bool) → t ≡ s → (h ≡ true → g ≡ true) → ((c && s) && (h && m)) ≡ true → ((c && t) && (g && m)) ≡ true
 served-parts c s t h g m same still is = grind (arith, still)
 
+free-event : (m d x : Bool) → ((true && (true && (true && (true && (not (not m && d) && not (not m && x)))))) && true) ≡ true → (not (not m && d) && not (not m && x)) ≡ true
+free-event m d x is = grind arith
+
+client-alone : (w : World) (b : Birth) (x : WaitRow) → is_marked w x ≡ true → is_sure_event w x ≡ true → is_sure_event (basic w (Cuts b)) x ≡ true
+client-alone w b x m is = parts (is_client w (waiter_of x)) (is_marked w x) (is_sound_request w x) (is_answerable w x) (is_sound_request (basic w (Cuts b)) x) (is_answerable (basic w (Cuts b)) x) m is
+  where
+    parts : (c m s a t d : Bool) → m ≡ true → ((c && (m || s)) && (m || a)) ≡ true → ((c && (m || t)) && (m || d)) ≡ true
+    parts c m s a t d one is = grind arith
+
+event-cut : (w : World) (b : Birth) (x : WaitRow) (made : Bool) → is_made_on b x ≡ made → (across : Bool) → is_across w b x ≡ across → (m : Bool) → is_marked w x ≡ m → (not (not m && made) && not (not m && across)) ≡ true → is_sure_event w x ≡ true → is_sure_event (basic w (Cuts b)) x ≡ true
+event-cut w b x made one across two true three free is = client-alone w b x three is
+event-cut w b x made one across two false three free is =
+    let apart : same_birth x.port b ≡ false = grind arith in
+    let off : is_the b (pair_of w x.port) ≡ false = grind arith in
+    rw (same-row w b x.port apart off) is
+
 cut-sure : (w : World) (b : Birth) (x : WaitRow) → is_sure w x ≡ true → (is_free_of w b x && not (is_accepted_across b w x)) ≡ true → is_sure (basic w (Cuts b)) x ≡ true
 cut-sure w b =
     let v = basic w (Cuts b) in
@@ -150,6 +181,7 @@ cut-sure w b =
     let across : is_the b (pair_of w x.port) ≡ false = grind arith in
     let same : passes (pair_of v x.port) (is_open w) ≡ passes (pair_of w x.port) (is_open w) = rw (same-row w b x.port made across) refl in
     served-parts (is_client w (waiter_of x)) (passes (pair_of w x.port) (is_open w)) (passes (pair_of v x.port) (is_open w)) (has (is_port x.port) w.ports) (has (is_port x.port) v.ports) (x.port.maker == x.thread) same (stands x) is)
+    (λ x r is free. event-cut w b x (is_made_on b x) refl (is_across w b x) refl (is_marked w x) refl (free-event (is_marked w x) (is_made_on b x) (is_across w b x) free) is)
 
 -- Connections behind the cut
 the-same : (a b : Birth) (o : Option Birth) → is_the a o ≡ true → is_the b o ≡ true → same_birth a b ≡ true
@@ -207,7 +239,12 @@ tied-cut w b once t =
 abbrev pub parted : World → Birth → World
 parted w b =
     let xs = which (is_accepted_across b w) w.waits in
-    record w { waits = rest xs w.waits; ports = change (is_end_of b) cut w.ports; views = disowned xs w.views }
+    record w {
+      waits = rest xs w.waits;
+      ports = change (is_end_of b) cut w.ports;
+      marks = rest_marks xs w.marks;
+      views = disowned xs w.views;
+    }
 
 pub parted-world : (w : World) (b : Birth) → world_after w (each end_accepted (which (is_accepted_across b w) w.waits) ++ Cuts b ∷ []) ≡ parted w b
 parted-world w b =
@@ -223,10 +260,18 @@ none-accepted w b =
     parts : (t s : Bool) → (not t || s) ≡ true → not s ≡ true → not t ≡ true
     parts t s one two = grind arith
 
+parted-sure : (w : World) (b : Birth) (x : WaitRow) → is_sure (basic w (Cuts b)) x ≡ true → not (shares (which (is_accepted_across b w) w.waits) x) ≡ true → is_sure (parted w b) x ≡ true
+parted-sure w b =
+    let xs = which (is_accepted_across b w) w.waits in
+    let v = basic w (Cuts b) in
+    let u = parted w b in
+    by_kind (λ x. is_sure v x ≡ true → not (shares xs x) ≡ true → is_sure u x ≡ true) (λ x m is off. is) (λ x is off. is) (λ x is off. is) (λ x m offer is off. is) (λ x m reply is off. is)
+    (λ x r is off. exempt v u x x (λ one. one) (still-rest (record x { kind = Event r }) xs w.marks off) (λ one. one) is)
+
 pub sound-parted : (w : World) (b : Birth) → every (is_free_of w b) w.waits ≡ true → IsSoundWorld w → IsSoundWorld (parted w b)
 sound-parted w b free s =
     let xs = which (is_accepted_across b w) w.waits in
-    let u : World = record w { waits = rest xs w.waits; ports = change (is_end_of b) cut w.ports } in
-    sound-memory u _ _ (disowned xs w.views) (sound-from u (every-both (λ y. is_sure w y && is_free_of w b y) (λ y. not (is_accepted_across b w y)) (is_sure (basic w (Cuts b))) (λ y one two. cut-sure w b y (first-true _ _ one) (and_from _ _ (second-true _ _ one) two)) (rest xs w.waits)
-    (every-rest _ xs w.waits (every-both (is_sure w) (is_free_of w b) (λ y. is_sure w y && is_free_of w b y) (λ y one two. and_from _ _ one two) w.waits (sure-waits w s) free)) (none-accepted w b))
+    let u : World = record w { waits = rest xs w.waits; ports = change (is_end_of b) cut w.ports; marks = rest_marks xs w.marks } in
+    sound-memory u _ _ (disowned xs w.views) (sound-from u (every-both (is_sure (basic w (Cuts b))) (λ y. not (shares xs y)) (is_sure u) (parted-sure w b) (rest xs w.waits) (every-both (λ y. is_sure w y && is_free_of w b y) (λ y. not (is_accepted_across b w y)) (is_sure (basic w (Cuts b))) (λ y one two. cut-sure w b y (first-true _ _ one) (and_from _ _ (second-true _ _ one) two)) (rest xs w.waits)
+    (every-rest _ xs w.waits (every-both (is_sure w) (is_free_of w b) (λ y. is_sure w y && is_free_of w b y) (λ y one two. and_from _ _ one two) w.waits (sure-waits w s) free)) (none-accepted w b)) (rest-ends xs w.waits))
     (once-rest xs w.waits s.once) (order-mapped w (λ p. cond (is_end_of b p) (cut p) p) (λ p. cut-birth (is_end_of b p) p) s) (tied-cut w b s.once (tied-of w s)))

@@ -2,7 +2,7 @@
 use Rattle.std.proofs.Common.{◌≡◌, ◌∙◌, ℕ, List, [], ◌∷◌, Bool, true, false, not, Option, Some, None, refl, sym, subst, arith}
 use Rattle.std.specs.Prelude.{◌&&◌, ◌||◌, ◌==◌}
 use Rattle.std.proofs.lemmas.Bool.Decides.{nat_tests}
-use Rattle.lpc_base.specs.Rows.{change, each, every, first, when, which, without}
+use Rattle.lpc_base.specs.Rows.{change, each, every, first, when, which}
 use Rattle.lpc_base.specs.declared.status.Status.{Status}
 use Rattle.lpc_base.specs.declared.status.TheConstants.{LPC_REPLY_LOST, PORT_DISCONNECTED, SUCCESS}
 use Rattle.lpc_base.proofs.RowWords.{every-change, every-more, first-passes}
@@ -11,21 +11,21 @@ use Rattle.lpc_base.proofs.Births.{birth-same, birth-self}
 use Rattle.lpc_base.proofs.Bools.{apart-second}
 use Rattle.lpc_model.specs.declared.entry.CallName.TheVariants.{NtClose}
 use Rattle.lpc_model.specs.World.{Birth, Listen, Message, Receive, Request, ThreadRow, WaitRow, World}
-use Rattle.lpc_model.specs.Found.{is_accepted, is_connect, is_live_thread, is_made_on, is_open, is_the, is_thread, live_thread, pair_of, same_birth, wait_of, waits_as, was_thread}
-use Rattle.lpc_model.specs.Basics.{Cuts, Dies, DropsOwned, Withdraws, basic, doing, ended, provided, world_after}
+use Rattle.lpc_model.specs.Found.{is_accepted, is_connect, is_live_thread, is_made_on, is_open, is_the, is_thread, live_thread, pair_of, same_birth, wait_of, waits_as, was_thread, is_event, is_marked}
+use Rattle.lpc_model.specs.Basics.{Cuts, Dies, DropsOwned, Withdraws, basic, doing, ended, provided, world_after, left_by}
 use Rattle.lpc_model.specs.Tests.{is_client}
-use Rattle.lpc_model.specs.Close.{cut_pair, end_accepted, end_request, is_accepted_across, is_receive_across, is_receiver, is_request_across, is_request_on, wake}
+use Rattle.lpc_model.specs.Close.{cut_pair, end_accepted, end_request, is_accepted_across, is_receive_across, is_receiver, is_request_across, is_request_on, wake, is_across}
 use Rattle.lpc_model.specs.Death.{end_client, die}
-use Rattle.lpc_model.specs.SoundWaits.{HasShutConnects, IsSoundWorld, has_home, is_past, is_sound_as, is_sound_wait, can_stay_sound, waiter_of}
+use Rattle.lpc_model.specs.SoundWaits.{HasShutConnects, IsSoundWorld, has_home, is_past, is_sound_as, is_sound_wait, can_stay_sound, waiter_of, is_sound_request}
 use Rattle.lpc_model.proofs.Steps.Rows.{every-left, lone}
 use Rattle.lpc_model.proofs.Steps.Closing.{behind, then-holds}
 use Rattle.lpc_model.proofs.Sound.Pairs.{is_quiet, tied, tied-of}
 use Rattle.lpc_model.proofs.Sound.Worlds.{WaitOnce, by_kind, is_sure, sound-from, sound-memory, sure-waits}
 use Rattle.lpc_model.proofs.Sound.Basics.{sound-wakes-quiet}
-use Rattle.lpc_model.proofs.Sound.Less.{IsLess, ended-each, less-withdrawn, turns-told, turns-withdrawn}
+use Rattle.lpc_model.proofs.Sound.Less.{IsLess, ended-each, less-withdrawn, turns-told, turns-withdrawn, marked-each}
 use Rattle.lpc_model.proofs.Sound.Cuts.{every-rest, is_free_of, none-accepted, parted, parted-world, sound-parted}
-use Rattle.lpc_model.proofs.Steps.Dying.{asked_across, cut-parts, gone, gone-cut, others_left, received_across, showing}
-use Rattle.lpc_model.proofs.Sound.Closing.{receive-quiet, request-quiet}
+use Rattle.lpc_model.proofs.Steps.Dying.{asked_across, cut-parts, gone, gone-cut, others_left, received_across, showing, is_eventless, marked_across}
+use Rattle.lpc_model.proofs.Sound.Closing.{receive-quiet, request-quiet, clear-kept, is_clear, marks_alone}
 use Rattle.lpc_model.proofs.Steps.InTurn.{after-append}
 use Rattle.std.proofs.lemmas.Bool.{and_from, eqb-true, false_from_ne_true, not-true}
 
@@ -71,7 +71,7 @@ lifeless-sound n w off s =
 -- a thread without an accepted connect goes with its wait and its message
 gone-sound : (n : ℕ) (w : World) → every (is_quiet n) w.waits ≡ true → IsSoundWorld w → IsSoundWorld (gone n w)
 gone-sound n w quiet s =
-    let waited : World = record w { waits = without (waits_as n) w.waits } in
+    let waited : World = left_by n w in
     let one : IsSoundWorld waited = sound-wakes-quiet w n NtClose SUCCESS [] quiet s in
     let off = every-left (waits_as n) w.waits in
     let two : IsSoundWorld (lifeless n waited) = lifeless-sound n waited off one in
@@ -90,6 +90,7 @@ shut-off w b shut =
     (λ z is. listening z (apart z.port (opens-one _ _ _ is)) (apart z.queue (opens-two _ _ _ _ is)))
     (λ z m offer is. refl)
     (λ z m r is. refl)
+    (λ z r is. refl)
   where
     opens-one : (c o s : Bool) → (c && (o && s)) ≡ true → o ≡ true
     opens-one c o s is = grind arith
@@ -109,6 +110,22 @@ shut-off w b shut =
     apart : (c : Birth) → is_open w c ≡ true → same_birth c b ≡ false
     apart c opens = false_from_ne_true (same_birth c b) (λ same. let one = subst (λ d. is_open w d ≡ true) (birth-same c b same) opens in cc)
 
+-- an event on it is marked
+shut-clear : (w : World) (b : Birth) → is_open w b ≡ false → (z : WaitRow) → is_sound_wait w z ≡ true → is_clear w (is_made_on b) z ≡ true
+shut-clear w b shut =
+    by_kind (λ z. is_sound_wait w z ≡ true → is_clear w (is_made_on b) z ≡ true) (λ z m is. refl) (λ z is. refl) (λ z is. refl) (λ z m offer is. refl) (λ z m r is. refl)
+    (λ z r is. at z (is_marked w z) refl (same_birth z.port b) refl is)
+  where
+    opens : (c m o s : Bool) → (c && (m || (o && s))) ≡ true → m ≡ false → o ≡ true
+    opens c m o s is off = grind arith
+
+    at : (z : WaitRow) (m : Bool) → is_marked w z ≡ m → (p : Bool) → same_birth z.port b ≡ p → (is_client w (waiter_of z) && (is_marked w z || is_sound_request w z)) ≡ true → (not p || m) ≡ true
+    at z true marked p here is = grind arith
+    at z false marked false here is = refl
+    at z false marked true here is =
+        let one = opens (is_client w (waiter_of z)) (is_marked w z) (is_open w z.port) _ is marked in
+        let two = subst (λ c. is_open w c ≡ true) (birth-same z.port b here) one in absurd (cc)
+
 -- what the cut leaves: a sound world, and no accepted connect on the port
 pub record IsCutOff (w v : World) (b : Birth) : Type 0 where
   pub sound : IsSoundWorld v
@@ -118,9 +135,12 @@ pub record IsCutOff (w v : World) (b : Birth) : Type 0 where
 free-parts : (r q a c : Bool) → (not r && not q) ≡ true → not a ≡ true → not c ≡ true → (not r && (not q && (not a && not c))) ≡ true
 free-parts r q a c one two three = grind arith
 
-module _ (w : World) (b : Birth) (off : every (is_off b) w.waits ≡ true) (s : IsSoundWorld w) where
+module _ (w : World) (b : Birth) (off : every (is_off b) w.waits ≡ true) (clear : every (is_clear w (is_made_on b)) w.waits ≡ true) (s : IsSoundWorld w) where
   abbrev pub asked : World
   asked = asked_across b w
+
+  abbrev pub told_events : World
+  told_events = marked_across b w
 
   abbrev pub heard : World
   heard = received_across b w
@@ -131,29 +151,43 @@ module _ (w : World) (b : Birth) (off : every (is_off b) w.waits ≡ true) (s : 
   pub asked-none : every (λ z. not (is_request_across b w z)) asked.waits ≡ true
   asked-none = let t = ended-each w (is_request_across b w) (end_request LPC_REPLY_LOST) (λ z is. request-quiet z _ is) (turns-withdrawn LPC_REPLY_LOST []) s in t.none
 
-  pub heard-less : IsLess asked heard
-  heard-less = let t = ended-each asked (is_receive_across b asked) (wake PORT_DISCONNECTED) (λ z is. receive-quiet z _ is) (turns-told PORT_DISCONNECTED []) asked-less.sound in t.less
+  pub marked-less : IsLess asked told_events
+  marked-less = let t = marked-each asked (is_across asked b) asked-less.sound in t.less
 
-  heard-none : every (λ z. not (is_receive_across b asked z)) heard.waits ≡ true
-  heard-none = let t = ended-each asked (is_receive_across b asked) (wake PORT_DISCONNECTED) (λ z is. receive-quiet z _ is) (turns-told PORT_DISCONNECTED []) asked-less.sound in t.none
+  marked-all : every (is_clear told_events (is_across asked b)) told_events.waits ≡ true
+  marked-all = let t = marked-each asked (is_across asked b) asked-less.sound in t.all
+
+  pub heard-less : IsLess told_events heard
+  heard-less = let t = ended-each told_events (is_receive_across b told_events) (wake PORT_DISCONNECTED) (λ z is. receive-quiet z _ is) (turns-told PORT_DISCONNECTED []) marked-less.sound in t.less
+
+  heard-none : every (λ z. not (is_receive_across b told_events z)) heard.waits ≡ true
+  heard-none = let t = ended-each told_events (is_receive_across b told_events) (wake PORT_DISCONNECTED) (λ z is. receive-quiet z _ is) (turns-told PORT_DISCONNECTED []) marked-less.sound in t.none
+
+  pub heard-clear : every (λ z. is_clear heard (is_made_on b) z && is_clear heard (is_across heard b) z) heard.waits ≡ true
+  heard-clear =
+      every-both (is_clear heard (is_made_on b)) (is_clear heard (is_across heard b)) _ (λ z x y. and_from _ _ x y) heard.waits
+      (clear-kept told_events heard (is_made_on b) heard-less (clear-kept asked told_events (is_made_on b) marked-less (clear-kept w asked (is_made_on b) asked-less clear)))
+      (subst (λ ps. every (is_clear (marks_alone heard.marks) (is_across (tied ps []) b)) heard.waits ≡ true) (sym (heard-less.ports ∙ marked-less.ports)) (clear-kept told_events heard (is_across asked b) heard-less marked-all))
 
   heard-free : every (is_free_of heard b) heard.waits ≡ true
   heard-free =
-      let one = heard-less.waits (is_off b) (asked-less.waits (is_off b) off) in
-      let two = subst (λ ps. every (λ z. not (is_request_across b (tied ps []) z)) heard.waits ≡ true) (sym (heard-less.ports ∙ asked-less.ports)) (heard-less.waits (λ z. not (is_request_across b w z)) asked-none) in
+      let one = heard-less.waits (is_off b) (marked-less.waits (is_off b) (asked-less.waits (is_off b) off)) in
+      let two = subst (λ ps. every (λ z. not (is_request_across b (tied ps []) z)) heard.waits ≡ true) (sym (heard-less.ports ∙ (marked-less.ports ∙ asked-less.ports))) (heard-less.waits (λ z. not (is_request_across b w z)) (marked-less.waits (λ z. not (is_request_across b w z)) asked-none)) in
       let three = subst (λ ps. every (λ z. not (is_receive_across b (tied ps []) z)) heard.waits ≡ true) (sym heard-less.ports) heard-none in
-      every-both (λ z. is_off b z && not (is_request_across b heard z)) (λ z. not (is_receive_across b heard z)) (is_free_of heard b) (λ z here last. together _ _ _ _ here last) heard.waits
-      (every-both (is_off b) (λ z. not (is_request_across b heard z)) (λ z. is_off b z && not (is_request_across b heard z)) (λ z x y. and_from _ _ x y) heard.waits one two) three
+      every-both (λ z. (is_off b z && not (is_request_across b heard z)) && not (is_receive_across b heard z)) (λ z. is_clear heard (is_made_on b) z && is_clear heard (is_across heard b) z) (is_free_of heard b)
+      (λ z here last. together (is_receiver b z) (is_request_on b z) (is_request_across b heard z) (is_receive_across b heard z) (is_event z) (is_marked heard z) (is_made_on b z) (is_across heard b z) here last) heard.waits
+      (every-both (λ z. is_off b z && not (is_request_across b heard z)) (λ z. not (is_receive_across b heard z)) _ (λ z x y. and_from _ _ x y) heard.waits
+      (every-both (is_off b) (λ z. not (is_request_across b heard z)) (λ z. is_off b z && not (is_request_across b heard z)) (λ z x y. and_from _ _ x y) heard.waits one two) three) heard-clear
     where
-      together : (r q a c : Bool) → ((not r && not q) && not a) ≡ true → not c ≡ true → (not r && (not q && (not a && not c))) ≡ true
-      together r q a c one two = grind arith
+      together : (r q a c e m d x : Bool) → (((not r && not q) && not a) && not c) ≡ true → ((not (e && d) || m) && (not (e && x) || m)) ≡ true → (not r && (not q && (not a && (not c && (not ((e && not m) && d) && not ((e && not m) && x)))))) ≡ true
+      together r q a c e m d x one two = grind arith
 
   pub cut-off : IsCutOff w (behind (cut_pair b) w) b
   cut-off =
       let same : behind (cut_pair b) w ≡ parted heard b = cut-parts b w ∙ (sym (after-append heard (each end_accepted (which (is_accepted_across b heard) heard.waits)) (Cuts b ∷ [])) ∙ parted-world heard b) in
       subst (λ v. IsCutOff w v b) (sym same) (record {
         sound = sound-parted heard b heard-free heard-less.sound;
-        waits = λ f all. kept f (heard-less.waits f (asked-less.waits f all));
+        waits = λ f all. kept f (heard-less.waits f (marked-less.waits f (asked-less.waits f all)));
         none = every-more (λ z. not (is_accepted_across b heard z)) (λ z. not (is_accepted z && is_made_on b z)) (λ z is. made (is_accepted z) (is_made_on b z) (is_the b (pair_of heard z.port)) is) (parted heard b).waits (none-accepted heard b);
       })
     where
@@ -177,6 +211,7 @@ none-waits w n none = every-more (λ z. not (waits_as n z)) (is_quiet n) (λ z i
 -- a thread that waits in an accepted connect goes before its client port is cut as it does behind
 pub record IsParting (w : World) (n : ℕ) (b : Birth) : Type 0 where
   pub off : every (is_off b) w.waits ≡ true
+  pub clear : every (is_clear w (is_made_on b)) w.waits ≡ true
   pub same : behind (cut_pair b) (gone n w) ≡ showing (others_left n b (received_across b w)) (gone n (behind (cut_pair b) w))
 
 pub parting : (w : World) (n : ℕ) (x : WaitRow) → wait_of w n ≡ Some x → is_accepted x ≡ true → HasShutConnects w → IsSoundWorld w → IsParting w n x.port
@@ -184,27 +219,34 @@ parting w n x found is shut s =
     let b = x.port in
     let closed = apart-second (is_connect x) (is_open w b) (connects x is) (every-first (λ x. not (is_connect x && is_open w x.port)) (waits_as n) w.waits x shut found) in
     let off = every-more (is_sound_wait w) (is_off b) (shut-off w b closed) w.waits s.waits in
-    let less = asked-less w b off s in
+    let clear = every-more (is_sound_wait w) (is_clear w (is_made_on b)) (shut-clear w b closed) w.waits s.waits in
+    let less = asked-less w b off clear s in
+    let marked = marked-less w b off clear s in
     let its = its-waits w n x is_accepted s.once found is in
+    let asked_its = less.waits (λ z. not (waits_as n z) || is_accepted z) its in
     record {
       off = off;
-      same = gone-cut n b w (every-more _ _ (λ z one. no-request w b n z one) w.waits its) (every-more _ _ (λ z one. no-receive (asked_across b w) b n z one) (asked_across b w).waits (less.waits (λ z. not (waits_as n z) || is_accepted z) its));
+      clear = clear;
+      same = gone-cut n b w (every-more _ _ (λ z one. no-request w b n z one) w.waits its) (every-more _ _ (λ z one. no-event n z one) (asked_across b w).waits asked_its) (every-more _ _ (λ z one. no-receive (marked_across b w) b n z one) (marked_across b w).waits (marked.waits (λ z. not (waits_as n z) || is_accepted z) asked_its));
     }
   where
     connects : (x : WaitRow) → is_accepted x ≡ true → is_connect x ≡ true
     connects x is = grind arith
 
     no-request : (w : World) (b : Birth) (n : ℕ) (z : WaitRow) → (not (waits_as n z) || is_accepted z) ≡ true → (not (waits_as n z) || not (is_request_across b w z)) ≡ true
-    no-request w b n = by_kind (λ z. (not (waits_as n z) || is_accepted z) ≡ true → (not (waits_as n z) || not (is_request_across b w z)) ≡ true) (λ z m is. grind arith) (λ z is. grind arith) (λ z is. grind arith) (λ z m offer is. grind arith) (λ z m r is. grind arith)
+    no-request w b n = by_kind (λ z. (not (waits_as n z) || is_accepted z) ≡ true → (not (waits_as n z) || not (is_request_across b w z)) ≡ true) (λ z m is. grind arith) (λ z is. grind arith) (λ z is. grind arith) (λ z m offer is. grind arith) (λ z m r is. grind arith) (λ z m is. grind arith)
+
+    no-event : (n : ℕ) (z : WaitRow) → (not (waits_as n z) || is_accepted z) ≡ true → is_eventless n z ≡ true
+    no-event n = by_kind (λ z. (not (waits_as n z) || is_accepted z) ≡ true → is_eventless n z ≡ true) (λ z m is. grind arith) (λ z is. grind arith) (λ z is. grind arith) (λ z m is. grind arith) (λ z m r is. grind arith) (λ z r is. grind arith)
 
     no-receive : (w : World) (b : Birth) (n : ℕ) (z : WaitRow) → (not (waits_as n z) || is_accepted z) ≡ true → (not (waits_as n z) || not (is_receive_across b w z)) ≡ true
-    no-receive w b n = by_kind (λ z. (not (waits_as n z) || is_accepted z) ≡ true → (not (waits_as n z) || not (is_receive_across b w z)) ≡ true) (λ z m is. grind arith) (λ z is. grind arith) (λ z is. grind arith) (λ z m offer is. grind arith) (λ z m r is. grind arith)
+    no-receive w b n = by_kind (λ z. (not (waits_as n z) || is_accepted z) ≡ true → (not (waits_as n z) || not (is_receive_across b w z)) ≡ true) (λ z m is. grind arith) (λ z is. grind arith) (λ z is. grind arith) (λ z m offer is. grind arith) (λ z m r is. grind arith) (λ z m is. grind arith)
 
 accepted-sound : (w : World) (n : ℕ) (x : WaitRow) → wait_of w n ≡ Some x → is_accepted x ≡ true → HasShutConnects w → IsSoundWorld w → IsSoundWorld (behind (cut_pair x.port) (gone n w))
 accepted-sound w n x found is shut s =
     let b = x.port in
     let p = parting w n x found is shut s in
-    let c = cut-off w b p.off s in
+    let c = cut-off w b p.off p.clear s in
     let here = its-waits w n x (λ z. is_made_on b z) s.once found (birth-self b) in
     subst IsSoundWorld (sym p.same) (sound-memory (gone n (behind (cut_pair b) w)) _ _ _ (gone-sound n (behind (cut_pair b) w) (every-both (λ z. not (waits_as n z) || is_made_on b z) (λ z. not (is_accepted z && is_made_on b z)) (is_quiet n) (λ z one two. quiet _ _ _ one two) (behind (cut_pair b) w).waits (c.waits (λ z. not (waits_as n z) || is_made_on b z) here) c.none) c.sound))
   where

@@ -8,7 +8,7 @@ use Rattle.lpc_base.proofs.RowMaps.{every-both}
 use Rattle.lpc_base.proofs.Bools.{apart-second}
 use Rattle.lpc_model.specs.declared.entry.ObjectKind.TheVariants as kind
 use Rattle.lpc_model.specs.World.{Birth, ObjectKind, ObjectName, PortRow, ThreadRow, World}
-use Rattle.lpc_model.specs.Found.{all_registrations, all_views, handle_count, holders, is_connected_to, is_owned_by, is_port, lives_by, is_life, is_live_thread, is_made_on, is_paired_to, live_thread, pointer_count, registered_by, same_birth, was_thread}
+use Rattle.lpc_model.specs.Found.{all_registrations, all_views, handle_count, holders, is_connected_to, is_owned_by, is_port, lives_by, is_life, is_live_thread, is_made_on, is_paired_to, live_thread, pointer_count, registered_by, same_birth, was_thread, event_ports, event_ports_of}
 use Rattle.lpc_model.specs.Basics.{Frees, basic, freed, world_after}
 use Rattle.lpc_model.specs.Sweep.{free_unheld, is_unheld, sweep, unheld}
 use Rattle.lpc_model.specs.SoundWaits.{IsSoundWorld, has_home}
@@ -71,6 +71,7 @@ thread-freed w b off s =
       clients = λ c is. rw (same c.thread) is;
       opens = λ b is. is;
       messages = refl;
+      marks = refl;
     }) (λ b own. port-kept w v b own (λ b is. is) (λ p at. stands-same v b own p at)) refl (record {
       tables = s.tables;
       unused = s.unused;
@@ -92,7 +93,7 @@ freed-sound w o none s = at o.kind (is-zero (pointer_count w o) none)
     at kind.Port few =
         let paired = count (is_paired_to b) w.ports in
         let connected = count (is_connected_to b) w.ports in
-        let held : paired + (connected + (count (λ m. same_birth m.sender b) w.messages + (count (is_made_on b) w.waits + (count (same_birth b) (all_registrations w) + count (is_owned_by b) (all_views w))))) ≤ 0 = sum-second _ _ few in
+        let held : paired + (connected + (count (λ m. same_birth m.sender b) w.messages + (count (is_made_on b) w.waits + (count (same_birth b) (all_registrations w) + (count (is_owned_by b) (all_views w) + count (same_birth b) (event_ports w)))))) ≤ 0 = sum-second _ _ few in
         let waits = none-pass (is_made_on b) w.waits (omega (arith, held)) in
         let one = none-pass (is_paired_to b) w.ports (omega (arith, held)) in
         let two = none-pass (is_connected_to b) w.ports (omega (arith, held)) in
@@ -120,8 +121,11 @@ still-lives w b c t is = at t.live is
 less : (a b c d e f : ℕ) → a ≤ d → b ≤ e → a + (b + (c + f)) ≤ d + (e + (c + f))
 less a b c d e f one two = omega (arith, one, two)
 
-last-less : (a b c d e f g : ℕ) → f ≤ e → a + (b + (c + (d + (f + g)))) ≤ a + (b + (c + (d + (e + g))))
-last-less a b c d e f g is = omega (arith, is)
+last-less : (a b c d e f g h : ℕ) → f ≤ e → a + (b + (c + (d + (f + (g + h))))) ≤ a + (b + (c + (d + (e + (g + h)))))
+last-less a b c d e f g h is = omega (arith, is)
+
+ports-less : (a b c d g h e f : ℕ) → f ≤ e → a + (b + (c + (d + (g + (h + f))))) ≤ a + (b + (c + (d + (g + (h + e)))))
+ports-less a b c d g h e f is = omega (arith, is)
 
 fewer-holders : (w : World) (g k : ObjectKind) (c b : Birth) → holders (freed w g c) k b ≤ holders w k b
 fewer-holders w kind.Port k c b = at k
@@ -134,12 +138,15 @@ fewer-holders w kind.Token k c b = omega arith
 fewer-holders w kind.Process k c b = at k
   where
     at : (k : ObjectKind) → holders (freed w kind.Process c) k b ≤ holders w k b
+    at kind.Port = ports-less _ _ _ _ _ _ _ _ (fewer-each (same_birth b) event_ports_of (λ p. same_birth p.birth c) w.processes)
     at kind.Process = fewer-pass (lives_by (freed w kind.Process c) b) (lives_by w b) (still-lives w b c) w.threads
-    at b = omega arith
+    at kind.Section = omega arith
+    at kind.Token = omega arith
+    at kind.Thread = omega arith
 fewer-holders w kind.Thread k c b = at k
   where
     at : (k : ObjectKind) → holders (freed w kind.Thread c) k b ≤ holders w k b
-    at kind.Port = last-less _ _ _ _ _ _ (count (is_owned_by b) (all_views w)) (fewer-each (same_birth b) registered_by (λ t. same_birth t.birth c) w.threads)
+    at kind.Port = last-less _ _ _ _ _ _ (count (is_owned_by b) (all_views w)) _ (fewer-each (same_birth b) registered_by (λ t. same_birth t.birth c) w.threads)
     at kind.Section = omega arith
     at kind.Token = omega arith
     at kind.Process = count-left (lives_by w b) (λ t. same_birth t.birth c) w.threads

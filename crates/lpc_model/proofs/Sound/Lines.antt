@@ -1,37 +1,38 @@
 -- The step of each line leaves sound waits behind, and so does each line of a script.
 use Rattle.lpc_base.proofs.RowMaps.{every-first}
 use Rattle.lpc_base.proofs.RowWords.{first-passes, has-push}
-use Rattle.lpc_base.specs.Rows.{first, has}
+use Rattle.lpc_base.specs.Rows.{first, has, change}
 use Rattle.lpc_base.specs.declared.port_kind.PortKind.TheVariants.{Connection, Unnamed}
 use Rattle.lpc_message.specs.declared.kind.TheConstants.{DATAGRAM}
 use Rattle.lpc_model.proofs.Calls.Creating.{process-keeps, threaded}
 use Rattle.lpc_model.proofs.Steps.Ending.{world-ends}
 use Rattle.lpc_model.proofs.Steps.Handles.{open-new}
 use Rattle.lpc_model.proofs.Calls.Holding.{holds_ok}
-use Rattle.lpc_model.proofs.Calls.Lines.{IsCalled, Keep, LineLaw, line-does, step-keeps}
+use Rattle.lpc_model.proofs.Calls.Lines.{IsCalled, Keep, LineLaw, line-does}
 use Rattle.lpc_model.proofs.Calls.Outcomes.{Outcomes}
 use Rattle.lpc_model.proofs.Sound.Worlds.{sound-memory, sound-tokens}
-use Rattle.lpc_model.proofs.Sound.Basics.{sound-binds, sound-handle, sound-identifier, sound-ordinal, sound-process, sound-registers, sound-thread, sound-acts}
+use Rattle.lpc_model.proofs.Sound.Basics.{sound-binds, sound-handle, sound-identifier, sound-ordinal, sound-process, sound-registers, sound-thread, sound-acts, sound-processes}
 use Rattle.lpc_model.proofs.Sound.Calls.{LeaveSound, entered-sound, listened-sound, listening-sound, requested-sound}
 use Rattle.lpc_model.proofs.Sound.Close.{close_handle-sound, found-value}
 use Rattle.lpc_model.proofs.Sound.Connect.{accepted-sound, completed-sound, connected-sound, created-sound, refused-sound}
-use Rattle.lpc_model.proofs.Sound.Frees.{swept-sound}
+use Rattle.lpc_model.proofs.Sound.Raise.{sent-sound, set-sound}
+use Rattle.lpc_model.proofs.Calls.Raising.{heard-routed}
 use Rattle.lpc_model.proofs.Sound.Reply.{IsReplied, received-sound, receiving-sound, replied, replied-sound}
 use Rattle.lpc_model.proofs.Sound.Terminate.{end-sound}
 use Rattle.lpc_model.proofs.Calls.Tested.{CanComplete, CanWait, can-complete, can-wait, name-open, named-wait, send-routed}
 use Rattle.lpc_model.proofs.Calls.Usable.{HasRoute, IsUsable, port-usable}
-use Rattle.lpc_model.specs.Basics.{AddsProcess, AddsThread, DrawsIdentifier, DrawsOrdinal, basic, no_handles, AddsSection, AddsToken, world_after}
+use Rattle.lpc_model.specs.Basics.{AddsProcess, AddsThread, DrawsIdentifier, DrawsOrdinal, basic, no_handles, AddsSection, AddsToken, world_after, doomed}
 use Rattle.lpc_model.specs.Connect.{ConnectAnswer, answer_test, complete_test, names_connect, connection_request, connect_steps, create_steps, named_steps}
 use Rattle.lpc_model.specs.Counts.{asked}
 use Rattle.lpc_model.specs.Creation.{second_birth}
 use Rattle.lpc_model.specs.Entering.{row_of}
-use Rattle.lpc_model.specs.Found.{free_handle, is_live, is_open, is_table, lives_in, thread_name, was_process, was_thread, section_name, acting_token, token_name, token_of}
+use Rattle.lpc_model.specs.Found.{free_handle, is_live, is_open, is_table, lives_in, thread_name, was_process, was_thread, section_name, acting_token, token_name, token_of, is_process}
 use Rattle.lpc_model.specs.Lines.{ScriptLine}
 use Rattle.lpc_model.specs.Memory.{SECTION_ACCESS, new_section}
-use Rattle.lpc_model.specs.Machine.{bare_steps, directive_birth, new_process, new_thread}
+use Rattle.lpc_model.specs.Machine.{directive_birth, new_process, new_thread, own_steps}
 use Rattle.lpc_model.specs.Named.{named_port}
 use Rattle.lpc_model.specs.Request.{Sendable, given_reply, receive_test, send_test, sent_by}
-use Rattle.lpc_model.specs.SoundWaits.{HasShutConnects, HasSoundWaits, IsSoundWorld, StepsStaySound, has_home}
+use Rattle.lpc_model.specs.SoundWaits.{HasShutConnects, HasSoundWaits, IsSoundWorld, has_home}
 use Rattle.lpc_model.specs.Targets.{LIFE_ACCESS}
 use Rattle.lpc_model.specs.Tests.{PORT_ACCESS, next_birth, port_test}
 use Rattle.lpc_model.specs.World.{Birth, ProcessRow, ThreadRow, World, no_rows, Effective, CallName}
@@ -109,6 +110,10 @@ sound-calls by w is = record {
   opens_own = λ own at s. token-sound NtOpenThreadToken (held_content own) s;
   opens_primary = λ s. token-sound NtOpenProcessToken (process_content w by) s;
   asks_token = λ handle class t field at told s. s;
+  sets = λ target class handle pid port at found live s. set-sound w class pid port.birth s;
+  handles = λ code handled s. s;
+  hears = λ code handled h at s. let c = is.can in sent-sound w by code handled h s c.client c.idle (let heard = heard-routed w by.process at.chance h at.found in heard.route);
+  fails = λ code handled s. sound-processes w (change (is_process by.process) (doomed code) w.processes) s;
   ends = λ call name own pid code ts doomed s. world-ends IsSoundWorld w by name own pid code ts (end-sound pid code ts w s is.known);
 }
   where
@@ -132,8 +137,8 @@ sound-lines = record {
   links = λ w text target path to free _. sound-binds w path (LinkTo to) refl;
 }
 
--- before rows go
-pub line-sound : (w : World) (line : ScriptLine) → IsSoundWorld w → HasShutConnects w → LeaveSound w (bare_steps line w)
+-- before the world settles
+pub line-sound : (w : World) (line : ScriptLine) → IsSoundWorld w → HasShutConnects w → LeaveSound w (own_steps line w)
 line-sound w line s shut = line-does HasShutConnects (λ _. Keep IsSoundWorld) sound-lines w s shut line s
 
 -- the world before the first line is sound
@@ -152,10 +157,6 @@ sound_none = record {
   numbers = refl;
   makers = refl;
 }
-
--- the step of a line keeps a world sound
-pub sound_step : StepsStaySound
-sound_step w line s shut = step-keeps HasShutConnects IsSoundWorld sound-lines swept-sound w line s shut s
 
 -- a sound world has sound waits
 pub sound_waits : (w : World) → IsSoundWorld w → HasSoundWaits w

@@ -6,7 +6,7 @@ use Rattle.lpc_base.specs.Rows.{every, has, passes}
 use Rattle.lpc_base.proofs.RowWords.{every-more, every-without, first-passes}
 use Rattle.lpc_base.proofs.RowMaps.{every-both, every-change_to, every-map}
 use Rattle.lpc_base.proofs.Births.{birth-same}
-use Rattle.lpc_model.specs.World.{Acceptance, Accepted, Birth, Listen, PortRow, Receive, Request, WaitRow, World, Security}
+use Rattle.lpc_model.specs.World.{Acceptance, Accepted, Birth, Listen, PortRow, Receive, Request, WaitRow, World, Security, Event}
 use Rattle.lpc_model.specs.Found.{is_made_on, is_open, is_port, port_name, pair_of, port_row, same_birth, waits_as, was_thread}
 use Rattle.lpc_model.specs.Basics.{Accepts, Completes, Frees, Joins, accepted, basic, completed, joined, paired, Secures, secured}
 use Rattle.lpc_model.specs.Tests.{is_client}
@@ -41,6 +41,7 @@ sound-completes w c s =
       clients = λ c is. is;
       opens = λ b is. is;
       messages = refl;
+      marks = refl;
     }) (λ b own. port-kept w v b own (λ b is. is) (λ p at. record {
       row = cond (is_port c p) (completed p) p;
       at = first-map (is_port b) (λ p. cond (is_port c p) (completed p) p) (λ p. same-port b p (cond (is_port c p) (completed p) p) (completed-birth (is_port c p) p)) w.ports p at;
@@ -61,6 +62,7 @@ sound-secures w c y s =
       clients = λ c is. is;
       opens = λ b is. is;
       messages = refl;
+      marks = refl;
     }) (λ b own. port-kept w v b own (λ b is. is) (λ p at. record {
       row = cond (is_port c p) (secured y p) p;
       at = first-map (is_port b) (λ p. cond (is_port c p) (secured y p) p) (λ p. same-port b p (cond (is_port c p) (secured y p) p) (secured-birth y (is_port c p) p)) w.ports p at;
@@ -132,6 +134,7 @@ kept-joined w client server context opens x off is =
       clients = λ c is. is;
       opens = λ b is. is;
       messages = refl;
+      marks = refl;
     }) x (joined-keeps w client server context opens x off) is
 
 accepted-parts : (c q s t u : Bool) → ((c && q) && s) ≡ true → u ≡ true → (s ≡ true → t ≡ true) → ((c && u) && t) ≡ true
@@ -156,6 +159,7 @@ now-accepted w client server context reply opens =
     let keeps = joined-keeps w client server context opens x off in
     let still = keeps.stands (client-stands w x own) in grind arith))
     (λ x m reply here off is. kept-joined w client server context opens (record x { kind = Accepted m reply }) off is)
+    (λ x m here off is. kept-joined w client server context opens (record x { kind = Event m }) off is)
 
 known-parts : (s a b p : Bool) → (s && (not a && (not b || p))) ≡ true → (s ≡ true) × (a ≡ false) × (b ≡ true → p ≡ true)
 known-parts true false b p is = (refl, refl, λ one. grind arith)
@@ -187,6 +191,7 @@ kept-freed w b x is off =
       clients = λ c is. is;
       opens = λ b is. is;
       messages = refl;
+      marks = refl;
     }) x (freed-keeps w b x (grind arith)) is
 
 pub sound-frees : (w : World) (b : Birth) → every (λ x. not (is_made_on b x)) w.waits ≡ true → every (λ p. not (is_joined_to b p)) w.ports ≡ true → IsSoundWorld w → IsSoundWorld (basic w (Frees (port_name b)))

@@ -7,16 +7,16 @@ use Rattle.lpc_base.specs.declared.status.TheConstants.{SUCCESS}
 use Rattle.lpc_base.proofs.RowWords.{every-change, every-more, first-passes, has-kept, has_none-more, has_none-push, has_none-without_first}
 use Rattle.lpc_base.proofs.RowMaps.{every-both, every-first, every-map, every-none}
 use Rattle.lpc_base.proofs.Births.{birth-self, birth-turned}
-use Rattle.lpc_model.specs.World.{Accepted, Birth, Connect, Listen, MessageRow, Receive, Request, WaitKind, WaitRow, World}
+use Rattle.lpc_model.specs.World.{Accepted, Birth, Connect, Event, Listen, MessageRow, Receive, Request, WaitKind, WaitRow, World}
 use Rattle.lpc_model.specs.Found.{is_accepted, is_queued, is_queued_connect, same_birth, waits_as, waits_at}
 use Rattle.lpc_model.specs.Message.{asks, is_connection_request}
 use Rattle.lpc_model.specs.Basics.{Basic, Enters, Receives, basic, received, world_after}
 use Rattle.lpc_model.specs.Entering.{enter, given_steps, received_steps, shown, take_connect_steps, take_steps, takes, woken}
 use Rattle.lpc_model.specs.Tests.{is_client}
-use Rattle.lpc_model.specs.SoundWaits.{IsSoundWorld, can_stay_sound, has_client_port, is_answerable, is_message_of, is_sound_accepted, is_sound_connect, is_sound_listen, is_sound_receive, is_sound_request, waiter_of}
+use Rattle.lpc_model.specs.SoundWaits.{IsSoundWorld, can_stay_sound, has_client_port, is_message_of, is_sound_accepted, is_sound_connect, is_sound_listen, is_sound_receive, is_sound_request, waiter_of, is_sound_event}
 use Rattle.lpc_model.proofs.Steps.Rows.{count-change, has-append, has-without_first, lone, without_first-push}
 use Rattle.lpc_model.proofs.Sound.Pairs.{IsTied, is_quiet, tied-changed, tied-of}
-use Rattle.lpc_model.proofs.Sound.Worlds.{InOrder, WaitOnce, by_kind, is_sure, order-of, sound-from, sure-waits}
+use Rattle.lpc_model.proofs.Sound.Worlds.{InOrder, WaitOnce, by_kind, is_sure, order-of, sound-from, sure-waits, exempt, is_sure_request}
 use Rattle.lpc_model.proofs.Sound.Basics.{sound-wakes-quiet}
 use Rattle.lpc_model.proofs.Steps.InTurn.{after-append}
 
@@ -39,10 +39,7 @@ sound-marked w false who q all once t ties = sound-from w all once t ties
 other-message : (x : WaitRow) (m : MessageRow) → (asks m.message && waits_at m.message.header.client.thread m.queue x) ≡ false → is_message_of x m ≡ false
 other-message x m off = let same : same_birth m.queue x.queue ≡ same_birth x.queue m.queue = birth-turned m.queue x.queue in grind arith
 
--- the waits of each kind among sound ones
-abbrev pub is_sure_request : World → WaitRow → Bool
-is_sure_request w x = (is_client w (waiter_of x) && is_sound_request w x) && is_answerable w x
-
+-- the waits of the other kinds among sound ones
 abbrev pub is_sure_receive : World → WaitRow → Bool
 is_sure_receive w x = (is_client w (waiter_of x) && is_sound_receive w x) && true
 
@@ -104,6 +101,9 @@ taken-sure w test m at =
     (λ _. connected-sure w rest x is)
     (λ off. connect-sure w rest x (has-without_first (is_message_of x) test w.messages m at (other-message x m off)) is))
     (λ x r reply is. marked-case (λ y. is_sure v y ≡ true) (mark x) (record x { kind = Accepted r reply }) (λ _. is) (λ _. is))
+    (λ x r is. marked-case (λ y. is_sure v y ≡ true) (mark x) (record x { kind = Event r })
+    (λ _. exempt w v x (received x) (λ one. one) (λ one. one) (received-sure w rest x) is)
+    (λ off. exempt w v x x (λ one. one) (λ one. one) (request-sure w rest x (has-without_first (is_message_of x) test w.messages m at (other-message x m off))) is))
 
 sound-taken : (w : World) (test : MessageRow → Bool) (m : MessageRow) → first test w.messages ≡ Some m → IsSoundWorld w → IsSoundWorld (world_after (with_messages w (without_first test w.messages)) (received_steps m))
 sound-taken w test m at s =
@@ -125,6 +125,7 @@ is_ready_as w m x Receive = is_sound_receive w x
 is_ready_as w m x Listen = is_sound_listen w x
 is_ready_as w m x (Connect r offer) = is_sound_connect (basic w (Enters m)) x
 is_ready_as w m x (Accepted r reply) = is_sound_accepted w x
+is_ready_as w m x (Event r) = is_sound_event (basic w (Enters m)) x
 
 abbrev pub is_ready : World → MessageRow → WaitRow → Bool
 is_ready w m x = (is_client w (waiter_of x) && is_ready_as w m x x.kind) && can_stay_sound w x
@@ -137,6 +138,7 @@ ready-sure w m =
     (λ x is. is)
     (λ x r offer is. connect-sure w (w.messages ++ m ∷ []) x (has-kept (is_message_of x) w.messages m) is)
     (λ x r reply is. is)
+    (λ x r is. exempt w (basic w (Enters m)) x x (λ one. one) (λ one. one) (request-sure w (w.messages ++ m ∷ []) x (has-kept (is_message_of x) w.messages m)) is)
 
 -- where no waiter takes it
 none-entered : (w : World) (m : MessageRow) (x : WaitRow) → not (takes m x) ≡ true → has (λ n. takes n x) w.messages ≡ false → has (λ n. takes n x) (w.messages ++ m ∷ []) ≡ false
@@ -150,6 +152,7 @@ entered-sure w m =
     (λ x is off. listen-sure w (w.messages ++ m ∷ []) (record x { kind = Listen }) (none-entered w m (record x { kind = Listen }) off) is)
     (λ x r offer is off. is)
     (λ x r reply is off. is)
+    (λ x r is off. is)
 
 -- where one does, its queue held nothing that it would take
 other-queue : (q r s : Birth) → same_birth q r ≡ true → same_birth q s ≡ false → same_birth s r ≡ false
@@ -181,6 +184,9 @@ given-sure w m =
     (λ _. connected-sure (basic w (Enters m)) w.messages x is)
     (λ off. connect-sure (basic w (Enters m)) w.messages x (λ one. not-entered w m x (other-message x m off) one) is))
     (λ x r reply is. marked-case (λ y. is_sure w y ≡ true) (mark x) (record x { kind = Accepted r reply }) (λ _. is) (λ _. is))
+    (λ x r is. marked-case (λ y. is_sure w y ≡ true) (mark x) (record x { kind = Event r })
+    (λ _. exempt (basic w (Enters m)) w x (received x) (λ one. one) (λ one. one) (received-sure (basic w (Enters m)) w.messages x) is)
+    (λ off. exempt (basic w (Enters m)) w x x (λ one. one) (λ one. one) (request-sure (basic w (Enters m)) w.messages x (λ one. not-entered w m x (other-message x m off) one)) is))
 
 -- the message that has just entered is taken again, where nothing else passes the test by which it is taken
 world-taken : (w : World) (test : MessageRow → Bool) (m : MessageRow) → has test w.messages ≡ false → test m ≡ true → with_messages w (without_first test (w.messages ++ m ∷ [])) ≡ w
@@ -224,6 +230,7 @@ sound-given w m all once t ties =
     subst (λ v. IsSoundWorld (world_after v (received_steps m ++ waking ∷ []))) (sym (world-taken w (is_queued_connect m.queue) m none own)) back)
     (λ x r offer is quiet here. absurd (cc))
     (λ x r reply is quiet here. absurd (cc))
+    (λ x r is quiet here. absurd (cc))
 
 -- a wait that takes a message is no accepted connect, and its thread waits for nothing else
 taker-quiet : (m : MessageRow) (x : WaitRow) → takes m x ≡ true → not (is_accepted x) ≡ true
@@ -234,6 +241,7 @@ taker-quiet m =
     (λ x here. refl)
     (λ x r offer here. refl)
     (λ x r reply here. absurd (cc))
+    (λ x r here. refl)
 
 pub lone-quiet : (waits : List WaitRow) (test : WaitRow → Bool) (x : WaitRow) → WaitOnce waits → first test waits ≡ Some x → not (is_accepted x) ≡ true → every (is_quiet x.thread) waits ≡ true
 lone-quiet waits test x once at quiet =

@@ -2,7 +2,7 @@
 use Rattle.lpc_base.proofs.Births.{birth-same, births-apart}
 use Rattle.lpc_base.proofs.RowWords.{first-passes, has_none-more}
 use Rattle.lpc_base.specs.Rows.{every, first, has, passes, without}
-use Rattle.lpc_base.specs.declared.status.TheConstants.{REPLY_MESSAGE_MISMATCH, SUCCESS}
+use Rattle.lpc_base.specs.declared.status.TheConstants.{DBG_CONTINUE, REPLY_MESSAGE_MISMATCH, SUCCESS}
 use Rattle.lpc_model.proofs.Calls.Holding.{Holds, bind_holds, found_holds, holds_ok}
 use Rattle.lpc_model.proofs.Steps.Rows.{first-less, has-none}
 use Rattle.lpc_model.proofs.Sound.Basics.{sound-awaits, sound-wakes-quiet}
@@ -13,50 +13,83 @@ use Rattle.lpc_model.proofs.Sound.Worlds.{by_kind, is_sure}
 use Rattle.lpc_model.proofs.Steps.InTurn.{after-append}
 use Rattle.lpc_model.proofs.Calls.Tested.{CanWait}
 use Rattle.lpc_model.proofs.Calls.Usable.{CanCall}
-use Rattle.lpc_model.specs.Basics.{Awaits, Basic, basic, world_after}
-use Rattle.lpc_model.specs.Entering.{take_steps, takes}
+use Rattle.lpc_model.specs.Basics.{Awaits, Basic, Marks, Wakes, basic, world_after}
+use Rattle.lpc_model.specs.Entering.{take_steps, takes, woken}
+use Rattle.lpc_base.specs.declared.status.Status.{Status}
+use Rattle.lpc_model.specs.declared.entry.Field.{Field}
+use Rattle.lpc_model.proofs.Sound.Less.{less-marks}
+use Rattle.std.specs.Prelude.{if◌then◌else◌}
 use Rattle.lpc_model.specs.Fields.{msg}
-use Rattle.lpc_model.specs.Found.{fits, fitted, is_accepted, is_open, is_queued, is_request, port_row, same_birth, wait_of, waits_as}
+use Rattle.lpc_model.specs.Found.{fits, fitted, is_accepted, is_asking, is_mark, is_open, is_queued, port_row, same_birth, wait_of, waits_as, is_event}
 use Rattle.lpc_model.specs.Message.{as_reply}
-use Rattle.lpc_model.specs.Request.{given_reply, receive_steps, receive_wait, reply, reply_test}
+use Rattle.lpc_model.specs.Request.{given_reply, receive_steps, receive_wait, reply, reply_test, handles_event}
 use Rattle.lpc_model.specs.SoundWaits.{IsSoundWorld, is_joined}
 use Rattle.lpc_model.specs.Tests.{client_of, client_test, is_client}
 use Rattle.lpc_model.specs.World.{Birth, Message, MessageRow, PortRow, ThreadRow, WaitRow, World}
-use Rattle.std.proofs.Common.{Bool, List, [], ap, arith, false, not, refl, subst, sym, true, ℕ, ◌∷◌, ◌≡◌}
+use Rattle.std.proofs.Common.{Bool, List, [], ap, arith, false, not, refl, subst, sym, true, ℕ, ◌++◌, ◌∷◌, ◌≡◌}
 use Rattle.std.specs.Prelude.{None, Ok, Option, Some, ◌&&◌}
 
 -- Replies
 -- the request that a reply answers is no accepted connect
-request-quiet : (x : WaitRow) → is_request x ≡ true → not (is_accepted x) ≡ true
-request-quiet = by_kind (λ x. is_request x ≡ true → not (is_accepted x) ≡ true) (λ x m is. refl) (λ x is. refl) (λ x is. refl) (λ x m offer is. refl) (λ x m reply is. absurd (cc))
+asking-quiet : (x : WaitRow) → is_asking x ≡ true → not (is_accepted x) ≡ true
+asking-quiet = by_kind (λ x. is_asking x ≡ true → not (is_accepted x) ≡ true) (λ x m is. refl) (λ x is. refl) (λ x is. refl) (λ x m offer is. refl) (λ x m reply is. absurd (cc)) (λ x m is. refl)
 
-pub fits-request : (w : World) (port : Birth) (m : Message) (x : WaitRow) → fits w port m x ≡ true → is_request x ≡ true
-fits-request w port m x is = grind arith
+pub fits-asking : (w : World) (port : Birth) (m : Message) (x : WaitRow) → fits w port m x ≡ true → is_asking x ≡ true
+fits-asking w port m x is = grind arith
 
 answered-quiet : (w : World) (port : PortRow) (m : Message) → IsSoundWorld w → Holds (λ (x : WaitRow). every (is_quiet x.thread) w.waits ≡ true) (reply_test w port m)
 answered-quiet w port m s =
     let P : WaitRow → Type 0 = λ x. every (is_quiet x.thread) w.waits ≡ true in
     bind_holds (client_test w m.header.client) _ P (λ _ _.
     found_holds P (fitted w port.birth m) REPLY_MESSAGE_MISMATCH (λ x at.
-    lone-quiet w.waits (fits w port.birth m) x s.once at (request-quiet x (fits-request w port.birth m x (first-passes (fits w port.birth m) w.waits x at)))))
+    lone-quiet w.waits (fits w port.birth m) x s.once at (asking-quiet x (fits-asking w port.birth m x (first-passes (fits w port.birth m) w.waits x at)))))
+
+-- a reply wakes its thread, or marks its event
+pub reply-holds : (P : Basic → Type 0) (x : WaitRow) (m : Message) → ((status : Status) (fields : List Field) → P (Wakes x.thread x.call status fields)) → P (Marks x.thread) → P (reply x m)
+reply-holds P x m wakes marks =
+    by_kind (λ x. ((status : Status) (fields : List Field) → P (Wakes x.thread x.call status fields)) → P (Marks x.thread) → P (reply x m))
+    (λ x r wakes marks. wakes _ _) (λ x wakes marks. wakes _ _) (λ x wakes marks. wakes _ _) (λ x r offer wakes marks. wakes _ _) (λ x r given wakes marks. wakes _ _)
+    (λ x r wakes marks. at x (handles_event m) wakes marks) x wakes marks
+  where
+    at : (x : WaitRow) (h : Bool) → ((status : Status) (fields : List Field) → P (Wakes x.thread x.call status fields)) → P (Marks x.thread) → P (if h then woken DBG_CONTINUE [] x else Marks x.thread)
+    at x true wakes marks = wakes _ _
+    at x false wakes marks = marks
+
+pub reply-cases : (P : Basic → Type 0) (x : WaitRow) (m : Message) → P (woken SUCCESS (msg (as_reply m) ∷ []) x) → P (woken DBG_CONTINUE [] x) → (is_event x ≡ true → P (Marks x.thread)) → P (reply x m)
+reply-cases P x m request event marks =
+    by_kind (λ x. P (woken SUCCESS (msg (as_reply m) ∷ []) x) → P (woken DBG_CONTINUE [] x) → (is_event x ≡ true → P (Marks x.thread)) → P (reply x m))
+    (λ x r one two three. one) (λ x one two three. one) (λ x one two three. one) (λ x r offer one two three. one) (λ x r given one two three. one) (λ x r one two three. at x (handles_event m) two (three refl)) x request event marks
+  where
+    at : (x : WaitRow) (h : Bool) → P (woken DBG_CONTINUE [] x) → P (Marks x.thread) → P (if h then woken DBG_CONTINUE [] x else Marks x.thread)
+    at x true two three = two
+    at x false two three = three
 
 pub replied-sound : (w : World) (port : PortRow) (m : Message) (x : WaitRow) → reply_test w port m ≡ Ok x → IsSoundWorld w → IsSoundWorld (basic w (reply x m))
-replied-sound w port m x at s =
-    sound-wakes-quiet w x.thread x.call SUCCESS (msg (as_reply m) ∷ []) (holds_ok (λ (x : WaitRow). every (is_quiet x.thread) w.waits ≡ true) (reply_test w port m) x (answered-quiet w port m s) at) s
+replied-sound w port m x at s = reply-holds (λ b. IsSoundWorld (basic w b)) x m (λ status fields. sound-wakes-quiet w x.thread x.call status fields quiet s) marks
+  where
+    quiet : every (is_quiet x.thread) w.waits ≡ true
+    quiet = holds_ok (λ (x : WaitRow). every (is_quiet x.thread) w.waits ≡ true) (reply_test w port m) x (answered-quiet w port m s) at
+
+    marks : IsSoundWorld (basic w (Marks x.thread))
+    marks = let less = less-marks w x.thread s in less.sound
 
 -- Receives
--- what a reply that is made first leaves: some waits, and all else as it was
+-- what a reply that is made first leaves: some waits and marks, and all else as it was
 pub record IsReplied (w : World) (bs : List Basic) : Type 0 where
   pub waits : List WaitRow
-  pub world : world_after w bs ≡ record w { waits = waits }
+  pub marks : List ℕ
+  pub world : world_after w bs ≡ record w { waits = waits; marks = marks }
   pub idle : (tid : ℕ) → wait_of w tid ≡ None → first (waits_as tid) waits ≡ None
   pub sound : LeaveSound w bs
 
 pub replied : (w : World) (port : PortRow) (o : Option Message) → IsSoundWorld w → Holds (IsReplied w) (given_reply w port o)
-replied w port None s = record { waits = w.waits; world = refl; idle = λ tid none. none; sound = s }
+replied w port None s = record { waits = w.waits; marks = w.marks; world = refl; idle = λ tid none. none; sound = s }
 replied w port (Some m) s =
     bind_holds (reply_test w port m) _ (IsReplied w) (λ x at.
-    record { waits = without (waits_as x.thread) w.waits; world = refl; idle = λ tid none. first-less (waits_as tid) (waits_as x.thread) w.waits none; sound = replied-sound w port m x at s })
+    reply-holds (λ b. IsSoundWorld (basic w b) → IsReplied w (b ∷ [])) x m
+    (λ status fields sound. record { waits = without (waits_as x.thread) w.waits; marks = without (is_mark x.thread) w.marks; world = refl; idle = λ tid none. first-less (waits_as tid) (waits_as x.thread) w.waits none; sound = sound })
+    (λ sound. record { waits = w.waits; marks = w.marks ++ x.thread ∷ []; world = refl; idle = λ tid none. none; sound = sound })
+    (replied-sound w port m x at s))
 
 -- the new wait is sound where nothing stands in its queue
 receive-parts : (c o q h j : Bool) → c ≡ true → o ≡ true → q ≡ true → h ≡ false → j ≡ true → ((c && (o && (q && (not h && j)))) && true) ≡ true

@@ -3,7 +3,7 @@ use Rattle.std.proofs.Common.{◌≡◌, List, true}
 use Rattle.lpc_base.proofs.RowWords.{every-change, every-more, every-without}
 use Rattle.lpc_model.specs.World.{World}
 use Rattle.lpc_model.specs.Found.{waits_as, waits_at}
-use Rattle.lpc_model.specs.Basics.{Accepts, AddsHandle, AddsProcess, Awaits, Basic, Dies, DropsHandle, Frees, Receives, Wakes, basic, received, world_after}
+use Rattle.lpc_model.specs.Basics.{Accepts, AddsHandle, AddsProcess, Awaits, Basic, Dies, DropsHandle, Frees, Leaves, Receives, Wakes, basic, received, world_after}
 use Rattle.lpc_model.specs.SoundWaits.{HasShutConnects}
 use Rattle.lpc_model.proofs.Closings.Single.{dropped-shut, waits-more, waits_shut}
 use Rattle.lpc_model.proofs.Steps.Ending.{AreEnding, is_ending}
@@ -11,6 +11,7 @@ use Rattle.lpc_model.proofs.Steps.InTurn.{steps-keep}
 
 shut-step : (w : World) (b : Basic) → is_ending b ≡ true → HasShutConnects w → HasShutConnects (basic w b)
 shut-step w (Wakes who call status fields) is shut = every-without (waits_shut w) (waits_as who) w.waits shut
+shut-step w (Leaves who) is shut = every-without (waits_shut w) (waits_as who) w.waits shut
 shut-step w (Dies who status) is shut = every-without (waits_shut w) (waits_as who) w.waits shut
 shut-step w (Receives who queue) is shut = every-change (waits_shut w) (waits_at who queue) received (λ x one. one) w.waits shut
 shut-step w (DropsHandle pid value) is shut = every-more (waits_shut w) (waits_shut (basic w (DropsHandle pid value))) (λ x. waits-more w (basic w (DropsHandle pid value)) x (dropped-shut w pid value x.port)) w.waits shut

@@ -122,7 +122,7 @@ joined-row ports client server context b q here =
 
 -- an accepted connect is a connect on the same port
 connect-same : (reply : Acceptance) (b : Birth) (y : WaitRow) → is_connect_on b (accepted reply y) ≡ is_connect_on b y
-connect-same reply b = by_kind (λ y. is_connect_on b (accepted reply y) ≡ is_connect_on b y) (λ y m. refl) (λ y. refl) (λ y. refl) (λ y m offer. refl) (λ y m r. refl)
+connect-same reply b = by_kind (λ y. is_connect_on b (accepted reply y) ≡ is_connect_on b y) (λ y m. refl) (λ y. refl) (λ y. refl) (λ y m offer. refl) (λ y m r. refl) (λ y m. refl)
 
 kept-parts : (s a : Bool) → (not (s && a) || a) ≡ true
 kept-parts s a = grind arith
@@ -135,6 +135,7 @@ still-accepted reply who c =
     (λ y. kept-parts (waits_as who y) false)
     (λ y m offer. off-parts (waits_as who y) (same_birth y.port c))
     (λ y m r. kept-parts (waits_as who y) (same_birth y.port c))
+    (λ y m. kept-parts (waits_as who y) false)
   where
     off-parts : (s b : Bool) → (not (s && false) || b) ≡ true
     off-parts s b = grind arith
@@ -151,6 +152,7 @@ now-accepted reply who client =
     (λ y is. grind arith)
     (λ y m offer is. grind arith)
     (λ y m r is. grind arith)
+    (λ y m is. grind arith)
 
 is-connect : (who : ℕ) (client : Birth) (y : WaitRow) → is_offered_on who client y ≡ true → is_connect_on client y ≡ true
 is-connect who client y is = at (waits_as who y) (is_offered y) (is_accepted y) (same_birth y.port client) is

@@ -9,17 +9,17 @@ use Rattle.lpc_base.proofs.Bools.{first-true, second-true}
 use Rattle.lpc_message.specs.declared.message.ClientId.{ClientId}
 use Rattle.lpc_names.specs.Walk.{LinkTo, Stands}
 use Rattle.lpc_names.specs.declared.names.Found.TheVariants.{Directory, Item}
-use Rattle.lpc_model.specs.World.{Acceptance, Accepted, Bindings, Birth, Connect, Contents, HandleTable, Listen, Message, Node, Offer, PortRow, Receive, Request, SectionRow, ThreadRow, UsedThread, ViewTable, WaitKind, WaitRow, World, no_rows, TokenRow, TokenName}
-use Rattle.lpc_model.specs.Found.{is_live_thread, is_open, is_port, is_table, pair_of, port_row, waits_as}
+use Rattle.lpc_model.specs.World.{Acceptance, Accepted, Bindings, Birth, Connect, Contents, HandleTable, Listen, Message, Node, Offer, PortRow, Receive, Request, SectionRow, ThreadRow, UsedThread, ViewTable, WaitKind, WaitRow, World, no_rows, TokenRow, TokenName, Event, Raised}
+use Rattle.lpc_model.specs.Found.{is_live_thread, is_open, is_port, is_table, pair_of, port_row, waits_as, is_marked}
 use Rattle.lpc_model.specs.Tests.{is_client}
-use Rattle.lpc_model.specs.SoundWaits.{IsSoundWorld, can_stay_sound, has_client_port, has_come, is_answerable, is_joined, is_message_of, is_past, is_sound_connect, is_sound_listen, is_sound_receive, is_sound_request, is_sound_wait, leads_open, waiter_of}
+use Rattle.lpc_model.specs.SoundWaits.{IsSoundWorld, can_stay_sound, has_client_port, has_come, is_answerable, is_joined, is_message_of, is_past, is_sound_connect, is_sound_listen, is_sound_receive, is_sound_request, is_sound_wait, leads_open, waiter_of, is_sound_event}
 use Rattle.lpc_model.proofs.Sound.Pairs.{IsTied}
 
 -- Waits of each kind
 -- what holds of each kind of wait holds of a wait
 pub by_kind : (P : WaitRow → Type 0) → ((x : WaitRow) (m : Message) → P (record x { kind = Request m })) → ((x : WaitRow) → P (record x { kind = Receive })) → ((x : WaitRow) → P (record x { kind = Listen }))
-    → ((x : WaitRow) (m : Message) (offer : Option Offer) → P (record x { kind = Connect m offer })) → ((x : WaitRow) (m : Message) (reply : Acceptance) → P (record x { kind = Accepted m reply })) → (x : WaitRow) → P x
-by_kind P one two three four five x = at x.kind
+    → ((x : WaitRow) (m : Message) (offer : Option Offer) → P (record x { kind = Connect m offer })) → ((x : WaitRow) (m : Message) (reply : Acceptance) → P (record x { kind = Accepted m reply })) → ((x : WaitRow) (r : Raised) → P (record x { kind = Event r })) → (x : WaitRow) → P x
+by_kind P one two three four five six x = at x.kind
   where
     at : (kind : WaitKind) → P (record x { kind = kind })
     at (Request m) = one x m
@@ -27,6 +27,7 @@ by_kind P one two three four five x = at x.kind
     at Listen = three x
     at (Connect m offer) = four x m offer
     at (Accepted m reply) = five x m reply
+    at (Event r) = six x r
 
 -- a sound wait that can stay so
 abbrev pub is_sure : World → WaitRow → Bool
@@ -134,6 +135,7 @@ pub record Keeps (w v : World) : Type 0 where
   pub clients : (c : ClientId) → is_client w c ≡ true → is_client v c ≡ true
   pub opens : (b : Birth) → is_open w b ≡ true → is_open v b ≡ true
   pub messages : v.messages ≡ w.messages
+  pub marks : v.marks ≡ w.marks
 
 kept-answer : (w v : World) (x : WaitRow) → KeepsPort w v x.port (x.port.maker == x.thread) → is_answerable w x ≡ true → is_answerable v x ≡ true
 kept-answer w v x p is = grind (arith, p.paired)
@@ -177,6 +179,22 @@ kept-client w v x p is = client-parts (has (is_port x.port) w.ports) (has (is_po
 sure-parts : (c d s t a b : Bool) → (c ≡ true → d ≡ true) → (s ≡ true → t ≡ true) → (a ≡ true → b ≡ true) → ((c && s) && a) ≡ true → ((d && t) && b) ≡ true
 sure-parts c d s t a b one two three is = grind arith
 
+-- a marked event needs nothing but its thread
+pub exempt-parts : (c d m n s t a b : Bool) → (c ≡ true → d ≡ true) → (m ≡ true → n ≡ true) → (((c && s) && a) ≡ true → ((d && t) && b) ≡ true) → ((c && (m || s)) && (m || a)) ≡ true → ((d && (n || t)) && (n || b)) ≡ true
+exempt-parts c d true n s t a b one two three is = let more = two refl in let lives = one (grind arith) in grind (arith, more, lives)
+exempt-parts c d false n s t a b one two three is = let more = three (grind arith) in grind (arith, more)
+
+-- a sound request, and a sound event: what makes the request sound makes the event so
+abbrev pub is_sure_request : World → WaitRow → Bool
+is_sure_request w x = (is_client w (waiter_of x) && is_sound_request w x) && is_answerable w x
+
+abbrev pub is_sure_event : World → WaitRow → Bool
+is_sure_event w x = (is_client w (waiter_of x) && is_sound_event w x) && (is_marked w x || is_answerable w x)
+
+pub exempt : (w v : World) (x y : WaitRow) → (is_client w (waiter_of x) ≡ true → is_client v (waiter_of y) ≡ true) → (is_marked w x ≡ true → is_marked v y ≡ true) → (is_sure_request w x ≡ true → is_sure_request v y ≡ true) → is_sure_event w x ≡ true → is_sure_event v y ≡ true
+exempt w v x y one two three is =
+    exempt-parts (is_client w (waiter_of x)) (is_client v (waiter_of y)) (is_marked w x) (is_marked v y) (is_sound_request w x) (is_sound_request v y) (is_answerable w x) (is_answerable v y) one two three is
+
 accepted-parts : (c d s t a b m : Bool) → (c ≡ true → d ≡ true) → (m ≡ true → s ≡ true → t ≡ true) → (a ≡ true → b ≡ true) → ((c && s) && (a && m)) ≡ true → ((d && t) && (b && m)) ≡ true
 accepted-parts c d s t a b m one two three is = grind arith
 
@@ -188,6 +206,7 @@ kept-sure w v k =
     (λ x p. sure-parts _ _ _ _ _ _ (k.clients (waiter_of x)) (kept-listen w v (record x { kind = Listen }) k) (λ is. is))
     (λ x m offer p. sure-parts _ _ _ _ _ _ (k.clients (waiter_of x)) (kept-connect w v (record x { kind = Connect m offer }) k) (kept-client w v x p))
     (λ x m reply p. accepted-parts _ _ _ _ _ _ _ (k.clients (waiter_of x)) p.served p.stands)
+    (λ x r p. exempt w v x x (k.clients (waiter_of x)) (λ is. rw k.marks is) (sure-parts _ _ _ _ _ _ (k.clients (waiter_of x)) (kept-request w v (record x { kind = Event r }) k p) (kept-answer w v x p)))
 
 -- a world that keeps what is found, with the same waits, stays sound
 pub sound-kept : (w v : World) → Keeps w v → ((b : Birth) (own : Bool) → KeepsPort w v b own) → v.waits ≡ w.waits → InOrder v → IsTied v.ports v.waits → IsSoundWorld w → IsSoundWorld v

@@ -7,8 +7,8 @@ use Rattle.lpc_base.proofs.RowMaps.{every-mapped}
 use Rattle.lpc_names.specs.Binding.{is_name}
 use Rattle.lpc_model.specs.World.{Birth, MessageRow, Node, Path, ViewRow, WaitRow, World}
 use Rattle.lpc_model.specs.Found.{is_own_of, is_owned_by, is_queued, same_birth, waits_as}
-use Rattle.lpc_model.specs.Basics.{Basic, Cuts, DropsOwned, Empties, Steps, Unbinds, Wakes, Withdraws, basic, doing, end_each, without_owned, world_after, ◌▹◌}
-use Rattle.lpc_model.specs.Close.{close_port, cut_pair, drop_name, drop_owned, empty_queue, end_accepted, end_offered, end_receives, end_request, end_requests, is_accepted_across, is_offered_to, is_queued_request, is_receive_across, is_receiver, is_request_across, is_request_on, post_closed, wake}
+use Rattle.lpc_model.specs.Basics.{Basic, Cuts, DropsOwned, Empties, Steps, Unbinds, Wakes, Withdraws, basic, doing, end_each, without_owned, world_after, ◌▹◌, Marks}
+use Rattle.lpc_model.specs.Close.{close_port, cut_pair, drop_name, drop_owned, empty_queue, end_accepted, end_offered, end_receives, end_request, end_requests, is_accepted_across, is_offered_to, is_queued_request, is_receive_across, is_receiver, is_request_across, is_request_on, post_closed, wake, is_event_across, is_event_on, is_queued_event, mark_event, mark_events}
 use Rattle.lpc_model.proofs.Steps.Rows.{every-left}
 use Rattle.lpc_model.proofs.Steps.InTurn.{after-append}
 
@@ -30,8 +30,11 @@ stage_two w b = behind (end_receives b) (stage_one w b)
 abbrev pub stage_three : World → Birth → World
 stage_three w b = behind (end_requests b) (stage_two w b)
 
+abbrev pub stage_marked : World → Birth → World
+stage_marked w b = behind (mark_events b) (stage_three w b)
+
 abbrev pub stage_four : World → Birth → World
-stage_four w b = behind (empty_queue b) (stage_three w b)
+stage_four w b = behind (empty_queue b) (stage_marked w b)
 
 abbrev pub stage_five : World → Birth → World
 stage_five w b = behind (cut_pair b) (stage_four w b)
@@ -40,28 +43,37 @@ abbrev pub stage_six : World → Birth → World
 stage_six w b = behind (post_closed b) (stage_five w b)
 
 -- the parts of the fourth and of the fifth
-abbrev unrequested : World → Birth → World
-unrequested w b = behind (end_each (λ w. is_queued_request b) (end_request LPC_REPLY_LOST)) (stage_three w b)
+abbrev pub unrequested : World → Birth → World
+unrequested w b = behind (end_each (λ w. is_queued_request b) (end_request LPC_REPLY_LOST)) (stage_marked w b)
 
-abbrev unoffered : World → Birth → World
-unoffered w b = behind (end_each (λ w. is_offered_to b) end_offered) (unrequested w b)
+abbrev pub queue_marked : World → Birth → World
+queue_marked w b = behind (end_each (is_queued_event b) mark_event) (unrequested w b)
+
+abbrev pub unoffered : World → Birth → World
+unoffered w b = behind (end_each (λ w. is_offered_to b) end_offered) (queue_marked w b)
 
 abbrev pub unasked : World → Birth → World
 unasked w b = behind (end_each (is_request_across b) (end_request LPC_REPLY_LOST)) (stage_four w b)
 
+abbrev pub across_marked : World → Birth → World
+across_marked w b = behind (end_each (is_event_across b) mark_event) (unasked w b)
+
 abbrev pub unreceived : World → Birth → World
-unreceived w b = behind (end_each (is_receive_across b) (wake PORT_DISCONNECTED)) (unasked w b)
+unreceived w b = behind (end_each (is_receive_across b) (wake PORT_DISCONNECTED)) (across_marked w b)
 
 -- the world before the cut
 abbrev pub uncut : World → Birth → World
 uncut w b = behind (end_each (is_accepted_across b) end_accepted) (unreceived w b)
 
-emptied-is : (w : World) (b : Birth) → stage_four w b ≡ basic (unoffered w b) (Empties b)
+pub emptied-is : (w : World) (b : Birth) → stage_four w b ≡ basic (unoffered w b) (Empties b)
 emptied-is w b =
     let P : World → Type 0 = λ u. u ≡ basic (unoffered w b) (Empties b) in
     let requests : Steps = end_each (λ w. is_queued_request b) (end_request LPC_REPLY_LOST) in
+    let events : Steps = end_each (is_queued_event b) mark_event in
     let offers : Steps = end_each (λ w. is_offered_to b) end_offered in
-    then-holds P requests (offers ▹ doing (Empties b ∷ [])) (stage_three w b) (then-holds P offers (doing (Empties b ∷ [])) (unrequested w b) refl)
+    then-holds P requests (events ▹ (offers ▹ doing (Empties b ∷ []))) (stage_marked w b)
+    (then-holds P events (offers ▹ doing (Empties b ∷ [])) (unrequested w b)
+    (then-holds P offers (doing (Empties b ∷ [])) (queue_marked w b) refl))
 
 pub cut-is : (w : World) (b : Birth) → stage_five w b ≡ basic (uncut w b) (Cuts b)
 cut-is w b =
@@ -70,30 +82,34 @@ cut-is w b =
     let receives : Steps = end_each (is_receive_across b) (wake PORT_DISCONNECTED) in
     let accepts : Steps = end_each (is_accepted_across b) end_accepted in
     let last : Steps = doing (Cuts b ∷ []) in
-    then-holds P requests (receives ▹ (accepts ▹ last)) (stage_four w b)
-    (then-holds P receives (accepts ▹ last) (unasked w b)
-    (then-holds P accepts last (unreceived w b) refl))
+    let events : Steps = end_each (is_event_across b) mark_event in
+    then-holds P requests (events ▹ (receives ▹ (accepts ▹ last))) (stage_four w b)
+    (then-holds P events (receives ▹ (accepts ▹ last)) (unasked w b)
+    (then-holds P receives (accepts ▹ last) (across_marked w b)
+    (then-holds P accepts last (unreceived w b) refl)))
 
 -- the seven steps leave what the post leaves behind the fifth, without the views that the port owned
 pub closed-is : (w : World) (b : Birth) → world_after w (close_port b w) ≡ basic (stage_six w b) (DropsOwned b)
 unfolding close_port
 closed-is w b =
     let P : World → Type 0 = λ u. u ≡ basic (stage_six w b) (DropsOwned b) in
-    then-holds P (drop_name b) (end_receives b ▹ (end_requests b ▹ (empty_queue b ▹ (cut_pair b ▹ (post_closed b ▹ drop_owned b))))) w
-    (then-holds P (end_receives b) (end_requests b ▹ (empty_queue b ▹ (cut_pair b ▹ (post_closed b ▹ drop_owned b)))) (stage_one w b)
-    (then-holds P (end_requests b) (empty_queue b ▹ (cut_pair b ▹ (post_closed b ▹ drop_owned b))) (stage_two w b)
-    (then-holds P (empty_queue b) (cut_pair b ▹ (post_closed b ▹ drop_owned b)) (stage_three w b)
+    then-holds P (drop_name b) (end_receives b ▹ (end_requests b ▹ (mark_events b ▹ (empty_queue b ▹ (cut_pair b ▹ (post_closed b ▹ drop_owned b)))))) w
+    (then-holds P (end_receives b) (end_requests b ▹ (mark_events b ▹ (empty_queue b ▹ (cut_pair b ▹ (post_closed b ▹ drop_owned b))))) (stage_one w b)
+    (then-holds P (end_requests b) (mark_events b ▹ (empty_queue b ▹ (cut_pair b ▹ (post_closed b ▹ drop_owned b)))) (stage_two w b)
+    (then-holds P (mark_events b) (empty_queue b ▹ (cut_pair b ▹ (post_closed b ▹ drop_owned b))) (stage_three w b)
+    (then-holds P (empty_queue b) (cut_pair b ▹ (post_closed b ▹ drop_owned b)) (stage_marked w b)
     (then-holds P (cut_pair b) (post_closed b ▹ drop_owned b) (stage_four w b)
-    (then-holds P (post_closed b) (drop_owned b) (stage_five w b) refl)))))
+    (then-holds P (post_closed b) (drop_owned b) (stage_five w b) refl))))))
 
 -- Steps that take away
--- a step takes waits, messages, names or views away, and nothing else
+-- a step takes waits, messages, names or views away, or marks an event, and nothing else
 abbrev pub takes_away : Basic → Bool
 takes_away (Wakes who call status fields) = true
 takes_away (Withdraws who) = true
 takes_away (Empties q) = true
 takes_away (Unbinds b) = true
 takes_away (DropsOwned b) = true
+takes_away (Marks who) = true
 takes_away b = false
 
 abbrev TakeAway : List Basic → Type 0
@@ -125,8 +141,11 @@ module _ (p : Basic → Bool) (away : (x : Basic) → takes_away x ≡ true → 
       let requests : Steps = end_each (λ w. is_queued_request b) (end_request LPC_REPLY_LOST) in
       let offers : Steps = end_each (λ w. is_offered_to b) end_offered in
       let last : Steps = doing (Empties b ∷ []) in
-      then-pass requests (offers ▹ last) w (ends-pass (λ w. is_queued_request b) (end_request LPC_REPLY_LOST) (λ x. refl) w)
-      (then-pass offers last (behind requests w) (ends-pass (λ w. is_offered_to b) end_offered (λ x. refl) (behind requests w)) (passing (Empties b ∷ []) refl))
+      let events : Steps = end_each (is_queued_event b) mark_event in
+      let v = behind requests w in
+      then-pass requests (events ▹ (offers ▹ last)) w (ends-pass (λ w. is_queued_request b) (end_request LPC_REPLY_LOST) (λ x. refl) w)
+      (then-pass events (offers ▹ last) v (ends-pass (is_queued_event b) mark_event (λ x. refl) v)
+      (then-pass offers last (behind events v) (ends-pass (λ w. is_offered_to b) end_offered (λ x. refl) (behind events v)) (passing (Empties b ∷ []) refl)))
 
   pub pair-pass : (b : Birth) (w : World) → p (Cuts b) ≡ true → all_pass (cut_pair b w)
   pair-pass b w cuts =
@@ -134,21 +153,26 @@ module _ (p : Basic → Bool) (away : (x : Basic) → takes_away x ≡ true → 
       let receives : Steps = end_each (is_receive_across b) (wake PORT_DISCONNECTED) in
       let accepts : Steps = end_each (is_accepted_across b) end_accepted in
       let last : Steps = doing (Cuts b ∷ []) in
-      then-pass requests (receives ▹ (accepts ▹ last)) w (ends-pass (is_request_across b) (end_request LPC_REPLY_LOST) (λ x. refl) w)
-      (then-pass receives (accepts ▹ last) (behind requests w) (ends-pass (is_receive_across b) (wake PORT_DISCONNECTED) (λ x. refl) (behind requests w))
-      (then-pass accepts last (behind receives (behind requests w)) (ends-pass (is_accepted_across b) end_accepted (λ x. refl) (behind receives (behind requests w)))
-      (one-step (Cuts b) cuts)))
+      let events : Steps = end_each (is_event_across b) mark_event in
+      let v = behind requests w in
+      let u = behind events v in
+      then-pass requests (events ▹ (receives ▹ (accepts ▹ last))) w (ends-pass (is_request_across b) (end_request LPC_REPLY_LOST) (λ x. refl) w)
+      (then-pass events (receives ▹ (accepts ▹ last)) v (ends-pass (is_event_across b) mark_event (λ x. refl) v)
+      (then-pass receives (accepts ▹ last) u (ends-pass (is_receive_across b) (wake PORT_DISCONNECTED) (λ x. refl) u)
+      (then-pass accepts last (behind receives u) (ends-pass (is_accepted_across b) end_accepted (λ x. refl) (behind receives u))
+      (one-step (Cuts b) cuts))))
 
   -- the seven steps pass where the cut does, and the post behind the fifth
   pub close-pass : (b : Birth) (w : World) → p (Cuts b) ≡ true → all_pass (post_closed b (stage_five w b)) → all_pass (close_port b w)
   unfolding close_port
   close-pass b w cuts posts =
-      then-pass (drop_name b) (end_receives b ▹ (end_requests b ▹ (empty_queue b ▹ (cut_pair b ▹ (post_closed b ▹ drop_owned b))))) w (passing (Unbinds b ∷ []) refl)
-      (then-pass (end_receives b) (end_requests b ▹ (empty_queue b ▹ (cut_pair b ▹ (post_closed b ▹ drop_owned b)))) (stage_one w b) (ends-pass (λ w. is_receiver b) (wake PORT_DISCONNECTED) (λ x. refl) (stage_one w b))
-      (then-pass (end_requests b) (empty_queue b ▹ (cut_pair b ▹ (post_closed b ▹ drop_owned b))) (stage_two w b) (ends-pass (λ w. is_request_on b) (end_request PORT_DISCONNECTED) (λ x. refl) (stage_two w b))
-      (then-pass (empty_queue b) (cut_pair b ▹ (post_closed b ▹ drop_owned b)) (stage_three w b) (queue-pass b (stage_three w b))
+      then-pass (drop_name b) (end_receives b ▹ (end_requests b ▹ (mark_events b ▹ (empty_queue b ▹ (cut_pair b ▹ (post_closed b ▹ drop_owned b)))))) w (passing (Unbinds b ∷ []) refl)
+      (then-pass (end_receives b) (end_requests b ▹ (mark_events b ▹ (empty_queue b ▹ (cut_pair b ▹ (post_closed b ▹ drop_owned b))))) (stage_one w b) (ends-pass (λ w. is_receiver b) (wake PORT_DISCONNECTED) (λ x. refl) (stage_one w b))
+      (then-pass (end_requests b) (mark_events b ▹ (empty_queue b ▹ (cut_pair b ▹ (post_closed b ▹ drop_owned b)))) (stage_two w b) (ends-pass (λ w. is_request_on b) (end_request PORT_DISCONNECTED) (λ x. refl) (stage_two w b))
+      (then-pass (mark_events b) (empty_queue b ▹ (cut_pair b ▹ (post_closed b ▹ drop_owned b))) (stage_three w b) (ends-pass (is_event_on b) mark_event (λ x. refl) (stage_three w b))
+      (then-pass (empty_queue b) (cut_pair b ▹ (post_closed b ▹ drop_owned b)) (stage_marked w b) (queue-pass b (stage_marked w b))
       (then-pass (cut_pair b) (post_closed b ▹ drop_owned b) (stage_four w b) (pair-pass b (stage_four w b) cuts)
-      (then-pass (post_closed b) (drop_owned b) (stage_five w b) posts (passing (DropsOwned b ∷ []) refl))))))
+      (then-pass (post_closed b) (drop_owned b) (stage_five w b) posts (passing (DropsOwned b ∷ []) refl)))))))
 
 -- Worlds with fewer rows
 -- what holds of each wait, message, name and view still does, and all other rows that a closing touches are as they were
@@ -190,6 +214,7 @@ fewer-step : (w : World) (x : Basic) → takes_away x ≡ true → IsFewer w (ba
 fewer-step w (Wakes who call status fields) is = record { waits = λ f all. every-without f (waits_as who) w.waits all; messages = λ f all. all; counts = λ f. omega arith; bindings = λ f all. all; ports = refl; handles = refl; processes = refl; threads = refl; sections = refl; tokens = refl; views = λ f all. all }
 fewer-step w (Withdraws who) is = record { waits = λ f all. all; messages = λ f all. every-without f (is_own_of who) w.messages all; counts = λ f. count-left f (is_own_of who) w.messages; bindings = λ f all. all; ports = refl; handles = refl; processes = refl; threads = refl; sections = refl; tokens = refl; views = λ f all. all }
 fewer-step w (Empties q) is = record { waits = λ f all. all; messages = λ f all. every-without f (is_queued q) w.messages all; counts = λ f. count-left f (is_queued q) w.messages; bindings = λ f all. all; ports = refl; handles = refl; processes = refl; threads = refl; sections = refl; tokens = refl; views = λ f all. all }
+fewer-step w (Marks who) is = record { waits = λ f all. all; messages = λ f all. all; counts = λ f. omega arith; bindings = λ f all. all; ports = refl; handles = refl; processes = refl; threads = refl; sections = refl; tokens = refl; views = λ f all. all }
 fewer-step w (Unbinds b) is = record { waits = λ f all. all; messages = λ f all. all; counts = λ f. omega arith; bindings = λ f all. every-without f (is_name same_birth b) w.bindings all; ports = refl; handles = refl; processes = refl; threads = refl; sections = refl; tokens = refl; views = λ f all. all }
 fewer-step w (DropsOwned b) is = record { waits = λ f all. all; messages = λ f all. all; counts = λ f. omega arith; bindings = λ f all. all; ports = refl; handles = refl; processes = refl; threads = refl; sections = refl; tokens = refl; views = λ f all. every-mapped (λ t. every f t.rows) (without_owned b) (λ t is. every-without f (is_owned_by b) t.rows is) w.views all }
 fewer-step w x is = absurd (cc)
@@ -208,10 +233,12 @@ fewer-each test ending all w v l = fewer-then w v (behind (end_each test ending)
 -- before its queue is emptied, and behind that
 fewer-unoffered : (w : World) (b : Birth) → IsFewer w (unoffered w b)
 fewer-unoffered w b =
-    fewer-each (λ w. is_offered_to b) end_offered (λ x. refl) w (unrequested w b)
-    (fewer-each (λ w. is_queued_request b) (end_request LPC_REPLY_LOST) (λ x. refl) w (stage_three w b)
+    fewer-each (λ w. is_offered_to b) end_offered (λ x. refl) w (queue_marked w b)
+    (fewer-each (is_queued_event b) mark_event (λ x. refl) w (unrequested w b)
+    (fewer-each (λ w. is_queued_request b) (end_request LPC_REPLY_LOST) (λ x. refl) w (stage_marked w b)
+    (fewer-each (is_event_on b) mark_event (λ x. refl) w (stage_three w b)
     (fewer-each (λ w. is_request_on b) (end_request PORT_DISCONNECTED) (λ x. refl) w (stage_two w b)
-    (fewer-each (λ w. is_receiver b) (wake PORT_DISCONNECTED) (λ x. refl) w (stage_one w b) (fewer-step w (Unbinds b) refl))))
+    (fewer-each (λ w. is_receiver b) (wake PORT_DISCONNECTED) (λ x. refl) w (stage_one w b) (fewer-step w (Unbinds b) refl))))))
 
 pub fewer-accepted : (b : Birth) (w : World) → IsFewer w (behind (end_each (is_accepted_across b) end_accepted) w)
 fewer-accepted b w = fewer-each (is_accepted_across b) end_accepted (λ x. refl) w w (fewer-none w)
@@ -223,8 +250,9 @@ fewer-across : (w : World) (b : Birth) → IsFewer (stage_four w b) (uncut w b)
 fewer-across w b =
     let v = stage_four w b in
     fewer-each (is_accepted_across b) end_accepted (λ x. refl) v (unreceived w b)
-    (fewer-each (is_receive_across b) (wake PORT_DISCONNECTED) (λ x. refl) v (unasked w b)
-    (fewer-each (is_request_across b) (end_request LPC_REPLY_LOST) (λ x. refl) v v (fewer-none v)))
+    (fewer-each (is_receive_across b) (wake PORT_DISCONNECTED) (λ x. refl) v (across_marked w b)
+    (fewer-each (is_event_across b) mark_event (λ x. refl) v (unasked w b)
+    (fewer-each (is_request_across b) (end_request LPC_REPLY_LOST) (λ x. refl) v v (fewer-none v))))
 
 fewer-four : (w : World) (b : Birth) → IsFewer w (stage_four w b)
 fewer-four w b = subst (IsFewer w) (sym (emptied-is w b)) (fewer-then w (unoffered w b) (basic (unoffered w b) (Empties b)) (fewer-unoffered w b) (fewer-step (unoffered w b) (Empties b) refl))

@@ -12,7 +12,7 @@ use Rattle.lpc_model.specs.declared.entry.CallName.{CallName}
 use Rattle.lpc_model.specs.declared.entry.CallName.TheVariants.{NtTerminateThread}
 use Rattle.lpc_model.specs.World.{Birth, Creator, HandleRow, HandleTable, MessageRow, PortRow, ThreadRow, WaitRow, World}
 use Rattle.lpc_model.specs.Found.{handle_at, handles_of, has_value, is_accepted, is_connect, is_live, is_open, is_port, is_table, port_row, route, rows_in, wait_of, way}
-use Rattle.lpc_model.specs.Basics.{Accepts, AddsHandle, AddsProcess, AddsSection, AddsThread, Awaits, Basic, Binds, Completes, Cuts, Dies, DrawsIdentifier, DrawsOrdinal, DropsHandle, DropsOwned, DropsViewsOf, Empties, Frees, Joins, Makes, Maps, Receives, Registers, Steps, Takes, TakesConnect, Unbinds, Unmaps, Unregisters, Wakes, Withdraws, Writes, basic, doing, in_turn, provided, without_handle, world_after, ◌▹◌, Acts, AddsToken, NamesToken, Secures}
+use Rattle.lpc_model.specs.Basics.{Accepts, AddsHandle, AddsProcess, AddsSection, AddsThread, Awaits, Basic, Binds, Completes, Cuts, Dies, DrawsIdentifier, DrawsOrdinal, DropsHandle, DropsOwned, DropsViewsOf, Empties, Frees, Joins, Makes, Maps, Receives, Registers, Steps, Takes, TakesConnect, Unbinds, Unmaps, Unregisters, Wakes, Withdraws, Writes, basic, doing, in_turn, provided, without_handle, world_after, ◌▹◌, Acts, AddsToken, NamesToken, Secures, Dooms, LetsGo, Marks, SetsDebug, SetsException}
 use Rattle.lpc_model.specs.Entering.{enter, received_steps, row_of}
 use Rattle.lpc_model.specs.Refusal.{refuse_if}
 use Rattle.lpc_model.specs.Lines.{ProcArg}
@@ -62,6 +62,9 @@ is_ending (Secures b s) = false
 is_ending (Acts who own) = false
 is_ending (AddsToken t) = false
 is_ending (NamesToken n) = false
+is_ending (SetsDebug pid b) = false
+is_ending (SetsException pid b) = false
+is_ending (Dooms pid code) = false
 is_ending b = true
 
 abbrev pub AreEnding : List Basic → Type 0
@@ -73,6 +76,7 @@ away-ending (Withdraws who) is = refl
 away-ending (Empties q) is = refl
 away-ending (Unbinds b) is = refl
 away-ending (DropsOwned b) is = refl
+away-ending (Marks who) is = refl
 away-ending x is = absurd (cc)
 
 taking-ending : (b : Basic) → is_taking b ≡ true → is_ending b ≡ true
@@ -144,7 +148,9 @@ end-ending pid code ts w =
     (at (not (is_live two pid)) two))
   where
     at : (last : Bool) (v : World) → AreEnding (when last (end_process pid v))
-    at true v = every-append is_ending (in_turn (close_handle pid) (handles_of v pid) v) _ (turn-pass is_ending (close_handle pid) (λ r u. handle-ending pid r u) (handles_of v pid) v) refl
+    at true v =
+        let u = basic v (LetsGo pid) in
+        every-append is_ending (in_turn (close_handle pid) (handles_of u pid) u) _ (turn-pass is_ending (close_handle pid) (λ r u. handle-ending pid r u) (handles_of u pid) u) refl
     at false v = refl
 
 -- so of another test
@@ -254,7 +260,7 @@ module _ (P : World → Type 0) (dies : (code : Status) (t : ThreadRow) (w : Wor
   told-keeps code ts w is =
       turn-keeps P post_deaths (λ t v. turn-keeps P (post_death t) (λ b u. post-keeps t b u) t.registrations v) ts (behind_dead code ts w) (turn-keeps P (die code) (λ t v. dies code t v) ts w is)
 
-  module _ (sound : (w : World) → P w → IsSoundWorld w) (closes : (w : World) (pid : ℕ) (r : HandleRow) → handle_at w pid r.value ≡ Some r → P w → P (behind (close_handle pid r) w))
+  module _ (sound : (w : World) → P w → IsSoundWorld w) (lets : (w : World) (pid : ℕ) → P w → P (basic w (LetsGo pid))) (closes : (w : World) (pid : ℕ) (r : HandleRow) → handle_at w pid r.value ≡ Some r → P w → P (behind (close_handle pid r) w))
       (unmaps : (w : World) (pid : ℕ) → P w → P (basic w (DropsViewsOf pid))) where
     pub handles-keep : (pid : ℕ) (rows : List HandleRow) (w : World) → handles_of w pid ≡ rows → P w → P (behind (in_turn (close_handle pid) rows) w)
     handles-keep pid [] w same is = is
@@ -270,7 +276,8 @@ module _ (P : World → Type 0) (dies : (code : Status) (t : ThreadRow) (w : Wor
         at : (last : Bool) → P (behind_told code ts w) → P (world_after (behind_told code ts w) (when last (end_process pid (behind_told code ts w))))
         at true is =
             let v = behind_told code ts w in
-            then-holds P (in_turn (close_handle pid) (handles_of v pid)) (doing (DropsViewsOf pid ∷ [])) v (unmaps (behind (in_turn (close_handle pid) (handles_of v pid)) v) pid (handles-keep pid (handles_of v pid) v refl is))
+            let u = basic v (LetsGo pid) in
+            then-holds P (in_turn (close_handle pid) (handles_of u pid)) (doing (DropsViewsOf pid ∷ [])) u (unmaps (behind (in_turn (close_handle pid) (handles_of u pid)) u) pid (handles-keep pid (handles_of u pid) u refl (lets v pid is)))
         at false is = is
 
 -- The calls

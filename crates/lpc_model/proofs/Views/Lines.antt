@@ -1,4 +1,8 @@
 -- The step of each line keeps views in their sections and apart from each other.
+use Rattle.lpc_model.proofs.Steps.Closing.{behind}
+use Rattle.lpc_model.specs.Settle.{settle}
+use Rattle.lpc_model.proofs.Settling.Keeps.{step-keeps, settling-does}
+use Rattle.lpc_model.proofs.Settling.Settled.{IsReady}
 use Rattle.std.proofs.Common.{◌≡◌, ℕ, ◌≤◌, ◌<◌, List, [], ◌∷◌, ◌++◌, true, false, map, not, Option, Some, None, refl, ap, sym, ◌∙◌, arith, length, Ok}
 use Rattle.std.specs.Prelude.{◌==◌, ◌+◌, ◌*◌, ◌%◌, ◌/◌, nat_le, nat_lt}
 use Rattle.std.proofs.lemmas.Bool.{and_from, not-true}
@@ -14,20 +18,20 @@ use Rattle.lpc_base.proofs.RowMaps.{every-map}
 use Rattle.lpc_base.proofs.RowWords.{every-more, every-not, every-push, first-kept}
 use Rattle.lpc_model.specs.World.{Birth, Contents, Known, SectionRow, ThreadRow, Unknown, ViewRow, World, no_rows}
 use Rattle.lpc_model.specs.Found.{is_section, views_of, free_handle}
-use Rattle.lpc_model.specs.Basics.{AddsSection, AddsThread, Awaits, Basic, DrawsIdentifier, DrawsOrdinal, DropsOwned, DropsViewsOf, Maps, Registers, Unmaps, Unregisters, Writes, basic, in_known, world_after, zeros, Tells, AddsHandle, AddsProcess, Frees, Secures, Acts, AddsToken}
+use Rattle.lpc_model.specs.Basics.{AddsSection, AddsThread, Awaits, Basic, DrawsIdentifier, DrawsOrdinal, DropsOwned, DropsViewsOf, Maps, Registers, Unmaps, Unregisters, Writes, basic, in_known, world_after, zeros, Tells, AddsHandle, AddsProcess, Frees, Secures, Acts, AddsToken, Dooms, Leaves, LetsGo, Marks, SetsDebug, SetsException}
 use Rattle.lpc_model.specs.Close.{close_handle}
 use Rattle.lpc_model.specs.Connect.{client_port, connection_request, named_steps, unnamed_steps}
 use Rattle.lpc_model.specs.Creation.{new_process, new_thread, second_birth}
 use Rattle.lpc_model.specs.Death.{die}
 use Rattle.lpc_model.specs.Entering.{enter, row_of, take_connect_steps, take_steps, woken}
 use Rattle.lpc_model.specs.Memory.{base_test, new_section, view_count_test}
-use Rattle.lpc_model.specs.SoundViews.{HasSoundViews, StepsKeepViews, are_apart, is_inside, is_placed, is_sized, length_of, lengths_of, lies_apart, shows_part, size_of, HasSoundOffers}
+use Rattle.lpc_model.specs.SoundViews.{HasSoundViews, are_apart, is_inside, is_placed, is_sized, length_of, lengths_of, lies_apart, shows_part, size_of, HasSoundOffers}
 use Rattle.lpc_model.specs.Tests.{handle_row, next_birth}
 use Rattle.lpc_model.proofs.Calls.Acts.{Law, accept_act, complete_act, create_act, keeps_on, outcomes}
 use Rattle.lpc_model.proofs.Calls.Holding.{Holds, bind_holds, found_holds, holds_ok, not_refused}
-use Rattle.lpc_model.proofs.Calls.Lines.{AnyWorld, Keep, LineLaw, Shut, line-does, passing-lines, step-keeps}
+use Rattle.lpc_model.proofs.Calls.Lines.{AnyWorld, Keep, LineLaw, Shut, line-does, passing-lines}
 use Rattle.lpc_model.specs.Lines.{ScriptLine}
-use Rattle.lpc_model.specs.Machine.{bare_steps}
+use Rattle.lpc_model.specs.Machine.{own_steps, step}
 use Rattle.lpc_model.specs.SoundWaits.{HasShutConnects, IsSoundWorld}
 use Rattle.lpc_model.proofs.Calls.Outcomes.{IsBuilding}
 use Rattle.lpc_model.proofs.Steps.Ending.{AreEnding, die-ending, ending-enter, ending-receipt, handle-ending, is_ending}
@@ -162,6 +166,11 @@ views-law by = record {
   says = λ w e t. views-all w (Tells e ∷ []) refl t;
   numbers = λ w. views-all w (DrawsIdentifier by.number ∷ []) refl;
   wakes = λ w status fields x. views-all w (woken status fields x ∷ []) refl;
+  marks = λ w who is. views-all w (Marks who ∷ []) refl;
+  abandons = λ w who. views-all w (Leaves who ∷ []) refl;
+  debugs = λ w pid b stands live. views-all w (SetsDebug pid b ∷ []) refl;
+  excepts = λ w pid b stands live. views-all w (SetsException pid b ∷ []) refl;
+  dooms = λ w pid code. views-all w (Dooms pid code ∷ []) refl;
   takes = λ w m. ended-views w (take_steps m) (ending-receipt m);
   listens = λ w m. ended-views w (take_connect_steps m) (ending-receipt m);
   waits = λ w x off is. views-all w (Awaits x ∷ []) refl;
@@ -182,6 +191,7 @@ views-law by = record {
   closes = λ w pid r at s _. ended-views w (close_handle pid r w) (handle-ending pid r w);
   dies = λ w code t is. ended-views w (die code t w) (die-ending code t w);
   leaves = λ w n b. views-all w (Unregisters n b ∷ []) refl;
+  lets_go = λ w pid. views-all w (LetsGo pid ∷ []) refl;
   vacates = λ w pid. views-all w (DropsViewsOf pid ∷ []) refl;
   disowns = λ w b. views-all w (DropsOwned b ∷ []) refl;
   secures = λ w b s. views-all w (Secures b s ∷ []) refl;
@@ -195,14 +205,18 @@ views-law by = record {
 
 -- Lines
 pub views-lines : LineLaw (Shut AreSound) (λ _. Keep HasSoundViews)
-views-lines = passing-lines (Shut AreSound) (Keep HasSoundViews) (λ _. keeps_views) views-all (λ w. record { tells = λ _. refl; processes = λ _. refl; threads = λ _ _ _. refl; binds = λ _ _. refl; names = λ _. refl }) (λ by. outcomes by (Shut AreSound) AnyWorld (Keep HasSoundViews) (views-law by) (λ w c. (c.0, tt)))
+views-lines = passing-lines (Shut AreSound) (Keep HasSoundViews) (λ _. keeps_views) views-all (λ w. record { tells = λ _. refl; processes = λ _ _ _. refl; threads = λ _ _ _. refl; binds = λ _ _. refl; names = λ _. refl }) (λ by. outcomes by (Shut AreSound) AnyWorld (Keep HasSoundViews) (views-law by) (λ w c. (c.0, tt)))
 
--- before rows go
-pub views_line : (w : World) (line : ScriptLine) → IsSoundWorld w → HasShutConnects w → HasSoundOffers w → HasSoundViews w → HasSoundViews (world_after w (bare_steps line w))
+-- before the world settles
+pub views_line : (w : World) (line : ScriptLine) → IsSoundWorld w → HasShutConnects w → HasSoundOffers w → HasSoundViews w → HasSoundViews (world_after w (own_steps line w))
 views_line w line s shut offers t = line-does (Shut AreSound) (λ _. Keep HasSoundViews) views-lines w s (shut, record { views = t; offers = offers }) line t
 
-pub views_step : StepsKeepViews
-views_step w line s shut offers t = step-keeps (Shut AreSound) HasSoundViews views-lines swept-views w line s (shut, record { views = t; offers = offers }) t
+-- settling
+pub views-settles : (v : World) → IsReady v → HasSoundViews v → HasSoundViews (behind settle v)
+views-settles v r = settling-does (Shut AreSound) AnyWorld (Keep HasSoundViews) views-law (λ w tid _ _. tt) v r tt
+
+pub views_step : (w : World) (line : ScriptLine) → IsSoundWorld w → HasShutConnects w → HasSoundOffers w → IsReady (world_after w (own_steps line w)) → HasSoundViews w → HasSoundViews (step w line).world
+views_step w line s shut offers ready t = step-keeps (Shut AreSound) HasSoundViews views-lines views-settles swept-views w line s (shut, record { views = t; offers = offers }) ready t
 
 pub views_none : HasSoundViews no_rows
 views_none = record { contents = refl; sizes = refl; tables = refl; views = λ pid. record { inside = refl; placed = refl; apart = refl; few = omega arith } }

@@ -1,4 +1,8 @@
 -- The step of each line keeps what connects offer within sections that stand.
+use Rattle.lpc_model.proofs.Steps.Closing.{behind}
+use Rattle.lpc_model.specs.Settle.{settle}
+use Rattle.lpc_model.proofs.Settling.Keeps.{step-keeps, settling-does}
+use Rattle.lpc_model.proofs.Settling.Settled.{IsReady}
 use Rattle.std.proofs.Common.{◌≡◌, List, [], ◌∷◌, Bool, true, false, map, not, Option, Some, None, refl, sym, subst, arith}
 use Rattle.std.specs.Prelude.{◌≤◌, is_none}
 use Rattle.std.proofs.lemmas.Bool.{not-true}
@@ -8,22 +12,21 @@ use Rattle.lpc_base.proofs.RowMaps.{every-both}
 use Rattle.lpc_base.proofs.RowWords.{every-change, every-more, every-push, every-without, first-kept}
 use Rattle.lpc_model.specs.declared.entry.ObjectKind.TheVariants as kind
 use Rattle.lpc_model.specs.World.{Acceptance, Birth, ObjectKind, ObjectName, Offer, SectionRow, ThreadRow, WaitRow, World}
-use Rattle.lpc_model.specs.Found.{all_views, handle_count, is_connect, is_section, offer_of, offers_section, pointer_count, same_birth, section_name, section_row, shows_section}
-use Rattle.lpc_model.specs.Basics.{Accepts, AddsSection, AddsHandle, Awaits, Basic, Dies, DrawsOrdinal, Frees, Receives, Wakes, accepted, basic, freed, received, world_after}
+use Rattle.lpc_model.specs.Found.{all_views, handle_count, is_connect, is_section, offer_of, offers_section, pointer_count, same_birth, section_name, section_row, shows_section, free_handle}
+use Rattle.lpc_model.specs.Basics.{Accepts, AddsSection, AddsHandle, Awaits, Basic, Dies, DrawsOrdinal, Frees, Receives, Wakes, accepted, basic, freed, received, world_after, Dooms, Leaves, LetsGo, Marks, SetsDebug, SetsException}
 use Rattle.lpc_model.specs.Close.{close_handle}
 use Rattle.lpc_model.specs.Connect.{client_port, connection_request, named_steps, unnamed_steps, connect_wait}
 use Rattle.lpc_model.specs.Death.{die}
 use Rattle.lpc_model.specs.Entering.{enter, row_of, take_connect_steps, take_steps, woken}
-use Rattle.lpc_model.specs.Found.{free_handle}
 use Rattle.lpc_model.specs.Linked.{passes_or_none}
 use Rattle.lpc_model.specs.Memory.{new_section}
-use Rattle.lpc_model.specs.SoundViews.{HasSoundOffers, HasSoundViews, StepsKeepOffers, is_sound_offer, offers_part}
+use Rattle.lpc_model.specs.SoundViews.{HasSoundOffers, HasSoundViews, is_sound_offer, offers_part}
 use Rattle.lpc_model.specs.Sweep.{free_unheld, is_unheld, sweep, unheld}
 use Rattle.lpc_model.specs.Tests.{handle_row, next_birth}
 use Rattle.lpc_model.proofs.Calls.Acts.{Law, accept_act, complete_act, create_act, keeps_on, outcomes}
-use Rattle.lpc_model.proofs.Calls.Lines.{AnyWorld, Keep, LineLaw, Shut, line-does, passing-lines, step-keeps}
+use Rattle.lpc_model.proofs.Calls.Lines.{AnyWorld, Keep, LineLaw, Shut, line-does, passing-lines}
 use Rattle.lpc_model.specs.Lines.{ScriptLine}
-use Rattle.lpc_model.specs.Machine.{bare_steps}
+use Rattle.lpc_model.specs.Machine.{own_steps, step}
 use Rattle.lpc_model.specs.SoundWaits.{HasShutConnects, IsSoundWorld}
 use Rattle.lpc_model.proofs.Calls.Offers.{Given, IsOffer}
 use Rattle.lpc_model.proofs.Calls.Sharing.{connect_begun}
@@ -53,7 +56,7 @@ offer-kept w v x still is = at (offer_of x) refl is
 
 -- an accept takes the offer away
 accepted-offer : (w : World) (a : Acceptance) (x : WaitRow) → is_sound_offer w x ≡ true → is_sound_offer w (accepted a x) ≡ true
-accepted-offer w a = by_kind (λ x. is_sound_offer w x ≡ true → is_sound_offer w (accepted a x) ≡ true) (λ x m is. is) (λ x is. is) (λ x is. is) (λ x m offer is. refl) (λ x m b is. is)
+accepted-offer w a = by_kind (λ x. is_sound_offer w x ≡ true → is_sound_offer w (accepted a x) ≡ true) (λ x m is. is) (λ x is. is) (λ x is. is) (λ x m offer is. refl) (λ x m b is. is) (λ x r is. is)
 
 no-offer : (w : World) (x : WaitRow) → is_none (offer_of x) ≡ true → is_sound_offer w x ≡ true
 no-offer w x none = at (offer_of x) none
@@ -64,6 +67,7 @@ no-offer w x none = at (offer_of x) none
 
 offers-step : (w : World) (b : Basic) → keeps_offers b ≡ true → HasSoundOffers w → HasSoundOffers (basic w b)
 offers-step w (Wakes who call status fields) is t = every-without (is_sound_offer w) _ w.waits t
+offers-step w (Leaves who) is t = every-without (is_sound_offer w) _ w.waits t
 offers-step w (Awaits x) is t = every-push (is_sound_offer w) w.waits x t (no-offer w x is)
 offers-step w (Receives who queue) is t = every-change (is_sound_offer w) _ received (λ x is. is) w.waits t
 offers-step w (Accepts who a) is t = every-change (is_sound_offer w) _ (accepted a) (accepted-offer w a) w.waits t
@@ -122,7 +126,7 @@ ended-offers w bs all = offers-all w bs (every-more is_ending keeps_offers endin
 
 -- a wait of another kind offers nothing
 unconnected-offer : (x : WaitRow) → not (is_connect x) ≡ true → is_none (offer_of x) ≡ true
-unconnected-offer = by_kind (λ x. not (is_connect x) ≡ true → is_none (offer_of x) ≡ true) (λ x m is. refl) (λ x is. refl) (λ x is. refl) (λ x m offer is. absurd (cc)) (λ x m a is. refl)
+unconnected-offer = by_kind (λ x. not (is_connect x) ≡ true → is_none (offer_of x) ≡ true) (λ x m is. refl) (λ x is. refl) (λ x is. refl) (λ x m offer is. absurd (cc)) (λ x m a is. refl) (λ x r is. refl)
 
 begun-offers : (w : World) (x : WaitRow) → not (is_connect x) ≡ true → HasSoundOffers w → HasSoundOffers (basic w (Awaits x))
 begun-offers w x other t = every-push (is_sound_offer w) w.waits x t (no-offer w x (unconnected-offer x other))
@@ -140,6 +144,11 @@ offers-law by = record {
   says = λ w e t. t;
   numbers = λ w t. t;
   wakes = λ w status fields x. offers-all w (woken status fields x ∷ []) refl;
+  marks = λ w who is. offers-all w (Marks who ∷ []) refl;
+  abandons = λ w who. offers-all w (Leaves who ∷ []) refl;
+  debugs = λ w pid b stands live. offers-all w (SetsDebug pid b ∷ []) refl;
+  excepts = λ w pid b stands live. offers-all w (SetsException pid b ∷ []) refl;
+  dooms = λ w pid code. offers-all w (Dooms pid code ∷ []) refl;
   takes = λ w m. ended-offers w (take_steps m) (ending-receipt m);
   listens = λ w m. ended-offers w (take_connect_steps m) (ending-receipt m);
   waits = λ w x off is. begun-offers w x off;
@@ -162,6 +171,7 @@ offers-law by = record {
   closes = λ w pid r at s _. ended-offers w (close_handle pid r w) (handle-ending pid r w);
   dies = λ w code t is. ended-offers w (die code t w) (die-ending code t w);
   leaves = λ w n b t. t;
+  lets_go = λ w pid. offers-all w (LetsGo pid ∷ []) refl;
   vacates = λ w pid t. t;
   disowns = λ w b t. t;
   secures = λ w b s t. t;
@@ -175,11 +185,15 @@ offers-law by = record {
 
 -- Lines
 pub offers-lines : LineLaw (Shut HasSoundViews) (λ _. Keep HasSoundOffers)
-offers-lines = passing-lines (Shut HasSoundViews) (Keep HasSoundOffers) (λ _. keeps_offers) offers-all (λ w. record { tells = λ _. refl; processes = λ _. refl; threads = λ _ _ _. refl; binds = λ _ _. refl; names = λ _. refl }) (λ by. outcomes by (Shut HasSoundViews) AnyWorld (Keep HasSoundOffers) (offers-law by) (λ w c. (c.0, tt)))
+offers-lines = passing-lines (Shut HasSoundViews) (Keep HasSoundOffers) (λ _. keeps_offers) offers-all (λ w. record { tells = λ _. refl; processes = λ _ _ _. refl; threads = λ _ _ _. refl; binds = λ _ _. refl; names = λ _. refl }) (λ by. outcomes by (Shut HasSoundViews) AnyWorld (Keep HasSoundOffers) (offers-law by) (λ w c. (c.0, tt)))
 
--- before rows go
-pub offers_line : (w : World) (line : ScriptLine) → IsSoundWorld w → HasShutConnects w → HasSoundViews w → HasSoundOffers w → HasSoundOffers (world_after w (bare_steps line w))
+-- before the world settles
+pub offers_line : (w : World) (line : ScriptLine) → IsSoundWorld w → HasShutConnects w → HasSoundViews w → HasSoundOffers w → HasSoundOffers (world_after w (own_steps line w))
 offers_line w line s shut views t = line-does (Shut HasSoundViews) (λ _. Keep HasSoundOffers) offers-lines w s (shut, views) line t
 
-pub offers_step : StepsKeepOffers
-offers_step w line s shut views t = step-keeps (Shut HasSoundViews) HasSoundOffers offers-lines swept-offers w line s (shut, views) t
+-- settling
+pub offers-settles : (v : World) → IsReady v → HasSoundOffers v → HasSoundOffers (behind settle v)
+offers-settles v r = settling-does (Shut HasSoundViews) AnyWorld (Keep HasSoundOffers) offers-law (λ w tid _ _. tt) v r tt
+
+pub offers_step : (w : World) (line : ScriptLine) → IsSoundWorld w → HasShutConnects w → HasSoundViews w → IsReady (world_after w (own_steps line w)) → HasSoundOffers w → HasSoundOffers (step w line).world
+offers_step w line s shut views ready t = step-keeps (Shut HasSoundViews) HasSoundOffers offers-lines offers-settles swept-offers w line s (shut, views) ready t

@@ -10,15 +10,16 @@ use Rattle.lpc_model.specs.Grammar.{accept_word, view_word, call_line, call_name
 use Rattle.lpc_model.specs.Run.{first_fault, said_from, trace, world_behind}
 use Rattle.lpc_model.specs.Transcript.{body_from, transcript}
 use Rattle.lpc_model.specs.Text.{entries_text, entry_text}
+use Rattle.lpc_model.specs.Settle.{settle}
 use Rattle.lpc_model.specs.Sweep.{sweep}
-use Rattle.lpc_model.specs.Machine.{boot_line, dir_line, link_line, bare_steps, thread_line}
+use Rattle.lpc_model.specs.Machine.{boot_line, dir_line, link_line, bare_steps, thread_line, own_steps}
 use Rattle.lpc_model.specs.Connect.{nt_create_port}
 use Rattle.lpc_model.specs.Request.{nt_reply_port, nt_reply_wait_receive_port, nt_request_port, nt_request_wait_reply_port}
 use Rattle.lpc_model.specs.Message.{bytes_of, message_test}
 use Rattle.lpc_model.specs.Worked.{WorkedTranscripts}
 
 pub worked_transcripts : WorkedTranscripts
-unfolding two_or_three_words qos_word script_lines words digits_word decimal_word hexadecimal_word number_word id_word hex_word split_once three_parts reply_message message_word info_word accept_word view_word call_named directive_named one_word one_or_two_words two_words four_words call_words directive_words call_line directive_line read_line first_fault said_from trace world_behind body_from transcript entry_text entries_text boot_line dir_line link_line thread_line bare_steps sweep nt_create_port nt_request_port nt_request_wait_reply_port nt_reply_port nt_reply_wait_receive_port bytes_of message_test handle_from walk walk_by digits decode_pairs encode_with
+unfolding two_or_three_words qos_word script_lines words digits_word decimal_word hexadecimal_word number_word id_word hex_word split_once three_parts reply_message message_word info_word accept_word view_word call_named directive_named one_word one_or_two_words two_words four_words call_words directive_words call_line directive_line read_line first_fault said_from trace world_behind body_from transcript entry_text entries_text boot_line dir_line link_line thread_line own_steps bare_steps settle sweep nt_create_port nt_request_port nt_request_wait_reply_port nt_reply_port nt_reply_wait_receive_port bytes_of message_test handle_from walk walk_by digits decode_pairs encode_with
 worked_transcripts = record {
   first_request = refl;
   mismatched_identifier = refl;
