@@ -8,6 +8,7 @@ pub mod Creates
 pub mod Described
 pub mod Duplicates
 pub mod Enter
+pub mod Exceptions
 pub mod Instances
 pub mod Listens
 pub mod Mappings
@@ -17,6 +18,7 @@ pub mod Ranges
 pub mod Receive
 pub mod Refuses
 pub mod Registers
+pub mod Raises
 pub mod Reply
 pub mod Requests
 pub mod Routes

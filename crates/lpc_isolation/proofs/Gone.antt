@@ -9,8 +9,10 @@ pub mod Held
 pub mod ServedLines
 pub mod Loaded
 pub mod Born
+pub mod Restful
 pub mod Grown
 pub mod ThinCalls
+pub mod Settles
 pub mod Sweeps
 pub mod Swept
 pub mod Owned

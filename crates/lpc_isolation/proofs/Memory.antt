@@ -7,3 +7,4 @@ pub mod Lines
 pub mod Bytes
 pub mod ByteLines
 pub mod ViewLines
+pub mod Settling

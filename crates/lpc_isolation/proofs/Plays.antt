@@ -5,4 +5,11 @@ pub mod Residents
 pub mod Directives
 pub mod Stands
 pub mod Nexts
+pub mod Housed
+pub mod Due
+pub mod Speaks
+pub mod Fails
+pub mod Settles
+pub mod Behind
+pub mod Keeps
 pub mod BareLaw

@@ -12,3 +12,4 @@ pub mod Names
 pub mod Bound
 pub mod Bindings
 pub mod NamesKept
+pub mod Raisers

@@ -2,6 +2,7 @@
 pub mod Alone
 pub mod Filters
 pub mod View
+pub mod Marks
 pub mod Basics
 pub mod Seen
 pub mod Places

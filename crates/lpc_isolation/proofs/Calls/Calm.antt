@@ -1,4 +1,5 @@
 -- What a call owes the law that makes no thread and ends none of its own making.
+use Rattle.lpc_model.specs.Left.{HasLivingPorts}
 use Rattle.lpc_model.specs.SoundWaits.{IsSoundWorld}
 use Rattle.lpc_isolation.proofs.Views.Alone.{HasFineRows}
 use Rattle.lpc_isolation.proofs.Views.Callers.{Answered, Led}
@@ -39,4 +40,4 @@ pub record Calm (call : ScriptCall) : Type 0 where
   pub refuses : (w : World) (by : ThreadRow) → Refuses (served w by call)
   pub members : Members call
   -- it answers alike where rows that nothing names have gone
-  pub alike : (k : Alive) (u : World) (by : ThreadRow) → live_thread u by.number ≡ Some by → IsSoundWorld u → Closed k u → served (thin k u) by call ≡ served u by call
+  pub alike : (k : Alive) (u : World) (by : ThreadRow) → live_thread u by.number ≡ Some by → IsSoundWorld u → HasLivingPorts u → Closed k u → served (thin k u) by call ≡ served u by call

@@ -1,5 +1,9 @@
 -- What calls come to in the machine whose rows never go, each with its steps and what its tests found. What holds of each deed
 -- holds of each call that is served.
+use Rattle.lpc_model.specs.declared.line.ProcArg.{ProcArg}
+use Rattle.lpc_model.specs.Targets.{process_target}
+use Rattle.lpc_model.proofs.Calls.Raising.{IsHearing}
+use Rattle.lpc_model.specs.Raise.{Handled, Heard, Hearing, Unhandled, raise_steps, set_port_steps}
 use Rattle.lpc_tokens.specs.declared.security.Security.TheVariants.{Guarded}
 use Rattle.lpc_model.specs.Ranges.{Described, described_test, read_range_steps, write_range_steps}
 use Rattle.lpc_base.specs.Views.{whole_pages}
@@ -21,8 +25,8 @@ use Rattle.lpc_model.proofs.Calls.Outcomes.{AreDoomed, EndCall, IsReceiving, Out
 use Rattle.lpc_model.specs.Basics.{AddsHandle, Basic, DrawsIdentifier, Maps, Registers, Tells, Unmaps, Writes, Acts, Secures}
 use Rattle.lpc_model.specs.Close.{close_steps}
 use Rattle.lpc_model.specs.Connect.{Completable, ConnectAnswer, accept_steps, answer_test, complete_steps, complete_test, connect_steps, connection_request, create_steps, listen_steps, named_steps, refuse_steps, unnamed_steps, allow_steps, guard_steps}
-use Rattle.lpc_model.specs.Found.{free_handle, handle_at, is_queued, is_queued_connect, view_holding}
-use Rattle.lpc_model.specs.Lines.{ScriptCall, accept_connect_port, close, complete_connect_port, connect_port, create_port, create_process, create_thread, listen_port, query_object, reply_port, reply_wait_receive_port, request_port, request_wait_reply_port, terminate_process, terminate_thread, duplicate_object, register_thread_terminate_port, create_section, map_view_of_section, unmap_view_of_section, read_virtual_memory, write_virtual_memory, read_request_data, write_request_data, impersonate_client_of_port, open_process_token, open_thread_token, query_information_token, set_information_thread}
+use Rattle.lpc_model.specs.Found.{free_handle, handle_at, is_queued, is_queued_connect, view_holding, is_live}
+use Rattle.lpc_model.specs.Lines.{ScriptCall, accept_connect_port, close, complete_connect_port, connect_port, create_port, create_process, create_thread, listen_port, query_object, reply_port, reply_wait_receive_port, request_port, request_wait_reply_port, terminate_process, terminate_thread, duplicate_object, register_thread_terminate_port, create_section, map_view_of_section, unmap_view_of_section, read_virtual_memory, write_virtual_memory, read_request_data, write_request_data, impersonate_client_of_port, open_process_token, open_thread_token, query_information_token, set_information_thread, raise, set_information_process}
 use Rattle.lpc_model.specs.Message.{message_test}
 use Rattle.lpc_model.specs.Named.{free_name}
 use Rattle.lpc_model.specs.Request.{Sendable, datagram_send_test, datagram_steps, receive_steps, reply_steps, reply_test, request_steps, send_test, sent_by}
@@ -61,10 +65,12 @@ is_calm (create_process pid tid) = false
 is_calm (create_thread target tid) = false
 is_calm call = true
 
--- a call that ends no thread
+-- a call that ends no thread, and none of exceptions
 abbrev pub spares : ScriptCall → Bool
 spares (terminate_thread target code) = false
 spares (terminate_process target code) = false
+spares (set_information_process target class port) = false
+spares (raise code handled) = false
 spares call = true
 
 -- a call that is tame
@@ -149,6 +155,10 @@ pub record Deeds (w : World) (by : ThreadRow) (P : ScriptCall → List Basic →
   pub impersonates : (handle : ℕ) (bytes : List ℕ) (own : Impersonation) → IsAllowed w by handle bytes own → P (impersonate_client_of_port handle bytes) (impersonate_steps by own)
   pub opens_own : (own : Impersonation) → own_test by ≡ Ok own → P open_thread_token (token_steps by NtOpenThreadToken (held_content own) (free_handle w by.process))
   pub opens_primary : P open_process_token (token_steps by NtOpenProcessToken (process_content w by) (free_handle w by.process))
+  pub sets : (target : ProcArg) (class handle pid : ℕ) (port : PortRow) → process_target w by target ≡ Ok pid → port_test w by handle ≡ Ok port → is_live w pid ≡ true → P (set_information_process target class handle) (set_port_steps by class pid port.birth)
+  pub handles : (code : ℕ) (handled : Bool) → P (raise code handled) (raise_steps by code handled Handled w)
+  pub hears : (code : ℕ) (handled : Bool) (h : Hearing) → IsHearing w by.process h → P (raise code handled) (raise_steps by code handled (Heard h) w)
+  pub fails : (code : ℕ) (handled : Bool) → P (raise code handled) (raise_steps by code handled Unhandled w)
   pub tames : Tames w by P
   pub ends : (call : EndCall) (name : CallName) (own : Bool) (pid : ℕ) (code : Status) (ts : List ThreadRow) → AreDoomed w by own pid ts → P (end_call call) (answered_end by name own pid code ts w)
 
@@ -207,6 +217,10 @@ module _ (w : World) (by : ThreadRow) (P : ScriptCall → List Basic → Type 0)
     opens_own = λ own at _. d.opens_own own at;
     opens_primary = λ _. d.opens_primary;
     asks_token = λ handle class t field at told _. d.tames.of_ask handle class t field at told;
+    sets = λ target class handle pid port at found live _. d.sets target class handle pid port at found live;
+    handles = λ code handled _. d.handles code handled;
+    hears = λ code handled h is _. d.hears code handled h is;
+    fails = λ code handled _. d.fails code handled;
     ends = λ call name own pid code ts doomed _. d.ends call name own pid code ts doomed;
   }
 

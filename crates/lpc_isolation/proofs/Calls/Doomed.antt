@@ -70,7 +70,7 @@ ending-row u w pid t used homed fair = at (lives_in pid t) refl
         let own : owner u t.number ≡ Some pid = rw used (homed-number w t.number t homed refl) ∙ ap (λ p. Some p) (eqb-true t.process pid process) in
         and_from _ _ (rw own (same-number pid)) (and_from _ _ process fair)
 
-ending-rows : (m : Group) (c : ℕ) (u w : World) (pid : ℕ) → Fair m c w → u.used_threads ≡ w.used_threads → every (λ t. not (lives_in pid t) || is_ending_of u pid t) w.threads ≡ true
+pub ending-rows : (m : Group) (c : ℕ) (u w : World) (pid : ℕ) → Fair m c w → u.used_threads ≡ w.used_threads → every (λ t. not (lives_in pid t) || is_ending_of u pid t) w.threads ≡ true
 ending-rows m c u w pid f used = every-both (is_homed w.used_threads) is_fair_thread (λ t. not (lives_in pid t) || is_ending_of u pid t) (λ t homed fair. ending-row u w pid t used homed fair) w.threads f.threads f.registrations
 
 -- it is of the caller's process
@@ -110,7 +110,7 @@ pub doomed-part : (m : Group) (c : ℕ) (u w : World) (by : ThreadRow) (own : Bo
 doomed-part m c u w by own pid code ts k doomed = ends-part m c u pid k.c_in code ts (doomed-rows (λ t n. is_ending_of u n t) w by own pid ts k.live (λ n. ending-rows m c u w n k.fair k.used) doomed)
 
 -- ports that live threads registered stand
-standing-rows : (k : Alive) (u : World) (pid : ℕ) → Closed k u → every (λ t. not (lives_in pid t) || are_standing k t) u.threads ≡ true
+pub standing-rows : (k : Alive) (u : World) (pid : ℕ) → Closed k u → every (λ t. not (lives_in pid t) || are_standing k t) u.threads ≡ true
 standing-rows k u pid c = every-more (λ t. every k.ports (registered_by t)) (λ t. not (lives_in pid t) || are_standing k t) (λ t is. at t t.live refl is) u.threads (sym (every-each k.ports registered_by u.threads) ∙ c.registrations)
   where
     at : (t : ThreadRow) (e : Bool) → t.live ≡ e → every k.ports (registered_by t) ≡ true → (not (lives_in pid t) || are_standing k t) ≡ true

@@ -1,13 +1,12 @@
 -- What each call owes the law.
-use Rattle.std.proofs.Common.{◌≡◌, ℕ, ◌+◌, ◌≤◌, List, [], ◌∷◌, ◌++◌, Bool, true, false, cond, not, Option, None, Some, refl, subst, arith}
-use Rattle.std.specs.Prelude.{◌==◌, ◌&&◌, ◌||◌, is_some}
+use Rattle.lpc_model.specs.Left.{HasLivingPorts}
+use Rattle.std.proofs.Common.{◌≡◌, ℕ, ◌+◌, ◌≤◌, List, [], ◌∷◌, ◌++◌, Bool, true, false, cond, not, None, Some, refl, subst, arith}
+use Rattle.std.specs.Prelude.{◌==◌, ◌&&◌}
 use Rattle.std.proofs.lemmas.Bool.{eqb-true}
-use Rattle.lpc_base.specs.Rows.{count, first, has}
-use Rattle.lpc_base.proofs.RowWords.{count-none, count-push, first-passes}
-use Rattle.lpc_base.proofs.RowMaps.{every-first}
-use Rattle.lpc_base.proofs.Bools.{first-true, second-true}
+use Rattle.lpc_base.specs.Rows.{count, has}
+use Rattle.lpc_base.proofs.RowWords.{count-none, count-push}
 use Rattle.lpc_model.specs.World.{Birth, Contents, ThreadRow, UsedThread, World}
-use Rattle.lpc_model.specs.Found.{is_live, is_used_thread, live_thread, lives_in, wait_of, was_process}
+use Rattle.lpc_model.specs.Found.{is_live, is_used_thread, live_thread, wait_of, was_process}
 use Rattle.lpc_model.specs.Basics.{world_after}
 use Rattle.lpc_model.specs.Grammar.{has_call_ids}
 use Rattle.lpc_model.specs.Tests.{next_birth}
@@ -28,7 +27,7 @@ use Rattle.lpc_isolation.proofs.Plays.Lines.{OnceUsed, seeing}
 use Rattle.lpc_isolation.proofs.Each.Listens.{own_entry}
 use Rattle.lpc_isolation.proofs.Rows.Ids.{Numbered}
 use Rattle.lpc_isolation.proofs.Rows.Asked.{Asked}
-use Rattle.lpc_isolation.proofs.Gone.Thin.{Alive, Closed, thin, thread_closed}
+use Rattle.lpc_isolation.proofs.Gone.Thin.{Alive, Closed, thin, live-home}
 use Rattle.lpc_isolation.proofs.Gone.ThinCalls.{AreClosed}
 use Rattle.lpc_isolation.proofs.Memory.Heard.{Heard, call_memo}
 use Rattle.lpc_isolation.proofs.Memory.Knows.{AllKnown}
@@ -57,17 +56,7 @@ at-most tid us u new once = at (u.number == tid) refl
 
 -- a process that lives stands
 pub home-live : (k : Alive) (u : World) (n : ℕ) → Closed k u → is_live u n ≡ true → k.homes n ≡ true
-home-live k u n c live = at (first (lives_in n) u.threads) refl live
-  where
-    at : (o : Option ThreadRow) → first (lives_in n) u.threads ≡ o → is_some o ≡ true → k.homes n ≡ true
-    at None none is = absurd (cc)
-    at (Some t) some is =
-        let passed : lives_in n t ≡ true = first-passes (lives_in n) u.threads t some in
-        let home : k.homes t.process ≡ true = last t.live (k.threads t.birth) (k.homes t.process) (second-true (t.process == n) t.live passed) (every-first (thread_closed k) (lives_in n) u.threads t c.threads some) in
-        subst (λ i. k.homes i ≡ true) (eqb-true t.process n (first-true _ _ passed)) home
-      where
-        last : (l a h : Bool) → l ≡ true → (not l || (a && h)) ≡ true → h ≡ true
-        last l a h is it = grind arith
+home-live = live-home
 
 -- a number that a call may make a process of
 abbrev pub is_home : World → ScriptCall → ℕ → Bool
@@ -105,6 +94,6 @@ pub record Lawful (call : ScriptCall) : Type 0 where
   pub hears : (m : Group) (c : ℕ) (d : Whose) (w : World) (by : ThreadRow) (known : List ℕ → Birth) (memo : List Heard) → At m c w by known → Owned w w → Numbered w → Asked w → AllKnown m memo w → m by.process ≡ false → Holds (λ bs. HasFineRows m c (world_after w bs) → Hears m c (world_after w bs) d w memo bs) (served w by call)
   pub notes : (m : Group) (c : ℕ) (w : World) (by : ThreadRow) (known : List ℕ → Birth) (memo : List Heard) → At m c w by known → Owned w w → Numbered w → Asked w → AllKnown m memo w → m by.process ≡ true → Holds (λ bs. AllKnown m (cond (by.process == c) memo (call_memo m (view m w) by call (own_entry bs) memo)) (world_after w bs)) (served w by call)
   -- it answers alike where rows that nothing names have gone, names what stands alone, and makes processes and ports as the circle has them
-  pub alike : (k : Alive) (u : World) (by : ThreadRow) → live_thread u by.number ≡ Some by → IsSoundWorld u → Closed k u → served (thin k u) by call ≡ served u by call
+  pub alike : (k : Alive) (u : World) (by : ThreadRow) → live_thread u by.number ≡ Some by → IsSoundWorld u → HasLivingPorts u → Closed k u → served (thin k u) by call ≡ served u by call
   pub stands : (k : Alive) (u : World) (by : ThreadRow) → live_thread u by.number ≡ Some by → IsSoundWorld u → Closed k u → Room k u by call → Holds (AreClosed k) (served u by call)
   pub fine : (m : Group) (c : ℕ) (after u : World) (by : ThreadRow) → wait_of u by.number ≡ None → HasFineRows m c after → Holds (FineAfter m c after u) (served u by call)

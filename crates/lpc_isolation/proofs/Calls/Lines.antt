@@ -11,10 +11,10 @@ use Rattle.lpc_model.specs.declared.entry.Entry.{Entry}
 use Rattle.lpc_model.specs.declared.entry.Entry.TheVariants as entry
 use Rattle.lpc_model.specs.World.{Contents, ThreadRow, WaitRow, World, Impersonation}
 use Rattle.lpc_model.specs.Found.{live_thread, wait_of, waits_as}
-use Rattle.lpc_model.specs.Basics.{Accepts, AddsHandle, AddsProcess, AddsSection, AddsThread, Awaits, Basic, Binds, Completes, Cuts, DrawsIdentifier, DrawsOrdinal, DropsHandle, DropsViewsOf, Empties, Enters, Frees, Joins, Makes, Maps, Receives, Takes, TakesConnect, Tells, Unbinds, Unmaps, Wakes, Withdraws, Writes, entries_of, world_after, told, Dies, Registers, Unregisters, DropsOwned, Acts, AddsToken, NamesToken, Secures}
+use Rattle.lpc_model.specs.Basics.{Accepts, AddsHandle, AddsProcess, AddsSection, AddsThread, Awaits, Basic, Binds, Completes, Cuts, DrawsIdentifier, DrawsOrdinal, DropsHandle, DropsViewsOf, Empties, Enters, Frees, Joins, Makes, Maps, Receives, Takes, TakesConnect, Tells, Unbinds, Unmaps, Wakes, Withdraws, Writes, entries_of, world_after, told, Dies, Registers, Unregisters, DropsOwned, Acts, AddsToken, NamesToken, Secures, Dooms, Leaves, LetsGo, Marks, SetsDebug, SetsException}
 use Rattle.lpc_model.specs.Lines.{ScriptCall, run, read_virtual_memory, read_request_data}
-use Rattle.lpc_model.specs.Machine.{name_of_call, settled, bare_steps}
-use Rattle.lpc_isolation.proofs.Gone.Served.{served, served_step, served_steps}
+use Rattle.lpc_model.specs.Machine.{name_of_call, settled, own_steps}
+use Rattle.lpc_isolation.proofs.Gone.Served.{served, own_served_step, own_served}
 use Rattle.lpc_model.proofs.Calls.Holding.{Holds, holds_ok}
 use Rattle.lpc_model.proofs.Calls.Usable.{live-number}
 use Rattle.lpc_model.specs.Circle.{Everyone, Group, Item, Nobody, Of, Told, Whose, entry_whose, is_seen, is_told_to, owned, owner, thread_whose, Gave, given_in}
@@ -25,7 +25,7 @@ use Rattle.lpc_isolation.proofs.Rows.Fair.{Fair, is_fair_wait}
 use Rattle.lpc_isolation.proofs.Views.Seen.{live-owner, live-view}
 use Rattle.lpc_isolation.proofs.Views.Apart.{Owned, are_apart, is_heard, is_owned, owned-by}
 use Rattle.lpc_isolation.proofs.Views.Callers.{Answered, Led, c-wait, led-same}
-use Rattle.lpc_isolation.proofs.Each.Listens.{own_entry}
+use Rattle.lpc_isolation.proofs.Each.Listens.{own_entry, tells_some}
 use Rattle.lpc_isolation.proofs.Plays.Play.{told_inputs, told_items, gave_items, given_inputs, is_given_input}
 use Rattle.lpc_isolation.proofs.Plays.Lines.{Leads, Owes, accepts, is_done, led_line, next_entry, seeing, own_given, IsGiven, next_given}
 use Rattle.lpc_isolation.proofs.Calls.Serves.{is_call_of, is_orderly, orderly-done, orderly-used, tells_thread, same_owner}
@@ -36,9 +36,9 @@ pub record Begins (w : World) (tid : ℕ) (bs : List Basic) : Type 0 where
   pub rest : List Basic
   pub entry : Entry
   pub is : bs ≡ step ∷ rest
-  pub told : told step ≡ entry ∷ []
+  pub told : tells_some bs ≡ true → told step ≡ entry ∷ []
   pub own : own_entry (step ∷ rest) ≡ entry
-  pub whose : (d : Whose) → entry_whose (world_after w bs) d entry ≡ thread_whose w tid
+  pub whose : tells_some bs ≡ true → (d : Whose) → entry_whose (world_after w bs) d entry ≡ thread_whose w tid
   pub accepted : accepts entry ≡ true
   pub done : every (is_done (world_after w bs)) (entries_of bs) ≡ true
 
@@ -67,17 +67,17 @@ pub record Serves (led : Leads) (m : Group) (c : ℕ) (w : World) (by : ThreadRo
 -- what the list of a line owes
 record OwesAt (led : Leads) (m : Group) (c : ℕ) (w : World) (tid : ℕ) (call : ScriptCall) (bs : List Basic) : Type 0 where
   apart : is_seen m (thread_whose w tid) ≡ false → are_apart m c (world_after w bs) (thread_whose w tid) w bs ≡ true
-  own : is_seen (alone c) (thread_whose w tid) ≡ true → Led m c (world_after w bs) (thread_whose w tid) w bs (served_steps (run tid call) (seeing led.bytes (view m w) call))
+  own : is_seen (alone c) (thread_whose w tid) ≡ true → Led m c (world_after w bs) (thread_whose w tid) w bs (own_served (run tid call) (seeing led.bytes (view m w) call))
   leads : is_seen m (thread_whose w tid) ≡ true → is_seen (alone c) (thread_whose w tid) ≡ false → Led m c (world_after w bs) (thread_whose w tid) w bs (led_line led (view m w) tid call (own_entry bs) (own_given bs))
   gives : is_seen m (thread_whose w tid) ≡ true → is_seen (alone c) (thread_whose w tid) ≡ false → (is : List Item) → led_line led (view m w) tid call (own_entry bs) (next_given (told_items (told_inputs m c (world_after w bs) (thread_whose w tid) (entries_of bs)) ++ (gave_items (given_inputs m c (thread_whose w tid) (given_in bs)) ++ is))) ≡ led_line led (view m w) tid call (own_entry bs) (own_given bs)
-  own_gives : is_seen (alone c) (thread_whose w tid) ≡ true → given_in (served_steps (run tid call) (seeing led.bytes (view m w) call)) ≡ given_in bs
-  first : is_seen m (thread_whose w tid) ≡ true → is_seen (alone c) (thread_whose w tid) ≡ false → (is : List Item) → next_entry (told_items (told_inputs m c (world_after w bs) (thread_whose w tid) (entries_of bs)) ++ is) ≡ own_entry bs
+  own_gives : is_seen (alone c) (thread_whose w tid) ≡ true → given_in (own_served (run tid call) (seeing led.bytes (view m w) call)) ≡ given_in bs
+  first : tells_some bs ≡ true → is_seen m (thread_whose w tid) ≡ true → is_seen (alone c) (thread_whose w tid) ≡ false → (is : List Item) → next_entry (told_items (told_inputs m c (world_after w bs) (thread_whose w tid) (entries_of bs)) ++ is) ≡ own_entry bs
   done : every (is_done (world_after w bs)) (entries_of bs) ≡ true
 
-owes-of : (led : Leads) (m : Group) (c : ℕ) (w : World) (tid : ℕ) (call : ScriptCall) (bs : List Basic) → served_steps (run tid call) w ≡ bs → OwesAt led m c w tid call bs → Owes led m c w tid call
+owes-of : (led : Leads) (m : Group) (c : ℕ) (w : World) (tid : ℕ) (call : ScriptCall) (bs : List Basic) → own_served (run tid call) w ≡ bs → OwesAt led m c w tid call bs → Owes led m c w tid call
 owes-of led m c w tid call bs is o = from (subst (OwesAt led m c w tid call) (sym is) o)
   where
-    from : OwesAt led m c w tid call (served_steps (run tid call) w) → Owes led m c w tid call
+    from : OwesAt led m c w tid call (own_served (run tid call) w) → Owes led m c w tid call
     from o = record { apart = o.apart; own = o.own; leads = o.leads; gives = o.gives; own_gives = o.own_gives; first = o.first; done = o.done }
 
 -- a member's entry, other than c's, is the next of its inputs
@@ -95,14 +95,14 @@ next-is m c u d e es is seen off =
     keeps a b one off = grind arith
 
 -- a line that tells one entry, which accepts nothing
-owes-lone : (led : Leads) (m : Group) (c : ℕ) (w : World) (tid : ℕ) (call : ScriptCall) (e : Entry) → entry_whose w (thread_whose w tid) e ≡ thread_whose w tid → accepts e ≡ false → is_done w e ≡ true → (is_seen (alone c) (thread_whose w tid) ≡ true → served_steps (run tid call) (seeing led.bytes (view m w) call) ≡ Tells e ∷ []) → OwesAt led m c w tid call (Tells e ∷ [])
+owes-lone : (led : Leads) (m : Group) (c : ℕ) (w : World) (tid : ℕ) (call : ScriptCall) (e : Entry) → entry_whose w (thread_whose w tid) e ≡ thread_whose w tid → accepts e ≡ false → is_done w e ≡ true → (is_seen (alone c) (thread_whose w tid) ≡ true → own_served (run tid call) (seeing led.bytes (view m w) call) ≡ Tells e ∷ []) → OwesAt led m c w tid call (Tells e ∷ [])
 owes-lone led m c w tid call e whose off done same = record {
   apart = λ out. let gone : is_heard m w (thread_whose w tid) e ≡ false = ap (is_seen m) whose ∙ out in rw gone refl;
   own = λ is. subst (Led m c w (thread_whose w tid) w (Tells e ∷ [])) (sym (same is)) (led-same m c w (thread_whose w tid) w (Tells e ∷ []) refl);
   leads = λ seen other. let none : is_heard (alone c) w (thread_whose w tid) e ≡ false = ap (is_seen (alone c)) whose ∙ other in record { world = rw off refl; told = rw (none, off) refl };
   gives = λ seen other is. rw off refl;
   own_gives = λ is. ap given_in (same is);
-  first = λ seen other is. next-is m c w (thread_whose w tid) e [] is (ap (is_seen m) whose ∙ seen) (ap (is_seen (alone c)) whose ∙ other);
+  first = λ some seen other is. next-is m c w (thread_whose w tid) e [] is (ap (is_seen m) whose ∙ seen) (ap (is_seen (alone c)) whose ∙ other);
   done = rw done refl;
 }
 
@@ -142,9 +142,9 @@ pub record Headed (w : World) (tid : ℕ) (bs : List Basic) : Type 0 where
   pub rest : List Basic
   pub entry : Entry
   pub is : bs ≡ step ∷ rest
-  pub told : told step ≡ entry ∷ []
+  pub told : tells_some bs ≡ true → told step ≡ entry ∷ []
   pub own : own_entry (step ∷ rest) ≡ entry
-  pub whose : (u : World) (d : Whose) → u.used_threads ≡ w.used_threads → entry_whose u d entry ≡ thread_whose u tid
+  pub whose : tells_some bs ≡ true → (u : World) (d : Whose) → u.used_threads ≡ w.used_threads → entry_whose u d entry ≡ thread_whose u tid
   pub accepted : accepts entry ≡ true
   pub orderly : is_orderly bs ≡ true
 
@@ -172,9 +172,9 @@ headed w tid (Tells e ∷ bs) is = record {
   rest = bs;
   entry = e;
   is = refl;
-  told = refl;
+  told = λ some. refl;
   own = refl;
-  whose = λ u d used. own-whose u d tid e (first-true _ _ is);
+  whose = λ some u d used. own-whose u d tid e (first-true _ _ is);
   accepted = tells-accepts tid e (first-true _ _ is);
   orderly = tells-orderly tid e bs (first-true _ _ is) (second-true _ _ is);
 }
@@ -183,9 +183,9 @@ headed w tid (Dies who status ∷ bs) is = record {
   rest = bs;
   entry = entry.Died who status;
   is = refl;
-  told = refl;
+  told = λ some. refl;
   own = refl;
-  whose = λ u d used. died-whose w tid who (first-true _ _ is) u used;
+  whose = λ some u d used. died-whose w tid who (first-true _ _ is) u used;
   accepted = refl;
   orderly = second-true (same_owner w tid who) _ is;
 }
@@ -223,13 +223,29 @@ headed w tid (Secures a b ∷ bs) is = absurd (cc)
 headed w tid (Acts a b ∷ bs) is = absurd (cc)
 headed w tid (AddsToken a ∷ bs) is = absurd (cc)
 headed w tid (NamesToken a ∷ bs) is = absurd (cc)
+headed w tid (Marks a ∷ bs) is = absurd (cc)
+headed w tid (Leaves a ∷ bs) is = absurd (cc)
+headed w tid (SetsDebug a b ∷ bs) is = absurd (cc)
+headed w tid (SetsException a b ∷ bs) is = absurd (cc)
+headed w tid (LetsGo a ∷ bs) is = absurd (cc)
+headed w tid (Dooms pid code ∷ bs) is = record {
+  step = Dooms pid code;
+  rest = bs;
+  entry = entry.Died 0 SUCCESS;
+  is = refl;
+  told = λ some. absurd (cc);
+  own = refl;
+  whose = λ some u d used. absurd (cc);
+  accepted = refl;
+  orderly = second-true (passes (owner w tid) (λ p. p == pid)) _ is;
+}
 
 -- an orderly list begins so
 pub begins-of : (w : World) (tid : ℕ) (bs : List Basic) → is_call_of w tid bs ≡ true → Begins w tid bs
 begins-of w tid bs ok =
     let h = headed w tid bs ok in
     let used : (world_after w bs).used_threads ≡ w.used_threads = orderly-used w bs h.orderly in
-    record { step = h.step; rest = h.rest; entry = h.entry; is = h.is; told = h.told; own = h.own; whose = λ d. h.whose (world_after w bs) d used ∙ rw used refl; accepted = h.accepted; done = orderly-done w bs h.orderly }
+    record { step = h.step; rest = h.rest; entry = h.entry; is = h.is; told = h.told; own = h.own; whose = λ some d. h.whose some (world_after w bs) d used ∙ rw used refl; accepted = h.accepted; done = orderly-done w bs h.orderly }
 
 pub own-is : (w : World) (tid : ℕ) (bs : List Basic) (h : Begins w tid bs) → own_entry bs ≡ h.entry
 own-is w tid bs h = ap own_entry h.is ∙ h.own
@@ -253,12 +269,12 @@ pub record Ready (m : Group) (c : ℕ) (w : World) (tid : ℕ) (by : ThreadRow) 
   pub live : live_thread w tid ≡ Some by
   pub idle : wait_of w tid ≡ None
 
-pub called : (w : World) (tid : ℕ) (call : ScriptCall) (by : ThreadRow) → live_thread w tid ≡ Some by → wait_of w tid ≡ None → served_steps (run tid call) w ≡ settled by (name_of_call call) (served w by call)
-unfolding bare_steps
+pub called : (w : World) (tid : ℕ) (call : ScriptCall) (by : ThreadRow) → live_thread w tid ≡ Some by → wait_of w tid ≡ None → own_served (run tid call) w ≡ settled by (name_of_call call) (served w by call)
+unfolding own_steps
 called w tid call by live idle = rw (live, idle) refl
 
 -- c's call in the view
-c-called : (led : Leads) (m : Group) (c : ℕ) (w : World) (tid : ℕ) (call : ScriptCall) (by : ThreadRow) → Ready m c w tid by → is_seen (alone c) (thread_whose w tid) ≡ true → served_steps (run tid call) (seeing led.bytes (view m w) call) ≡ settled by (name_of_call call) (served (seeing led.bytes (view m w) call) by call)
+c-called : (led : Leads) (m : Group) (c : ℕ) (w : World) (tid : ℕ) (call : ScriptCall) (by : ThreadRow) → Ready m c w tid by → is_seen (alone c) (thread_whose w tid) ≡ true → own_served (run tid call) (seeing led.bytes (view m w) call) ≡ settled by (name_of_call call) (served (seeing led.bytes (view m w) call) by call)
 c-called led m c w tid call by r is =
     let own : owner w tid ≡ Some c = owner-c c w tid is in
     called (seeing led.bytes (view m w) call) tid call by (seeing-live led.bytes (view m w) tid call ∙ live-view m c w tid c r.fair own r.c_in ∙ r.live) (seeing-wait led.bytes (view m w) tid call ∙ c-idle m c w tid r.c_in r.fair r.owned own ∙ r.idle)
@@ -291,7 +307,6 @@ owes-ok led m c w tid call by bs r s at fine =
     let u : World = world_after w bs in
     let d : Whose = thread_whose w tid in
     let head : Begins w tid bs = subst (λ n. Begins w n bs) number (holds_ok (Begins w by.number) (served w by call) bs s.begins at) in
-    let whose : entry_whose u d head.entry ≡ d = head.whose d in
     record {
       apart = λ out. holds_ok (λ bs. HasFineRows m c (world_after w bs) → are_apart m c (world_after w bs) d w bs ≡ true) (served w by call) bs (s.apart d (sym (owner-in m w tid by own) ∙ out)) at fine;
       own = λ is.
@@ -313,9 +328,10 @@ owes-ok led m c w tid call by bs r s at fine =
           let P : List Basic → List Basic → Type 0 = λ bs led. given_in led ≡ given_in bs in
           let answered : Answered P (Ok bs) (served (seeing led.bytes (view m w) call) by call) = subst (λ r. Answered P r (served (seeing led.bytes (view m w) call) by call)) at (s.own_gives (c-calls m c w tid by r is)) in
           ap given_in (c-called led m c w tid call by r is) ∙ given_too (served (seeing led.bytes (view m w) call) by call) answered;
-      first = λ seen other is.
+      first = λ some seen other is.
+          let whose : entry_whose u d head.entry ≡ d = head.whose some d in
           ap (λ bs'. next_entry (told_items (told_inputs m c u d (entries_of bs')) ++ is)) head.is
-          ∙ ap (λ es. next_entry (told_items (told_inputs m c u d (es ++ entries_of head.rest)) ++ is)) head.told
+          ∙ ap (λ es. next_entry (told_items (told_inputs m c u d (es ++ entries_of head.rest)) ++ is)) (head.told some)
           ∙ next-is m c u d head.entry (entries_of head.rest) is (ap (is_seen m) whose ∙ seen) (ap (is_seen (alone c)) whose ∙ other)
           ∙ sym (own-is w tid bs head);
       done = head.done;
@@ -346,15 +362,15 @@ owes-settled led m c w tid call by (Err e) r s at fine =
     refused P (Err s) is = ap (λ s. Err s) (sym is)
 
 -- the line of a call
-pub owes-call : (led : Leads) (m : Group) (c : ℕ) (w : World) (tid : ℕ) (call : ScriptCall) (by : ThreadRow) → Ready m c w tid by → Serves led m c w by call → HasFineRows m c (served_step w (run tid call)).world → Owes led m c w tid call
+pub owes-call : (led : Leads) (m : Group) (c : ℕ) (w : World) (tid : ℕ) (call : ScriptCall) (by : ThreadRow) → Ready m c w tid by → Serves led m c w by call → HasFineRows m c (own_served_step w (run tid call)).world → Owes led m c w tid call
 owes-call led m c w tid call by r s fine =
-    let is : served_steps (run tid call) w ≡ settled by (name_of_call call) (served w by call) = called w tid call by r.live r.idle in
+    let is : own_served (run tid call) w ≡ settled by (name_of_call call) (served w by call) = called w tid call by r.live r.idle in
     owes-of led m c w tid call (settled by (name_of_call call) (served w by call)) is
     (owes-settled led m c w tid call by (served w by call) r s refl (subst (λ bs. HasFineRows m c (world_after w bs)) is fine))
 
 -- a line of a number that no live thread has, and one of a thread that waits
-pub nobody : (w : World) (tid : ℕ) (call : ScriptCall) → live_thread w tid ≡ None → served_steps (run tid call) w ≡ Tells (entry.NoThread tid) ∷ []
-unfolding bare_steps
+pub nobody : (w : World) (tid : ℕ) (call : ScriptCall) → live_thread w tid ≡ None → own_served (run tid call) w ≡ Tells (entry.NoThread tid) ∷ []
+unfolding own_steps
 nobody w tid call none = rw none refl
 
 pub owes-none : (led : Leads) (m : Group) (c : ℕ) (w : World) (tid : ℕ) (call : ScriptCall) → m c ≡ true → Fair m c w → live_thread w tid ≡ None → Owes led m c w tid call
@@ -362,8 +378,8 @@ owes-none led m c w tid call c_in f none =
     owes-of led m c w tid call (Tells (entry.NoThread tid) ∷ []) (nobody w tid call none)
     (owes-lone led m c w tid call (entry.NoThread tid) refl refl refl (λ is. nobody (seeing led.bytes (view m w) call) tid call (seeing-live led.bytes (view m w) tid call ∙ live-view m c w tid c f (owner-c c w tid is) c_in ∙ none)))
 
-pub busy : (w : World) (tid : ℕ) (call : ScriptCall) (by : ThreadRow) (x : WaitRow) → live_thread w tid ≡ Some by → wait_of w tid ≡ Some x → served_steps (run tid call) w ≡ Tells (entry.Busy by.number) ∷ []
-unfolding bare_steps
+pub busy : (w : World) (tid : ℕ) (call : ScriptCall) (by : ThreadRow) (x : WaitRow) → live_thread w tid ≡ Some by → wait_of w tid ≡ Some x → own_served (run tid call) w ≡ Tells (entry.Busy by.number) ∷ []
+unfolding own_steps
 busy w tid call by x live waits = rw (live, waits) refl
 
 pub owes-busy : (led : Leads) (m : Group) (c : ℕ) (w : World) (tid : ℕ) (call : ScriptCall) (by : ThreadRow) (x : WaitRow) → m c ≡ true → Fair m c w → Owned w w → live_thread w tid ≡ Some by → wait_of w tid ≡ Some x → Owes led m c w tid call

@@ -10,7 +10,7 @@ use Rattle.lpc_model.specs.World.{WaitRow, World}
 use Rattle.lpc_model.specs.Found.{waits_as, waits_at}
 use Rattle.lpc_base.proofs.RowWords.{has-change}
 use Rattle.lpc_base.proofs.Bools.{first-true, second-true}
-use Rattle.lpc_model.specs.Basics.{Accepts, AddsThread, Awaits, Basic, Frees, Receives, Tells, Wakes, accepted, received, basic, entries_of, world_after, Dies}
+use Rattle.lpc_model.specs.Basics.{Accepts, AddsThread, Awaits, Basic, Frees, Receives, Tells, Wakes, accepted, received, basic, entries_of, world_after, Dies, Leaves, Dooms}
 use Rattle.lpc_model.specs.Circle.{owner}
 use Rattle.lpc_isolation.proofs.Plays.Lines.{is_done}
 
@@ -45,6 +45,7 @@ same_owner w tid who = passes (owner w tid) (λ p. passes (owner w who) (λ q. q
 abbrev pub tells_own : World → ℕ → Basic → Bool
 tells_own w tid (Tells e) = tells_thread tid e
 tells_own w tid (Dies who status) = same_owner w tid who
+tells_own w tid (Dooms pid code) = passes (owner w tid) (λ p. p == pid)
 tells_own w tid b = false
 
 abbrev pub is_call_of : World → ℕ → List Basic → Bool
@@ -69,6 +70,7 @@ basic-free w (Awaits x) who calm none = free-push who w.waits x calm none
 basic-free w (Wakes other call status fields) who calm none = free-without who other w.waits none
 basic-free w (Receives other q) who calm none = rw (has-change (waits_as who) (waits_at other q) received (λ x. refl) w.waits) none
 basic-free w (Accepts other reply) who calm none = rw (has-change (waits_as who) (waits_as other) (accepted reply) (λ x. refl) w.waits) none
+basic-free w (Leaves other) who calm none = free-without who other w.waits none
 basic-free w (Dies other status) who calm none = free-without who other w.waits none
 basic-free w (Frees o) who calm none = absurd (cc)
 basic-free w b who calm none = none

@@ -1,6 +1,7 @@
 -- What each call owes the law, and that each does so. A further call adds its tests here, its deeds to each law.
 use Rattle.lpc_model.specs.declared.entry.Entry.{Entry}
 use Rattle.lpc_isolation.proofs.Owed.Given.{gives_token, gives-none}
+use Rattle.lpc_isolation.proofs.Each.Exceptions.{raise-calm, set-calm}
 use Rattle.lpc_isolation.proofs.Each.Tokens.{own-calm, primary-calm, ask-calm, revert-calm, impersonate-calm, same-impersonate}
 use Rattle.lpc_model.specs.Named.{named_port}
 use Rattle.lpc_isolation.proofs.Each.Ranges.{read_range-calm, write_range-calm}
@@ -25,7 +26,7 @@ use Rattle.std.proofs.Common.{refl, subst, sym, None, Some, ◌∙◌, [], Optio
 use Rattle.lpc_base.specs.declared.status.Status.{Status}
 use Rattle.lpc_model.specs.World.{Birth, Contents, ThreadRow, World, Dacl, Qos, Impersonation}
 use Rattle.lpc_model.specs.Basics.{Basic, world_after}
-use Rattle.lpc_model.specs.Lines.{ScriptCall, accept_connect_port, close, complete_connect_port, connect_port, create_port, duplicate_object, listen_port, query_object, reply_port, reply_wait_receive_port, request_port, request_wait_reply_port, register_thread_terminate_port, create_process, create_thread, terminate_thread, terminate_process, create_section, map_view_of_section, unmap_view_of_section, read_virtual_memory, write_virtual_memory, read_request_data, write_request_data, open_thread_token, open_process_token, query_information_token, set_information_thread, impersonate_client_of_port}
+use Rattle.lpc_model.specs.Lines.{ScriptCall, accept_connect_port, close, complete_connect_port, connect_port, create_port, duplicate_object, listen_port, query_object, reply_port, reply_wait_receive_port, request_port, request_wait_reply_port, register_thread_terminate_port, create_process, create_thread, terminate_thread, terminate_process, create_section, map_view_of_section, unmap_view_of_section, read_virtual_memory, write_virtual_memory, read_request_data, write_request_data, open_thread_token, open_process_token, query_information_token, set_information_thread, impersonate_client_of_port, raise, set_information_process}
 use Rattle.lpc_model.specs.Death.{code_status}
 use Rattle.lpc_isolation.proofs.Gone.Served.{served}
 use Rattle.lpc_model.specs.Circle.{Group, is_fine_call, given_in, Nobody}
@@ -70,7 +71,7 @@ create-calm : (name : Option (List ℕ)) (dacl : Option Dacl) → Calm (create_p
 create-calm name dacl = record {
   refuses = λ w by. refuses-create w by name dacl;
   members = answers_alike refl (λ m c w by known k a mine fine right. create-c m c w by name dacl a.c_in mine a.fair (made m w by name a.names fine));
-  alike = λ k u by live s c. create-thin k u by name dacl;
+  alike = λ k u by live s ports c. create-thin k u by name dacl;
 }
   where
     made : (m : Group) (w : World) (by : ThreadRow) (name : Option (List ℕ)) → SeenNames m w.bindings → is_fine_call m w (create_port name dacl) ≡ true → making (view m w) (next_birth by) name ≡ making w (next_birth by) name
@@ -81,56 +82,56 @@ connect-calm : (name : List ℕ) (quality : Qos) (word : Option ViewWord) (bytes
 connect-calm name quality word bytes = record {
   refuses = λ w by. refuses-connect w by name quality word bytes;
   members = answers_alike refl (λ m c w by known k a mine fine right. c-connect m c w w by name quality word bytes (caller m c w by known w a refl) mine fine);
-  alike = λ k u by live s c. connect-thin k u by name quality word bytes live (λ q at. holds_ok (λ port. k.ports port ≡ true) (named_port u name) q (name-live k u name s c) at) c;
+  alike = λ k u by live s ports c. connect-thin k u by name quality word bytes live (λ q at. holds_ok (λ port. k.ports port ≡ true) (named_port u name) q (name-live k u name s c) at) c;
 }
 
 listen-calm : (handle : ℕ) → Calm (listen_port handle)
 listen-calm handle = record {
   refuses = λ w by. refuses-listen w by handle;
   members = answers_alike refl (λ m c w by known k a mine fine right. c-listen m c w w by handle (caller m c w by known w a refl) mine);
-  alike = λ k u by live s c. listen-thin k u by handle c;
+  alike = λ k u by live s ports c. listen-thin k u by handle c;
 }
 
 accept-calm : (context : ℕ) (message : List ℕ) (accept : Bool) (word : Option ViewWord) → Calm (accept_connect_port context message accept word)
 accept-calm context message accept word = record {
   refuses = λ w by. refuses-accept w by context message accept word;
   members = answers_alike refl (λ m c w by known k a mine fine right. c-answer m c w w by context message accept word (caller m c w by known w a refl) mine fine);
-  alike = λ k u by live s c. accept-thin k u by context message accept word c;
+  alike = λ k u by live s ports c. accept-thin k u by context message accept word c;
 }
 
 complete-calm : (handle : ℕ) → Calm (complete_connect_port handle)
 complete-calm handle = record {
   refuses = λ w by. refuses-complete w by handle;
   members = answers_alike refl (λ m c w by known k a mine fine right. c-complete m c w w by handle (caller m c w by known w a refl) mine);
-  alike = λ k u by live s c. complete-thin k u by handle c;
+  alike = λ k u by live s ports c. complete-thin k u by handle c;
 }
 
 datagram-calm : (handle : ℕ) (message : List ℕ) → Calm (request_port handle message)
 datagram-calm handle message = record {
   refuses = λ w by. refuses-datagram w by handle message;
   members = answers_alike refl (λ m c w by known k a mine fine right. c-request_port m c w w by handle message (caller m c w by known w a refl) mine);
-  alike = λ k u by live s c. datagram-thin k u by handle message c;
+  alike = λ k u by live s ports c. datagram-thin k u by handle message c;
 }
 
 request-calm : (handle : ℕ) (message : List ℕ) → Calm (request_wait_reply_port handle message)
 request-calm handle message = record {
   refuses = λ w by. refuses-request w by handle message;
   members = answers_alike refl (λ m c w by known k a mine fine right. c-request m c w w by handle message (caller m c w by known w a refl) mine);
-  alike = λ k u by live s c. request-thin k u by handle message c;
+  alike = λ k u by live s ports c. request-thin k u by handle message c;
 }
 
 reply-calm : (handle : ℕ) (message : List ℕ) → Calm (reply_port handle message)
 reply-calm handle message = record {
   refuses = λ w by. refuses-reply w by handle message;
   members = answers_alike refl (λ m c w by known k a mine fine right. c-reply m c w by handle message a.c_in mine a.fair a.ways fine);
-  alike = λ k u by live s c. reply-thin k u by handle message c;
+  alike = λ k u by live s ports c. reply-thin k u by handle message c;
 }
 
 receive-calm : (handle : ℕ) (message : Option (List ℕ)) → Calm (reply_wait_receive_port handle message)
 receive-calm handle message = record {
   refuses = λ w by. refuses-receive w by handle message;
   members = answers_alike refl (λ m c w by known k a mine fine right. c-receive m c w w by handle message (caller m c w by known w a refl) mine a.ways (named m w message fine));
-  alike = λ k u by live s c. receive-thin k u by handle message c;
+  alike = λ k u by live s ports c. receive-thin k u by handle message c;
 }
   where
     named : (m : Group) (w : World) (message : Option (List ℕ)) → is_fine_call m w (reply_wait_receive_port handle message) ≡ true → names_none m w message ≡ true
@@ -141,14 +142,14 @@ close-calm : (handle : ℕ) → Calm (close handle)
 close-calm handle = record {
   refuses = λ w by. refuses-close w by handle;
   members = answers_alike refl (λ m c w by known k a mine fine right. same-close m c w by known handle a mine fine);
-  alike = λ k u by live s c. alike-close k u by handle c;
+  alike = λ k u by live s ports c. alike-close k u by handle c;
 }
 
 ends-calm : (call : ScriptCall) (code : Status) → EndsThreads call code → Calm call
 ends-calm call code e = record {
   refuses = λ w by. refuses-ends call code e w by;
   members = ends_threads (λ m c u d w by known k a used mine fine right. own-ends call code e m c u d w by known k a used mine) (λ m c u d w by known a used by_in other. leads-ends call code e m c u d w by known a used by_in other);
-  alike = λ k u by live s c. alike-ends call code e k u by live c;
+  alike = λ k u by live s ports c. alike-ends call code e k u by live c;
 }
 
 -- a call that adds no thread
@@ -205,6 +206,8 @@ lawful (open_thread_token) = calm refl own-calm
 lawful (open_process_token) = calm refl primary-calm
 lawful (query_information_token handle class) = calm refl (ask-calm handle class)
 lawful (set_information_thread class) = calm refl (revert-calm class)
+lawful (raise code handled) = calm refl (raise-calm code handled)
+lawful (set_information_process target class handle) = calm refl (set-calm target class handle)
 lawful (create_process pid tid) = process-lawful pid tid
 lawful (create_thread target tid) = thread-lawful target tid
 lawful (terminate_thread target code) = calm refl (ends-calm (terminate_thread target code) (code_status code) (thread-ends-it target code))

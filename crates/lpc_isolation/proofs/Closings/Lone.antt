@@ -8,13 +8,13 @@ use Rattle.lpc_base.proofs.RowMaps.{every-both, every-first}
 use Rattle.lpc_base.proofs.Bools.{first-true, number-turned, same-number, second-true}
 use Rattle.lpc_model.specs.Message.{asks}
 use Rattle.lpc_model.specs.World.{MessageRow, WaitRow, World}
-use Rattle.lpc_model.specs.Found.{is_offered, is_own_of, is_request, wait_of, waits_as}
+use Rattle.lpc_model.specs.Found.{is_offered, is_own_of, is_asking, wait_of, waits_as}
 use Rattle.lpc_model.specs.Circle.{Group, owner}
 use Rattle.lpc_model.proofs.Steps.Rows.{has-found}
 use Rattle.lpc_isolation.proofs.Views.View.{of_birth, our_message, our_wait, view}
 use Rattle.lpc_isolation.proofs.Views.Filters.{first-kept}
 use Rattle.lpc_isolation.proofs.Views.Basics.{sees_own, sees_wait}
-use Rattle.lpc_isolation.proofs.Rows.Fair.{is_fair_message, is_sent, sent-owner}
+use Rattle.lpc_isolation.proofs.Rows.Fair.{is_fair_message, is_sent, sent-owner, together}
 use Rattle.lpc_isolation.proofs.Views.Apart.{is_owned, owned-by}
 use Rattle.lpc_isolation.proofs.Memory.Heard.{takes_any}
 use Rattle.lpc_isolation.proofs.Memory.Calls.{none-takes}
@@ -101,8 +101,8 @@ own-seen m c u w t s unseen = at (first (is_own_of t) (which (our_message m) w.m
         let here : owner u z.thread ≡ Some y.message.header.client.process = ap (owner u) its ∙ rw s.used (sent-owner w y sent) in
         let process : y.message.header.client.process ≡ z.process = owned-by u z y.message.header.client.process here (every-first (is_owned u) (is_own y) w.waits z s.owned some) in
         let fair : is_fair_message m c y ≡ true = first-true _ _ (second-true (our_message m y) _ fit) in
-        let sender : y.message.header.client.process ≡ y.sender.process = eqb-true _ _ (first-true _ _ fair) in
-        let z_in : m z.process ≡ true = ap m (sym process ∙ sender) ∙ first-true _ _ (first-true (our_message m y) _ fit) in
+        let sender : m y.message.header.client.process ≡ m y.sender.process = together m _ _ (first-true _ _ fair) in
+        let z_in : m z.process ≡ true = ap m (sym process) ∙ sender ∙ first-true _ _ (first-true (our_message m y) _ fit) in
         let q_in : m z.queue.process ≡ true = of_birth m z.queue y.queue (first-true _ _ (second-true _ _ passed)) ∙ second-true _ _ (first-true (our_message m y) _ fit) in
         let seen : first (is_own y) (which (our_wait m) w.waits) ≡ Some z = first-kept (our_wait m) (is_own y) w.waits z some (and_from _ _ z_in q_in) in
         let thread : waits_as t z ≡ true = rw its (second-true (asks y.message) _ own) in
@@ -163,8 +163,8 @@ quiet-all m c u w s = every-more (passes_all is_settled w.waits) (λ x. not (is_
         let thread : waits_as x.thread z ≡ true = subst (λ t. (z.thread == t) ≡ true) sender (first-true _ _ passed) in
         let rest : (not (waits_as x.thread z) || is_settled z) ≡ true = every-first (λ y. not (waits_as x.thread y) || is_settled y) (is_own y) w.waits z all some in
         let settled : is_settled z ≡ true = grind arith in
-        let open_ : (not z.received && (is_request z || is_offered z)) ≡ true = second-true _ _ (second-true _ _ passed) in
-        unsettled z.received (is_request z || is_offered z) settled open_
+        let open_ : (not z.received && (is_asking z || is_offered z)) ≡ true = second-true _ _ (second-true _ _ passed) in
+        unsettled z.received (is_asking z || is_offered z) settled open_
       where
         unsettled : (a b : Bool) → (a || not b) ≡ true → (not a && b) ≡ true → ⊥
         unsettled true b is it = cc

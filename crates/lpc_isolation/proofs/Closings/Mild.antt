@@ -6,7 +6,7 @@ use Rattle.lpc_base.proofs.RowWords.{every-more, every-without, has_none-without
 use Rattle.lpc_base.proofs.Bools.{first-true, second-true}
 use Rattle.lpc_model.specs.World.{Birth, MessageRow, WaitRow, World}
 use Rattle.lpc_model.specs.Found.{is_own_of, is_queued, same_birth, waits_as}
-use Rattle.lpc_model.specs.Basics.{Basic, Cuts, DropsHandle, DropsViewsOf, Empties, Enters, Takes, TakesConnect, Unbinds, Wakes, Withdraws, basic, world_after, Dies, Unregisters, DropsOwned}
+use Rattle.lpc_model.specs.Basics.{Basic, Cuts, DropsHandle, DropsViewsOf, Empties, Enters, Takes, TakesConnect, Unbinds, Wakes, Withdraws, basic, world_after, Dies, Unregisters, DropsOwned, Marks, LetsGo}
 use Rattle.lpc_model.specs.Entering.{takes}
 use Rattle.lpc_model.specs.Circle.{Group}
 use Rattle.lpc_model.proofs.Steps.Rows.{count-less}
@@ -29,6 +29,8 @@ use Rattle.lpc_isolation.proofs.Gone.Fine.{makes_fine, run-fine}
 abbrev pub is_mild : Basic → Bool
 is_mild (Wakes who call status fields) = true
 is_mild (Withdraws who) = true
+is_mild (Marks who) = true
+is_mild (LetsGo pid) = true
 is_mild (Empties q) = true
 is_mild (Unbinds b) = true
 is_mild (Cuts b) = true
@@ -48,6 +50,8 @@ AreMild bs = every is_mild bs ≡ true
 mild-calm : (who : ℕ) (b : Basic) → is_mild b ≡ true → is_calm who b ≡ true
 mild-calm who (Wakes a call status fields) is = refl
 mild-calm who (Withdraws a) is = refl
+mild-calm who (Marks a) is = refl
+mild-calm who (LetsGo pid) is = refl
 mild-calm who (Empties q) is = refl
 mild-calm who (Unbinds b) is = refl
 mild-calm who (Cuts b) is = refl
@@ -65,6 +69,8 @@ pub mild-orderly : (bs : List Basic) → AreMild bs → is_orderly bs ≡ true
 mild-orderly [] is = refl
 mild-orderly (Wakes who call status fields ∷ bs) is = and_from _ _ (every-more is_mild (is_calm who) (mild-calm who) bs is) (mild-orderly bs is)
 mild-orderly (Withdraws a ∷ bs) is = mild-orderly bs is
+mild-orderly (Marks a ∷ bs) is = mild-orderly bs is
+mild-orderly (LetsGo pid ∷ bs) is = mild-orderly bs is
 mild-orderly (Empties q ∷ bs) is = mild-orderly bs is
 mild-orderly (Unbinds b ∷ bs) is = mild-orderly bs is
 mild-orderly (Cuts b ∷ bs) is = mild-orderly bs is
@@ -81,6 +87,8 @@ mild-orderly (b ∷ bs) is = absurd (cc)
 pub mild-fine : (m : Group) (c : ℕ) (b : Basic) → is_mild b ≡ true → makes_fine m c b ≡ true
 mild-fine m c (Wakes a call status fields) is = refl
 mild-fine m c (Withdraws a) is = refl
+mild-fine m c (Marks a) is = refl
+mild-fine m c (LetsGo pid) is = refl
 mild-fine m c (Empties q) is = refl
 mild-fine m c (Unbinds b) is = refl
 mild-fine m c (Cuts b) is = refl
@@ -98,6 +106,8 @@ pub mild-paths : (w : World) (bs : List Basic) → AreMild bs → are_paths w bs
 mild-paths w [] is = refl
 mild-paths w (Wakes a call status fields ∷ bs) is = mild-paths (basic w (Wakes a call status fields)) bs is
 mild-paths w (Withdraws a ∷ bs) is = mild-paths (basic w (Withdraws a)) bs is
+mild-paths w (Marks a ∷ bs) is = mild-paths (basic w (Marks a)) bs is
+mild-paths w (LetsGo pid ∷ bs) is = mild-paths (basic w (LetsGo pid)) bs is
 mild-paths w (Empties q ∷ bs) is = mild-paths (basic w (Empties q)) bs is
 mild-paths w (Unbinds b ∷ bs) is = mild-paths (basic w (Unbinds b)) bs is
 mild-paths w (Cuts b ∷ bs) is = mild-paths (basic w (Cuts b)) bs is
@@ -115,6 +125,8 @@ pub mild-known : (m : Group) (memo : List Heard) (w : World) (bs : List Basic) �
 mild-known m memo w [] is = refl
 mild-known m memo w (Wakes a call status fields ∷ bs) is = mild-known m memo (basic w (Wakes a call status fields)) bs is
 mild-known m memo w (Withdraws a ∷ bs) is = mild-known m memo (basic w (Withdraws a)) bs is
+mild-known m memo w (Marks a ∷ bs) is = mild-known m memo (basic w (Marks a)) bs is
+mild-known m memo w (LetsGo pid ∷ bs) is = mild-known m memo (basic w (LetsGo pid)) bs is
 mild-known m memo w (Empties q ∷ bs) is = mild-known m memo (basic w (Empties q)) bs is
 mild-known m memo w (Unbinds b ∷ bs) is = mild-known m memo (basic w (Unbinds b)) bs is
 mild-known m memo w (Cuts b ∷ bs) is = mild-known m memo (basic w (Cuts b)) bs is
@@ -132,6 +144,7 @@ mild-known m memo w (b ∷ bs) is = absurd (cc)
 abbrev pub is_loss : Birth → Basic → Bool
 is_loss b (Wakes who call status fields) = true
 is_loss b (Withdraws who) = true
+is_loss b (Marks who) = true
 is_loss b (Empties q) = true
 is_loss b (Unbinds x) = true
 is_loss b (Cuts x) = same_birth x b
@@ -146,6 +159,7 @@ AreLosses b bs = every (is_loss b) bs ≡ true
 loss-mild : (b : Birth) (x : Basic) → is_loss b x ≡ true → is_mild x ≡ true
 loss-mild b (Wakes a call status fields) is = refl
 loss-mild b (Withdraws a) is = refl
+loss-mild b (Marks a) is = refl
 loss-mild b (Empties q) is = refl
 loss-mild b (Unbinds x) is = refl
 loss-mild b (Cuts x) is = refl
@@ -160,6 +174,7 @@ losses-mild b bs is = every-more (is_loss b) is_mild (loss-mild b) bs is
 loss-none : (b : Birth) (x : Basic) → is_loss b x ≡ true → sends_none x ≡ true
 loss-none b (Wakes a call status fields) is = refl
 loss-none b (Withdraws a) is = refl
+loss-none b (Marks a) is = refl
 loss-none b (Empties q) is = refl
 loss-none b (Unbinds x) is = refl
 loss-none b (Cuts x) is = refl
@@ -175,6 +190,7 @@ pub losses-fair : (m : Group) (c : ℕ) (b : Birth) (w : World) (bs : List Basic
 losses-fair m c b w [] is = refl
 losses-fair m c b w (Wakes a call status fields ∷ bs) is = losses-fair m c b (basic w (Wakes a call status fields)) bs is
 losses-fair m c b w (Withdraws a ∷ bs) is = losses-fair m c b (basic w (Withdraws a)) bs is
+losses-fair m c b w (Marks a ∷ bs) is = losses-fair m c b (basic w (Marks a)) bs is
 losses-fair m c b w (Empties q ∷ bs) is = losses-fair m c b (basic w (Empties q)) bs is
 losses-fair m c b w (Unbinds x ∷ bs) is = losses-fair m c b (basic w (Unbinds x)) bs is
 losses-fair m c b w (Cuts x ∷ bs) is = losses-fair m c b (basic w (Cuts x)) bs (second-true _ _ is)
@@ -183,22 +199,28 @@ losses-fair m c b w (Dies who status ∷ bs) is = losses-fair m c b (basic w (Di
 losses-fair m c b w (DropsOwned x ∷ bs) is = losses-fair m c b (basic w (DropsOwned x)) bs is
 losses-fair m c b w (x ∷ bs) is = absurd (cc)
 
-pub losses-ours : (m : Group) (b : Birth) (w : World) (bs : List Basic) → m b.process ≡ true → AreLosses b bs → are_ours m w bs ≡ true
-losses-ours m b w [] inside is = refl
-losses-ours m b w (Wakes a call status fields ∷ bs) inside is = losses-ours m b (basic w (Wakes a call status fields)) bs inside is
-losses-ours m b w (Withdraws a ∷ bs) inside is = losses-ours m b (basic w (Withdraws a)) bs inside is
-losses-ours m b w (Empties q ∷ bs) inside is = losses-ours m b (basic w (Empties q)) bs inside is
-losses-ours m b w (Unbinds x ∷ bs) inside is = losses-ours m b (basic w (Unbinds x)) bs inside is
-losses-ours m b w (Cuts x ∷ bs) inside is = rw (of_birth m x b (first-true _ _ is), inside) (losses-ours m b (basic w (Cuts x)) bs inside (second-true _ _ is))
-losses-ours m b w (DropsHandle pid value ∷ bs) inside is = losses-ours m b (basic w (DropsHandle pid value)) bs inside is
-losses-ours m b w (Dies who status ∷ bs) inside is = losses-ours m b (basic w (Dies who status)) bs inside is
-losses-ours m b w (DropsOwned x ∷ bs) inside is = losses-ours m b (basic w (DropsOwned x)) bs inside is
-losses-ours m b w (x ∷ bs) inside is = absurd (cc)
+-- steps that mark no event
+abbrev pub no_mark : Basic → Bool
+no_mark (Marks who) = false
+no_mark b = true
+
+pub losses-ours : (m : Group) (b : Birth) (w : World) (bs : List Basic) → m b.process ≡ true → AreLosses b bs → every no_mark bs ≡ true → are_ours m w bs ≡ true
+losses-ours m b w [] inside is un = refl
+losses-ours m b w (Wakes a call status fields ∷ bs) inside is un = losses-ours m b (basic w (Wakes a call status fields)) bs inside is un
+losses-ours m b w (Withdraws a ∷ bs) inside is un = losses-ours m b (basic w (Withdraws a)) bs inside is un
+losses-ours m b w (Empties q ∷ bs) inside is un = losses-ours m b (basic w (Empties q)) bs inside is un
+losses-ours m b w (Unbinds x ∷ bs) inside is un = losses-ours m b (basic w (Unbinds x)) bs inside is un
+losses-ours m b w (Cuts x ∷ bs) inside is un = rw (of_birth m x b (first-true _ _ is), inside) (losses-ours m b (basic w (Cuts x)) bs inside (second-true _ _ is) un)
+losses-ours m b w (DropsHandle pid value ∷ bs) inside is un = losses-ours m b (basic w (DropsHandle pid value)) bs inside is un
+losses-ours m b w (Dies who status ∷ bs) inside is un = losses-ours m b (basic w (Dies who status)) bs inside is un
+losses-ours m b w (DropsOwned x ∷ bs) inside is un = losses-ours m b (basic w (DropsOwned x)) bs inside is un
+losses-ours m b w (x ∷ bs) inside is un = absurd (cc)
 
 losses-owned : (u : World) (b : Birth) (w : World) (bs : List Basic) → AreLosses b bs → Owned u w → Owned u (world_after w bs)
 losses-owned u b w [] is o = o
 losses-owned u b w (Wakes who call status fields ∷ bs) is o = losses-owned u b (basic w (Wakes who call status fields)) bs is (every-without (is_owned u) (waits_as who) w.waits o)
 losses-owned u b w (Withdraws a ∷ bs) is o = losses-owned u b (basic w (Withdraws a)) bs is o
+losses-owned u b w (Marks a ∷ bs) is o = losses-owned u b (basic w (Marks a)) bs is o
 losses-owned u b w (Empties q ∷ bs) is o = losses-owned u b (basic w (Empties q)) bs is o
 losses-owned u b w (Unbinds x ∷ bs) is o = losses-owned u b (basic w (Unbinds x)) bs is o
 losses-owned u b w (Cuts x ∷ bs) is o = losses-owned u b (basic w (Cuts x)) bs (second-true _ _ is) o
@@ -218,6 +240,7 @@ losses-patient : (b : Birth) (w : World) (bs : List Basic) → AreLosses b bs �
 losses-patient b w [] is p = p
 losses-patient b w (Wakes who call status fields ∷ bs) is p = losses-patient b (basic w (Wakes who call status fields)) bs is (every-without (is_patient w) (waits_as who) w.waits p)
 losses-patient b w (Withdraws a ∷ bs) is p = losses-patient b (basic w (Withdraws a)) bs is (less-patient w (is_own_of a) w.waits p)
+losses-patient b w (Marks a ∷ bs) is p = losses-patient b (basic w (Marks a)) bs is p
 losses-patient b w (Empties q ∷ bs) is p = losses-patient b (basic w (Empties q)) bs is (less-patient w (is_queued q) w.waits p)
 losses-patient b w (Unbinds x ∷ bs) is p = losses-patient b (basic w (Unbinds x)) bs is p
 losses-patient b w (Cuts x ∷ bs) is p = losses-patient b (basic w (Cuts x)) bs (second-true _ _ is) p
@@ -233,6 +256,7 @@ losses-once : (b : Birth) (w : World) (bs : List Basic) → AreLosses b bs → O
 losses-once b w [] is o = o
 losses-once b w (Wakes who call status fields ∷ bs) is o = losses-once b (basic w (Wakes who call status fields)) bs is (λ tid. count-less (waits_as tid) (waits_as who) w.waits 1 (o tid))
 losses-once b w (Withdraws a ∷ bs) is o = losses-once b (basic w (Withdraws a)) bs is o
+losses-once b w (Marks a ∷ bs) is o = losses-once b (basic w (Marks a)) bs is o
 losses-once b w (Empties q ∷ bs) is o = losses-once b (basic w (Empties q)) bs is o
 losses-once b w (Unbinds x ∷ bs) is o = losses-once b (basic w (Unbinds x)) bs is o
 losses-once b w (Cuts x ∷ bs) is o = losses-once b (basic w (Cuts x)) bs (second-true _ _ is) o
@@ -245,6 +269,7 @@ losses-clients : (b : Birth) (w : World) (bs : List Basic) → AreLosses b bs �
 losses-clients b w [] is k = k
 losses-clients b w (Wakes who call status fields ∷ bs) is k = losses-clients b (basic w (Wakes who call status fields)) bs is (every-without (is_client_wait w) (waits_as who) w.waits k)
 losses-clients b w (Withdraws a ∷ bs) is k = losses-clients b (basic w (Withdraws a)) bs is k
+losses-clients b w (Marks a ∷ bs) is k = losses-clients b (basic w (Marks a)) bs is k
 losses-clients b w (Empties q ∷ bs) is k = losses-clients b (basic w (Empties q)) bs is k
 losses-clients b w (Unbinds x ∷ bs) is k = losses-clients b (basic w (Unbinds x)) bs is k
 losses-clients b w (Cuts x ∷ bs) is k = losses-clients b (basic w (Cuts x)) bs (second-true _ _ is) (cut-clients w x k)
@@ -257,6 +282,7 @@ losses-used : (b : Birth) (w : World) (bs : List Basic) → AreLosses b bs → (
 losses-used b w [] is = refl
 losses-used b w (Wakes who call status fields ∷ bs) is = losses-used b (basic w (Wakes who call status fields)) bs is
 losses-used b w (Withdraws a ∷ bs) is = losses-used b (basic w (Withdraws a)) bs is
+losses-used b w (Marks a ∷ bs) is = losses-used b (basic w (Marks a)) bs is
 losses-used b w (Empties q ∷ bs) is = losses-used b (basic w (Empties q)) bs is
 losses-used b w (Unbinds x ∷ bs) is = losses-used b (basic w (Unbinds x)) bs is
 losses-used b w (Cuts x ∷ bs) is = losses-used b (basic w (Cuts x)) bs (second-true _ _ is)

@@ -10,7 +10,7 @@ use Rattle.lpc_base.proofs.Births.{birth-same, birth-self}
 use Rattle.lpc_base.specs.declared.port_kind.PortKind.TheVariants.{Client}
 use Rattle.lpc_base.specs.declared.status.TheConstants.{SUCCESS}
 use Rattle.lpc_model.specs.declared.entry.Entry.TheVariants as entry
-use Rattle.lpc_model.specs.World.{Accepted, Birth, Connect, Creator, Listen, MessageRow, PortKind, PortRow, Receive, Request, WaitKind, WaitRow, World}
+use Rattle.lpc_model.specs.World.{Accepted, Birth, Connect, Creator, Listen, MessageRow, PortKind, PortRow, Receive, Request, WaitKind, WaitRow, World, Event}
 use Rattle.lpc_model.specs.Message.{asks}
 use Rattle.lpc_model.specs.Found.{if_open, is_client_port, is_open, is_port, is_used_thread, port_row, wait_of, waits_as}
 use Rattle.lpc_model.specs.Basics.{Basic, Enters, Steps, basic, entries_of, world_after, DropsOwned, doing, ◌▹◌}
@@ -20,7 +20,7 @@ use Rattle.lpc_model.specs.Circle.{Group, Whose, is_fine_client, is_fine_port, o
 use Rattle.lpc_isolation.proofs.Views.View.{our_wait, seen_port, view}
 use Rattle.lpc_isolation.proofs.Views.Filters.{first-kept}
 use Rattle.lpc_isolation.proofs.Views.Basics.{are_ours, ours-append}
-use Rattle.lpc_isolation.proofs.Rows.Fair.{are_fair, implies, is_created, is_fair_message, is_fair_wait, is_sent, sent-owner, fair-append, run-fair}
+use Rattle.lpc_isolation.proofs.Rows.Fair.{are_fair, implies, is_created, is_fair_message, is_fair_wait, is_sent, sent-owner, fair-append, run-fair, are_together, together, together-of}
 use Rattle.lpc_isolation.proofs.Views.Seen.{open-view, port-view}
 use Rattle.lpc_isolation.proofs.Each.Enter.{enter-fair, enter-ours, enter-view, taker-process}
 use Rattle.lpc_isolation.proofs.Views.Apart.{are_apart, enter-apart, given-entries, is_owned, owned-by, unseen-at, unseen-wait, apart-append}
@@ -35,6 +35,7 @@ use Rattle.lpc_isolation.proofs.Memory.Heard.{Heard, Reads, entries_memo, note, 
 use Rattle.lpc_isolation.proofs.Memory.Calls.{own-first, shown-heard}
 use Rattle.lpc_isolation.proofs.Gone.ThinCalls.{AreClosed, enter-closed, row-thin}
 use Rattle.lpc_isolation.proofs.Closings.Mild.{AreMild, Sure}
+use Rattle.lpc_isolation.proofs.Closings.Shown.{are_shown, enter-shown, shown-append}
 use Rattle.lpc_isolation.proofs.Closings.Stages.{Good, mute-append}
 
 -- the closed port, who made it, and the queue that its message enters
@@ -79,7 +80,7 @@ posted m c u w b p by q s row made server =
       birth = birth;
       server = server;
       fine = subst (λ b. is_fine_client m c b q ≡ true) birth fine;
-      fair = and_from _ _ (first-true _ _ created) (fair-sides p fine);
+      fair = and_from _ _ (together-of m by.client.process p.birth.process (ap m (eqb-true by.client.process p.birth.process (first-true (by.client.process == p.birth.process) _ created)))) (fair-sides p fine);
       sent = second-true (by.client.process == p.birth.process) _ created;
     }
   where
@@ -113,6 +114,7 @@ mild-given y z Receive k asked = rw (k, asked) refl
 mild-given y z Listen k asked = rw (k, asked) refl
 mild-given y z (Connect a offer) k asked = rw (k, asked) refl
 mild-given y z (Accepted a r) k asked = rw (k, asked) refl
+mild-given y z (Event e) k asked = rw (k, asked) refl
 
 pub mild-entered : (y : MessageRow) (o : Option WaitRow) → asks y.message ≡ false → AreMild (Enters y ∷ given o (λ z. given_steps z y ++ woken SUCCESS (shown z y) z ∷ []))
 mild-entered y None asked = refl
@@ -161,7 +163,7 @@ post-apart m c u d w b p by q s is out =
     let y : MessageRow = closed_row p q by in
     let p_out : m p.birth.process ≡ false = ap (λ (b : Birth). m b.process) is.birth ∙ out in
     let own : owner u by.client.thread ≡ Some by.client.process = rw s.used (sent-owner w y is.sent) in
-    let by_out : m by.client.process ≡ false = ap m (eqb-true _ _ (first-true (by.client.process == p.birth.process) _ is.fair)) ∙ p_out in
+    let by_out : m by.client.process ≡ false = together m by.client.process p.birth.process (first-true (are_together m by.client.process p.birth.process) _ is.fair) ∙ p_out in
     enter-apart m c u d w y (rw p_out refl) (post-other m c b q is.fine out)
     (unseen-at m w by.client.thread q (unseen-wait m u w by.client.thread by.client.process s.owned own by_out)) s.owned s.fair s.patient
 
@@ -170,6 +172,14 @@ post-mute m c u d w memo b p by q s n is out =
     let y : MessageRow = closed_row p q by in
     let r : Reads y = reads-of w.used_threads y (subst (λ us. every of_number us ≡ true) s.used n) is.sent refl in
     mute-entered m c u d w memo y s r refl (post-other m c b q is.fine out) (first (takes y) w.waits) refl
+
+-- it shows a message of the port's side
+post-shown : (m : Group) (c : ℕ) (u w : World) (b : Birth) (p : PortRow) (by : Creator) (q : Birth) → Sure m c u w → Numbered u → Posted m c u w b p by q → (side : Bool) → m b.process ≡ side → are_shown false m side w (enter (closed_row p q by) w) ≡ true
+post-shown m c u w b p by q s n is side its =
+    let y : MessageRow = closed_row p q by in
+    let r : Reads y = reads-of w.used_threads y (subst (λ us. every of_number us ≡ true) s.used n) is.sent refl in
+    let of_port : m by.client.process ≡ m p.birth.process = together m by.client.process p.birth.process (first-true (are_together m by.client.process p.birth.process) _ is.fair) in
+    enter-shown false m side w y refl s.once r refl (of_port ∙ ap (λ (b : Birth). m b.process) is.birth ∙ its)
 
 -- of a member's
 post-inside : (m : Group) (c : ℕ) (b q : Birth) → is_fine_client m c b q ≡ true → m b.process ≡ true → m q.process ≡ true
@@ -227,6 +237,7 @@ entered-none y (Some z) asked = given-none z.kind refl
     given-none Listen k = rw (k, asked) refl
     given-none (Connect a offer) k = rw (k, asked) refl
     given-none (Accepted a r) k = rw (k, asked) refl
+    given-none (Event e) k = rw (k, asked) refl
 
 post-sent : (w : World) (b : Birth) (p : PortRow) (by : Creator) (q : Birth) → port_row w b ≡ Some p → server_of w p ≡ Some q → are_sent w (enter (closed_row p q by) w) ≡ true
 post-sent w b p by q row server =
@@ -248,7 +259,8 @@ post-good m c b = record {
   asked = λ u w s. on-post (λ bs. Asked (world_after w bs)) w b s.asked (λ p by q row made server. enters-asked w (closed_row p q by) s.asked (enter-asked w (closed_row p q by) s.asked s.patient s.once refl));
   apart = λ u d w s out. on-post (λ bs. are_apart m c u d w bs ≡ true) w b refl (λ p by q row made server. post-apart m c u d w b p by q s (posted m c u w b p by q s row made server) out);
   mute = λ u d w memo s n out. on-post (λ bs. entries_memo m (view m w) memo (told_inputs m c u d (entries_of bs)) ≡ memo) w b refl (λ p by q row made server. post-mute m c u d w memo b p by q s n (posted m c u w b p by q s row made server) out);
-  ours = λ u w s inside. ours u w s inside;
+  shown = λ u w s n side is. on-post (λ bs. are_shown false m side w bs ≡ true) w b refl (λ p by q row made server. post-shown m c u w b p by q s n (posted m c u w b p by q s row made server) side is);
+  ours = λ u w s mine. ours u w s (ap m mine ∙ s.c_in);
   led = λ u d w s inside. rw (post-view m c u w b s inside) (led-same m c u d w (post_closed b w) (ours u w s inside));
   same = λ u w s mine. post-view m c u w b s (ap m mine ∙ s.c_in);
   alike = λ k u closed live. rw (row-thin k u b live) refl;
@@ -270,6 +282,7 @@ disowns-good m c b f g = record {
   asked = λ u w s. subst Asked (sym (after-append w (f w) (DropsOwned b ∷ []))) (basic-asked (world_after w (f w)) (DropsOwned b) refl (g.asked u w s));
   apart = λ u d w s out. apart-append m c u d w (f w) (DropsOwned b ∷ []) (g.apart u d w s out) (rw (unseen-owned m c (world_after w (f w)) b (run-fair m c w (f w) (g.fair u w s) s.fair) out) refl);
   mute = λ u d w memo s n out. mute-append m c u d w memo (f w) (DropsOwned b ∷ []) s.c_in (g.apart u d w s out) (g.mute u d w memo s n out) refl;
+  shown = λ u w s n side is. shown-append false m side w (f w) (DropsOwned b ∷ []) (g.shown u w s n side is) refl;
   ours = λ u w s inside. ours-append m w (f w) (DropsOwned b ∷ []) (g.ours u w s inside) refl;
   led = λ u d w s inside. led-append m c u d w (f w) (f (view m w)) (DropsOwned b ∷ []) (DropsOwned b ∷ []) (g.led u d w s inside) (led-same m c u d (world_after w (f w)) (DropsOwned b ∷ []) refl);
   same = λ u w s mine. ap (λ bs. bs ++ DropsOwned b ∷ []) (g.same u w s mine);

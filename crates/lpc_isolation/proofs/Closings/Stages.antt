@@ -1,5 +1,5 @@
 -- The steps of a closing, one stage after the other: what each stage owes, and that two stages owe it together.
-use Rattle.std.proofs.Common.{◌≡◌, ℕ, List, [], ◌∷◌, ◌++◌, true, false, refl, ap, sym, subst, ◌∙◌}
+use Rattle.std.proofs.Common.{◌≡◌, ℕ, Bool, List, [], ◌∷◌, ◌++◌, true, false, refl, ap, sym, subst, ◌∙◌}
 use Rattle.std.proofs.lemmas.List.Elements.{filter-append}
 use Rattle.lpc_base.proofs.RowWords.{every-append}
 use Rattle.lpc_model.specs.declared.entry.Entry.{Entry}
@@ -22,6 +22,7 @@ use Rattle.lpc_isolation.proofs.Memory.Heard.{Heard, entries_memo, entry_memo}
 use Rattle.lpc_isolation.proofs.Gone.Thin.{Alive, Closed, closed-run, thin, thin-run}
 use Rattle.lpc_isolation.proofs.Gone.ThinCalls.{AreClosed}
 use Rattle.lpc_isolation.proofs.Closings.Mild.{AreLosses, AreMild, Sure, sure-losses}
+use Rattle.lpc_isolation.proofs.Closings.Shown.{are_shown, shown-append}
 
 -- what the end of a closing of a port owes
 pub record Good (m : Group) (c : ℕ) (b : Birth) (f : Steps) : Type 0 where
@@ -32,8 +33,10 @@ pub record Good (m : Group) (c : ℕ) (b : Birth) (f : Steps) : Type 0 where
   -- of an outsider's port: the view loses only waits whose wakes are told, and no entry shows a member a connect
   pub apart : (u : World) (d : Whose) (w : World) → Sure m c u w → m b.process ≡ false → are_apart m c u d w (f w) ≡ true
   pub mute : (u : World) (d : Whose) (w : World) (memo : List Heard) → Sure m c u w → Numbered u → m b.process ≡ false → entries_memo m (view m w) memo (told_inputs m c u d (entries_of (f w))) ≡ memo
-  -- of a member's: the view changes as by the same steps of its own, and of c's by the same list
-  pub ours : (u w : World) → Sure m c u w → m b.process ≡ true → are_ours m w (f w) ≡ true
+  -- and members are shown outsiders' messages alone; by a member's port none of those
+  pub shown : (u w : World) → Sure m c u w → Numbered u → (e : Bool) → m b.process ≡ e → are_shown false m e w (f w) ≡ true
+  -- of a member's: the view changes as by the same steps of its own, and of c's by the same list of members' steps
+  pub ours : (u w : World) → Sure m c u w → b.process ≡ c → are_ours m w (f w) ≡ true
   pub led : (u : World) (d : Whose) (w : World) → Sure m c u w → m b.process ≡ true → Led m c u d w (f w) (f (view m w))
   pub same : (u w : World) → Sure m c u w → b.process ≡ c → f (view m w) ≡ f w
   -- where rows that nothing names have gone
@@ -53,7 +56,7 @@ pub memo-append : (m : Group) (v : World) (memo : List Heard) (es fs : List Entr
 memo-append m v memo [] fs = refl
 memo-append m v memo (e ∷ es) fs = memo-append m (absorb v e) (entry_memo m v memo e) es fs
 
-told-append : (m : Group) (c : ℕ) (u : World) (d : Whose) (bs cs : List Basic) → told_inputs m c u d (entries_of (bs ++ cs)) ≡ told_inputs m c u d (entries_of bs) ++ told_inputs m c u d (entries_of cs)
+pub told-append : (m : Group) (c : ℕ) (u : World) (d : Whose) (bs cs : List Basic) → told_inputs m c u d (entries_of (bs ++ cs)) ≡ told_inputs m c u d (entries_of bs) ++ told_inputs m c u d (entries_of cs)
 told-append m c u d bs cs = ap (told_inputs m c u d) (entries-append bs cs) ∙ filter-append (is_told_input m c u d) (entries_of bs) (entries_of cs)
 
 -- what an outsider's steps tell members leaves the view behind them
@@ -78,15 +81,15 @@ then-good m c b f g s e = record {
   asked = λ u w sure. subst Asked (sym (after-append w (f w) (g (world_after w (f w))))) (e.asked u (world_after w (f w)) (kept m c b f s u w sure));
   apart = λ u d w sure out. apart-append m c u d w (f w) (g (world_after w (f w))) (s.good.apart u d w sure out) (e.apart u d (world_after w (f w)) (kept m c b f s u w sure) out);
   mute = λ u d w memo sure n out. mute-append m c u d w memo (f w) (g (world_after w (f w))) sure.c_in (s.good.apart u d w sure out) (s.good.mute u d w memo sure n out) (e.mute u d (world_after w (f w)) memo (kept m c b f s u w sure) n out);
+  shown = λ u w sure n side is. shown-append false m side w (f w) (g (world_after w (f w))) (s.good.shown u w sure n side is) (e.shown u (world_after w (f w)) (kept m c b f s u w sure) n side is);
   ours = λ u w sure is. ours-append m w (f w) (g (world_after w (f w))) (s.good.ours u w sure is) (e.ours u (world_after w (f w)) (kept m c b f s u w sure) is);
   led = λ u d w sure is.
       let one : Led m c u d w (f w) (f (view m w)) = s.good.led u d w sure is in
       led-append m c u d w (f w) (f (view m w)) (g (world_after w (f w))) (g (world_after (view m w) (f (view m w)))) one
       (subst (λ v. Led m c u d (world_after w (f w)) (g (world_after w (f w))) (g v)) one.world (e.led u d (world_after w (f w)) (kept m c b f s u w sure) is));
   same = λ u w sure mine.
-      let b_in : m b.process ≡ true = ap m mine ∙ sure.c_in in
       let one : f (view m w) ≡ f w = s.good.same u w sure mine in
-      let there : world_after (view m w) (f (view m w)) ≡ view m (world_after w (f w)) = ap (world_after (view m w)) one ∙ sym (run-ours m w (f w) (s.good.ours u w sure b_in)) in
+      let there : world_after (view m w) (f (view m w)) ≡ view m (world_after w (f w)) = ap (world_after (view m w)) one ∙ sym (run-ours m w (f w) (s.good.ours u w sure mine)) in
       ap (λ bs. bs ++ g (world_after (view m w) (f (view m w)))) one ∙ ap (λ v. f w ++ g v) there ∙ ap (λ bs. f w ++ bs) (e.same u (world_after w (f w)) (kept m c b f s u w sure) mine);
   alike = λ k u closed live.
       let one : f (thin k u) ≡ f u = s.good.alike k u closed live in

@@ -14,8 +14,8 @@ use Rattle.lpc_model.specs.declared.message.Message.{Message}
 use Rattle.lpc_model.specs.Message.{message_test}
 use Rattle.lpc_model.specs.Fields.{info}
 use Rattle.lpc_model.specs.Refusal.{found_or}
-use Rattle.lpc_model.specs.World.{Birth, HandleTable, Offer, PortRow, ThreadRow, ViewRow, WaitKind, WaitRow, World, Connect}
-use Rattle.lpc_model.specs.Found.{free_handle, offer_of, wait_of, is_connect, is_offered, is_port, is_server_port, is_table, names_port, names_wait, port_name, rows_in, same_birth, waits_as}
+use Rattle.lpc_model.specs.World.{Birth, HandleTable, Offer, PortRow, ThreadRow, ViewRow, WaitKind, WaitRow, World, Connect, Event}
+use Rattle.lpc_model.specs.Found.{free_handle, offer_of, wait_of, is_connect, is_offered, is_port, is_server_port, is_table, names_port, names_wait, port_name, rows_in, same_birth, waits_as, is_event}
 use Rattle.lpc_model.specs.Basics.{Accepts, AddsHandle, Basic, DrawsOrdinal, Makes, entries_of, joined, world_after, DropsOwned, basic}
 use Rattle.lpc_model.specs.Connect.{ConnectAnswer, accept_start, accept_steps, shared_fields, answer_test, names_connect, nt_accept_connect_port, reaches, refuse_steps, server_port}
 use Rattle.lpc_model.specs.SoundWaits.{is_connect_on, is_past, can_stay_as, can_stay_sound}
@@ -26,7 +26,7 @@ use Rattle.lpc_model.specs.Circle.{Group, Whose, names_no_outsider}
 use Rattle.lpc_isolation.proofs.Views.Filters.{first-kept, first-where, shown, shown-push}
 use Rattle.lpc_isolation.proofs.Views.View.{our_port, our_wait, seen_port, seen_view, view}
 use Rattle.lpc_isolation.proofs.Views.Basics.{are_ours, basic-unseen, joins-new, ours-append, run-ours}
-use Rattle.lpc_isolation.proofs.Rows.Fair.{Fair, are_fair, fair-append, implies, is_fair_offer, is_fair_port, is_fair_table, is_fair_wait, is_no_server_at, is_server_at}
+use Rattle.lpc_isolation.proofs.Rows.Fair.{Fair, are_fair, fair-append, implies, is_fair_offer, is_fair_port, is_fair_table, is_fair_wait, is_no_server_at, is_server_at, port-home}
 use Rattle.lpc_isolation.proofs.Rows.Clients.{no-servers}
 use Rattle.lpc_isolation.proofs.Views.Seen.{bind-same, free-view, handles-view, named-own}
 use Rattle.lpc_isolation.proofs.Views.Apart.{apart-append, are_apart, end-apart, is_owned, wait-gone}
@@ -103,6 +103,11 @@ answer-found m c u w by bytes k =
 pub found-answer : (m : Group) (c : ℕ) (u w : World) (by : ThreadRow) (bytes : List ℕ) (a : ConnectAnswer) → Caller m c u w by → answer_test w by bytes ≡ Ok a → IsAnswer m c w by bytes a
 found-answer m c u w by bytes a k at = holds_ok (IsAnswer m c w by bytes) (answer_test w by bytes) a (answer-found m c u w by bytes k) at
 
+-- a connect is no event
+offered-event : (x : WaitRow) (k : WaitKind) → x.kind ≡ k → is_offered x ≡ true → is_event x ≡ false
+offered-event x (Event r) k is = let off : false ≡ true = rw k at is in absurd (cc)
+offered-event x b k is = rw k refl
+
 -- of the client's process and the server's
 pub record Sides (m : Group) (c : ℕ) (by : ThreadRow) (x : WaitRow) : Type 0 where
   pub port : x.port.process ≡ x.process
@@ -111,7 +116,7 @@ pub record Sides (m : Group) (c : ℕ) (by : ThreadRow) (x : WaitRow) : Type 0 w
 
 pub sides : (m : Group) (c : ℕ) (by : ThreadRow) (x : WaitRow) → is_fair_wait m c x ≡ true → is_offered x ≡ true → x.queue.process ≡ by.process → Sides m c by x
 sides m c by x fair offered queue =
-    let port : x.port.process ≡ x.process = eqb-true _ _ (first-true _ _ fair) in
+    let port : x.port.process ≡ x.process = port-home m x (offered-event x x.kind refl offered) (first-true _ _ fair) in
     let same : m x.port.process ≡ m x.process = ap m port in
     let q : m x.queue.process ≡ m by.process = ap m queue in
     let qc : (x.queue.process == c) ≡ (by.process == c) = ap (λ p. p == c) queue in

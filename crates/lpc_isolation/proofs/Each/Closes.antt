@@ -41,6 +41,7 @@ use Rattle.lpc_isolation.proofs.Each.Instances.{At, caller}
 use Rattle.lpc_isolation.proofs.Gone.Thin.{Alive, Closed, handle_closed, port-live, thin}
 use Rattle.lpc_isolation.proofs.Gone.ThinCalls.{AreClosed, rows-closed}
 use Rattle.lpc_isolation.proofs.Closings.Mild.{AreMild, Sure}
+use Rattle.lpc_isolation.proofs.Closings.Shown.{are_shown, shown-append}
 use Rattle.lpc_isolation.proofs.Closings.Stages.{Good, mute-append}
 use Rattle.lpc_isolation.proofs.Closings.Ports.{close-good}
 
@@ -83,6 +84,7 @@ provided-good m c b test f g seen thinly = record {
   asked = λ u w s. at (λ bs. Asked (world_after w bs)) w s.asked (g.asked u w s);
   apart = λ u d w s out. at (λ bs. are_apart m c u d w bs ≡ true) w refl (g.apart u d w s out);
   mute = λ u d w memo s n out. at (λ bs. entries_memo m (view m w) memo (told_inputs m c u d (entries_of bs)) ≡ memo) w refl (g.mute u d w memo s n out);
+  shown = λ u w s n side is. at (λ bs. are_shown false m side w bs ≡ true) w refl (g.shown u w s n side is);
   ours = λ u w s inside. at (λ bs. are_ours m w bs ≡ true) w refl (g.ours u w s inside);
   led = λ u d w s inside. ap-led u d w (test (view m w)) (seen u w s inside) (g.led u d w s inside);
   same = λ u w s mine. ap (λ e. when e (f (view m w))) (seen u w s (ap m mine ∙ s.c_in)) ∙ ap (λ bs. when (test w) bs) (g.same u w s mine);
@@ -113,6 +115,7 @@ drops-good m c b pid value f own g = record {
   asked = λ u w s. subst Asked (sym (after-append w (f w) (DropsHandle pid value ∷ []))) (basic-asked (world_after w (f w)) (DropsHandle pid value) refl (g.asked u w s));
   apart = λ u d w s out. apart-append m c u d w (f w) (DropsHandle pid value ∷ []) (g.apart u d w s out) (rw (sym (ap m own) ∙ out) refl);
   mute = λ u d w memo s n out. mute-append m c u d w memo (f w) (DropsHandle pid value ∷ []) s.c_in (g.apart u d w s out) (g.mute u d w memo s n out) refl;
+  shown = λ u w s n side is. shown-append false m side w (f w) (DropsHandle pid value ∷ []) (g.shown u w s n side is) refl;
   ours = λ u w s inside. ours-append m w (f w) (DropsHandle pid value ∷ []) (g.ours u w s inside) refl;
   led = λ u d w s inside. led-append m c u d w (f w) (f (view m w)) (DropsHandle pid value ∷ []) (DropsHandle pid value ∷ []) (g.led u d w s inside) (led-same m c u d (world_after w (f w)) (DropsHandle pid value ∷ []) refl);
   same = λ u w s mine. ap (λ bs. bs ++ DropsHandle pid value ∷ []) (g.same u w s mine);

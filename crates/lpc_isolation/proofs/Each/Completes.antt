@@ -11,8 +11,8 @@ use Rattle.lpc_model.specs.declared.entry.CallName.TheVariants.{NtCompleteConnec
 use Rattle.lpc_model.specs.Fields.{completion_fields}
 use Rattle.lpc_model.specs.Refusal.{found_or, refuse_if}
 use Rattle.lpc_model.specs.Then.{◌>>=◌}
-use Rattle.lpc_model.specs.World.{Birth, PortRow, ThreadRow, WaitRow, World}
-use Rattle.lpc_model.specs.Found.{free_handle, is_connect, is_server_port, port_name, same_birth}
+use Rattle.lpc_model.specs.World.{Birth, PortRow, ThreadRow, WaitRow, World, Event, WaitKind}
+use Rattle.lpc_model.specs.Found.{free_handle, is_connect, is_server_port, port_name, same_birth, is_event, is_accepted}
 use Rattle.lpc_model.specs.Basics.{AddsHandle, Basic, Completes, basic}
 use Rattle.lpc_model.specs.Connect.{Completable, acceptance_of, complete_steps, complete_test, completion_test, is_accepted_on, nt_complete_connect_port}
 use Rattle.lpc_model.specs.Entering.{woken}
@@ -22,7 +22,7 @@ use Rattle.lpc_model.specs.Circle.{Group, Whose, owner}
 use Rattle.lpc_isolation.proofs.Views.Filters.{first-kept, first-where}
 use Rattle.lpc_isolation.proofs.Views.View.{of_birth, our_wait, view}
 use Rattle.lpc_isolation.proofs.Views.Basics.{basic-ours, basic-unseen, sees_wait}
-use Rattle.lpc_isolation.proofs.Rows.Fair.{Fair, all_of, are_fair, implies, is_fair_pair, is_fair_wait, is_home}
+use Rattle.lpc_isolation.proofs.Rows.Fair.{Fair, all_of, are_fair, implies, is_fair_pair, is_fair_wait, is_home, port-home, port-side}
 use Rattle.lpc_isolation.proofs.Views.Seen.{bind-same, free-view, port_test-view}
 use Rattle.lpc_isolation.proofs.Views.Apart.{are_apart, end-apart, is_owned, owned-by, unseen-wait}
 use Rattle.lpc_isolation.proofs.Views.Callers.{Led, led-same, on_ok}
@@ -64,13 +64,18 @@ completable m c u w by handle k = bind_holds (port_test w by handle) _ (IsComple
 pub found-completion : (m : Group) (c : ℕ) (u w : World) (by : ThreadRow) (handle : ℕ) (r : Completable) → Caller m c u w by → complete_test w by handle ≡ Ok r → IsCompletable m c w by handle r
 found-completion m c u w by handle r k at = holds_ok (IsCompletable m c w by handle) (complete_test w by handle) r (completable m c u w by handle k) at
 
+-- a connect is no event
+accepted-event : (x : WaitRow) (k : WaitKind) → x.kind ≡ k → is_accepted x ≡ true → is_event x ≡ false
+accepted-event x (Event r) k is = let off : false ≡ true = rw k at is in absurd (cc)
+accepted-event x b k is = rw k refl
+
 -- the client's process is that of its wait
 wait-client : (m : Group) (c : ℕ) (w : World) (by : ThreadRow) (handle : ℕ) (r : Completable) → Fair m c w → IsCompletable m c w by handle r → r.wait.process ≡ r.client.process
 wait-client m c w by handle r f is =
     let fair : is_fair_wait m c r.wait ≡ true = every-first (is_fair_wait m c) (is_accepted_on r.client) w.waits r.wait f.waits is.found in
     let here : same_birth r.wait.port r.client ≡ true = second-true _ _ (first-passes (is_accepted_on r.client) w.waits r.wait is.found) in
     let process : (r.wait.port.process == r.client.process) ≡ true = grind arith in
-    sym (eqb-true _ _ (first-true _ _ fair)) ∙ eqb-true _ _ process
+    sym (port-home m r.wait (accepted-event r.wait r.wait.kind refl (first-true _ _ (first-passes (is_accepted_on r.client) w.waits r.wait is.found))) (first-true _ _ fair)) ∙ eqb-true _ _ process
 
 -- a server port's pair
 server-pair : (m : Group) (c : ℕ) (p : PortRow) (o : Option Birth) (b : Birth) → o ≡ Some b → (is_home p && all_of o (is_fair_pair m c p)) ≡ true → is_server_port p ≡ true → (implies (m b.process) (m p.birth.process) && implies (p.birth.process == c) (m b.process)) ≡ true
@@ -110,7 +115,7 @@ accepted-connect x b is = grind arith
 accepted-ours : (m : Group) (c : ℕ) (client : Birth) (x : WaitRow) → m client.process ≡ true → is_fair_wait m c x ≡ true → is_accepted_on client x ≡ true → our_wait m x ≡ true
 accepted-ours m c client x c_in fair is =
     let port : m x.port.process ≡ true = of_birth m x.port client (second-true _ _ is) ∙ c_in in
-    let process : m x.process ≡ true = sym (ap m (eqb-true _ _ (first-true _ _ fair))) ∙ port in
+    let process : m x.process ≡ true = sym (port-side m x (first-true _ _ fair)) ∙ port in
     let connect : is_connect x ≡ true = accepted-connect x client is in
     grind arith
 

@@ -13,7 +13,7 @@ use Rattle.lpc_base.proofs.RowWords.{every-push}
 use Rattle.lpc_base.proofs.Bools.{same-number}
 use Rattle.lpc_model.specs.Message.{asks}
 use Rattle.lpc_model.specs.Then.{◌>>=◌}
-use Rattle.lpc_model.specs.World.{Accepted, Birth, Connect, Listen, MessageRow, PortRow, Receive, Request, ThreadRow, WaitKind, WaitRow, World, Offer, ViewRow, Qos}
+use Rattle.lpc_model.specs.World.{Accepted, Birth, Connect, Listen, MessageRow, PortRow, Receive, Request, ThreadRow, WaitKind, WaitRow, World, Offer, ViewRow, Qos, Event}
 use Rattle.lpc_model.specs.Basics.{Basic, DrawsIdentifier, Enters, basic, world_after}
 use Rattle.lpc_model.specs.Entering.{enter, given_steps, row_of, shown, takes, woken}
 use Rattle.lpc_base.specs.declared.status.TheConstants.{SUCCESS}
@@ -43,6 +43,8 @@ use Rattle.lpc_model.specs.declared.line.ViewWord.{ViewWord}
 given-ports : (w : World) (x : MessageRow) (y : WaitRow) (b : Basic) (k : WaitKind) (asked : Bool) → y.kind ≡ k → asks x.message ≡ asked → (basic w b).ports ≡ w.ports → ((v : World) → (basic v b).ports ≡ v.ports) → (world_after w (given_steps y x ++ b ∷ [])).ports ≡ w.ports
 given-ports w x y b (Request a) true k asked one each = rw (k, asked) (each _)
 given-ports w x y b (Request a) false k asked one each = rw (k, asked) (each _)
+given-ports w x y b (Event e) true k asked one each = rw (k, asked) (each _)
+given-ports w x y b (Event e) false k asked one each = rw (k, asked) (each _)
 given-ports w x y b Receive true k asked one each = rw (k, asked) (each _)
 given-ports w x y b Receive false k asked one each = rw (k, asked) (each _)
 given-ports w x y b Listen true k asked one each = rw (k, asked) (each _)
@@ -103,7 +105,7 @@ offer-fair by (Some o) from = rw from (same-number by.process)
 
 start-fair : (m : Group) (c : ℕ) (w : World) (by : ThreadRow) (q : Birth) (offer : Option Offer) (own : Option ViewRow) (bytes : List ℕ) → m c ≡ true → Given (IsFrom by.process) offer → owner w by.number ≡ Some by.process → is_fine_client m c (next_birth by) q ≡ true → are_fair m c w (starting by q offer own bytes) ≡ true
 start-fair m c w by q offer own bytes c_in from home fine =
-    and_from _ _ (and_from _ _ (and_from _ _ (same-number by.process) (owner-used w by.number by.process home)) refl) (and_from _ _ (and_from _ _ (connect_wait-fair m c by q offer own bytes c_in fine) (offer-fair by offer from)) refl)
+    and_from _ _ (and_from _ _ (and_from _ _ (same-number by.process) (owner-used w by.number by.process home)) refl) (and_from _ _ (and_from _ _ (connect_wait-fair m c by q offer own bytes c_in fine) (and_from _ _ (offer-fair by offer from) refl)) refl)
 
 pub record Begun (m : Group) (c : ℕ) (u w : World) : Type 0 where
   pub fair : Fair m c w

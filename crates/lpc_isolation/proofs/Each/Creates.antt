@@ -1,4 +1,5 @@
 -- NtCreateProcess and NtCreateThread in a view.
+use Rattle.lpc_isolation.proofs.Gone.Restful.{made-settled}
 use Rattle.std.proofs.Common.{◌≡◌, ℕ, List, [], ◌∷◌, ◌++◌, Bool, true, false, cond, not, Option, Some, None, refl, ap, sym, subst, ◌∙◌, arith}
 use Rattle.std.specs.Prelude.{◌&&◌, ◌||◌, ◌==◌, nat_le, option_map, if◌then◌else◌, is_none, is_some, Ok}
 use Rattle.std.proofs.lemmas.Bool.{and_from, eqb-true}
@@ -45,7 +46,7 @@ use Rattle.lpc_isolation.proofs.Memory.Calls.{Hears, still-hears, unnoted}
 use Rattle.lpc_isolation.proofs.Rows.Paths.{are_paths}
 use Rattle.lpc_isolation.proofs.Rows.Sent.{are_sent}
 use Rattle.lpc_isolation.proofs.Each.Instances.{At, Leading}
-use Rattle.lpc_isolation.proofs.Gone.Thin.{Alive, Closed, is_live-thin, process_alive, process_closed, thin, thread_closed, threads-thin}
+use Rattle.lpc_isolation.proofs.Gone.Thin.{Alive, Closed, is_live-thin, process_alive, process_closed, thin, thread_closed, threads-thin, Behind}
 use Rattle.lpc_isolation.proofs.Gone.ThinCalls.{AreClosed, token-thin}
 use Rattle.lpc_isolation.proofs.Gone.Fine.{FineAfter, kept-last}
 use Rattle.lpc_isolation.proofs.Calls.Aims.{process-thin, process-view, process-whose, refuses-process}
@@ -92,9 +93,9 @@ process-begins w by pid tid own = record {
   rest = DrawsOrdinal by.number ∷ DrawsOrdinal by.number ∷ AddsProcess (new_process pid (Some by.process) (next_birth by) (token_of w by.process)) ∷ AddsThread (new_thread tid pid (second_birth by)) ∷ gives_life by (free_handle w by.process) (process_name (next_birth by)) ∷ gives_life by (second_handle w by) (thread_name (second_birth by)) ∷ [];
   entry = Answer by.number NtCreateProcess SUCCESS (h (free_handle w by.process) ∷ first_thread (second_handle w by) ∷ []);
   is = refl;
-  told = refl;
+  told = λ _. refl;
   own = refl;
-  whose = λ d. ap owned (kept-owner w.used_threads (used (new_thread tid pid (second_birth by))) by.number by.process own ∙ sym own);
+  whose = λ _ d. ap owned (kept-owner w.used_threads (used (new_thread tid pid (second_birth by))) by.number by.process own ∙ sym own);
   accepted = refl;
   done = refl;
 }
@@ -105,9 +106,9 @@ thread-begins w by tid pid own = record {
   rest = DrawsOrdinal by.number ∷ AddsThread (new_thread tid pid (next_birth by)) ∷ gives_life by (free_handle w by.process) (thread_name (next_birth by)) ∷ [];
   entry = Answer by.number NtCreateThread SUCCESS (h (free_handle w by.process) ∷ []);
   is = refl;
-  told = refl;
+  told = λ _. refl;
   own = refl;
-  whose = λ d. ap owned (kept-owner w.used_threads (used (new_thread tid pid (next_birth by))) by.number by.process own ∙ sym own);
+  whose = λ _ d. ap owned (kept-owner w.used_threads (used (new_thread tid pid (next_birth by))) by.number by.process own ∙ sym own);
   accepted = refl;
   done = refl;
 }
@@ -131,7 +132,7 @@ live-most m c w pid f n live = at (first (lives_in pid) w.threads) refl live
         subst (λ i. nat_le i 2147483647 ≡ true) (eqb-true t.process pid (first-true _ _ (first-passes (lives_in pid) w.threads t some))) (used_by t (first (is_used_thread t.number) w.used_threads) refl homed)
 
 -- Rows that are fair
-fair-rows : (t u s : Bool) → t ≡ true → u ≡ false → s ≡ true → (t && ((not u && t) && (s && (s && true)))) ≡ true
+fair-rows : (t u s : Bool) → t ≡ true → u ≡ false → s ≡ true → ((t && true) && ((not u && t) && (s && (s && true)))) ≡ true
 fair-rows t u s one two three = grind arith
 
 fair-row : (t u s : Bool) → t ≡ true → u ≡ false → s ≡ true → ((not u && t) && (s && true)) ≡ true
@@ -256,9 +257,10 @@ thread-alike k u by target tid c =
     rw (process-thin k u by target c) (bind-same (process_target u by target) _ _ (λ pid at. rw (is_live-thin k u pid c, threads-thin k u pid c) refl))
 
 -- the circle's word on the process, where the line ends: it lives
-process-fine : (m : Group) (c : ℕ) (after u : World) (by : ThreadRow) (pid tid : ℕ) → HasFineRows m c after → FineAfter m c after u (making_process u by pid tid)
-process-fine m c after u by pid tid fine r =
+process-fine : (m : Group) (c : ℕ) (after u : World) (by : ThreadRow) (pid tid : ℕ) → HasFineRows m c after → was_process u pid ≡ false → FineAfter m c after u (making_process u by pid tid)
+process-fine m c after u by pid tid fine unused rest =
     let v : World = world_after u (making_process u by pid tid) in
+    let r : Behind after v = rest (made-settled u by pid tid unused) in
     let k : Alive = r.alive in
     let p : ProcessRow = new_process pid (Some by.process) (next_birth by) (token_of u by.process) in
     let t : ThreadRow = new_thread tid pid (second_birth by) in
@@ -273,7 +275,7 @@ process-fine m c after u by pid tid fine r =
     last a h is = grind arith
 
 -- what it names is alive
-names-process : (p t h : Bool) → p ≡ true → t ≡ true → h ≡ true → (p && ((t && ((t && h) && true)) && (p && (t && true)))) ≡ true
+names-process : (p t h : Bool) → p ≡ true → t ≡ true → h ≡ true → ((p && true) && ((t && ((t && h) && true)) && (p && (t && true)))) ≡ true
 names-process p t h one two three = grind arith
 
 names-thread : (t h : Bool) → t ≡ true → h ≡ true → ((t && ((t && h) && true)) && (t && true)) ≡ true
@@ -299,7 +301,7 @@ process-lawful pid tid = record {
   refuses = λ w by. process-refuses pid tid w by;
   fair = λ m c w by known a. on-process (λ bs. HasFineRows m c (world_after w bs) → are_fair m c w bs ≡ true) w by pid tid (λ _ unused fine. process-fair m c w by pid tid (made-group m c by pid (token_of w by.process) w.processes fine.0) unused);
   paths = λ m c w by known a all. on-process (λ bs. are_paths w bs ≡ true) w by pid tid (λ _ _. refl);
-  asked = λ m c w by known a b. on-process (λ bs. Asked (world_after w bs)) w by pid tid (λ _ _. record { sorts = b.sorts; own = b.own; one = b.one });
+  asked = λ m c w by known a b. on-process (λ bs. Asked (world_after w bs)) w by pid tid (λ _ _. record { sorts = b.sorts; own = b.own; one = b.one; marked = b.marked });
   sent = λ u by s live. on-process (λ bs. are_sent u bs ≡ true) u by pid tid (λ _ _. refl);
   apart = λ m c d w by known a out. on-process (λ bs. HasFineRows m c (world_after w bs) → are_apart m c (world_after w bs) d w bs ≡ true) w by pid tid (λ _ _ fine.
       process-apart m c (world_after w (making_process w by pid tid)) d w by pid tid a.fair a.own (kept-owner w.used_threads (used (new_thread tid pid (second_birth by))) by.number by.process a.own) out (made-group m c by pid (token_of w by.process) w.processes fine.0 ∙ out));
@@ -309,9 +311,9 @@ process-lawful pid tid = record {
   hears = λ m c d w by known memo a owned n b all out. on-process (λ bs. HasFineRows m c (world_after w bs) → Hears m c (world_after w bs) d w memo bs) w by pid tid (λ _ _ fine.
       still-hears m c (world_after w (making_process w by pid tid)) d w memo (making_process w by pid tid) all (refl, refl));
   notes = λ m c w by known memo a owned n b all by_in. on-process (λ bs. AllKnown m (cond (by.process == c) memo memo) (world_after w bs)) w by pid tid (λ _ _. unnoted m memo w (by.process == c) all);
-  alike = λ k u by live s c. process-alike k u by pid tid live c;
+  alike = λ k u by live s ports c. process-alike k u by pid tid live c;
   stands = λ k u by live s c room. on-process (AreClosed k) u by pid tid (λ new _. process-stands k u by pid tid room new);
-  fine = λ m c after u by idle f. on-process (FineAfter m c after u) u by pid tid (λ _ _. process-fine m c after u by pid tid f);
+  fine = λ m c after u by idle f. on-process (FineAfter m c after u) u by pid tid (λ unused _. process-fine m c after u by pid tid f unused);
 }
   where
     own-after : (m : Group) (c : ℕ) (d : Whose) (w : World) (by : ThreadRow) (known : List ℕ → Birth) → At m c w by known → by.process ≡ c → is_fine_call m w (create_process pid tid) ≡ true → Answered (λ bs led. HasFineRows m c (world_after w bs) → Led m c (world_after w bs) d w bs led) (served w by (create_process pid tid)) (served (view m w) by (create_process pid tid))
@@ -337,7 +339,7 @@ thread-lawful target tid = record {
   refuses = λ w by. thread-refuses target tid w by;
   fair = λ m c w by known a. on-thread (λ bs. HasFineRows m c (world_after w bs) → are_fair m c w bs ≡ true) w by target tid (λ pid at _ unused fine. thread-fair m c w by tid pid (target-group m c w by target pid a.fair at) unused);
   paths = λ m c w by known a all. on-thread (λ bs. are_paths w bs ≡ true) w by target tid (λ _ _ _ _. refl);
-  asked = λ m c w by known a b. on-thread (λ bs. Asked (world_after w bs)) w by target tid (λ _ _ _ _. record { sorts = b.sorts; own = b.own; one = b.one });
+  asked = λ m c w by known a b. on-thread (λ bs. Asked (world_after w bs)) w by target tid (λ _ _ _ _. record { sorts = b.sorts; own = b.own; one = b.one; marked = b.marked });
   sent = λ u by s live. on-thread (λ bs. are_sent u bs ≡ true) u by target tid (λ _ _ _ _. refl);
   apart = λ m c d w by known a out. on-thread (λ bs. HasFineRows m c (world_after w bs) → are_apart m c (world_after w bs) d w bs ≡ true) w by target tid (λ pid at _ _ fine.
       thread-apart m c (world_after w (making_thread w by tid pid)) d w by tid pid a.fair a.own (kept-owner w.used_threads (used (new_thread tid pid (next_birth by))) by.number by.process a.own) out (target-group m c w by target pid a.fair at ∙ out));
@@ -347,7 +349,7 @@ thread-lawful target tid = record {
   hears = λ m c d w by known memo a owned n b all out. on-thread (λ bs. HasFineRows m c (world_after w bs) → Hears m c (world_after w bs) d w memo bs) w by target tid (λ pid _ _ _ fine.
       still-hears m c (world_after w (making_thread w by tid pid)) d w memo (making_thread w by tid pid) all (refl, refl));
   notes = λ m c w by known memo a owned n b all by_in. on-thread (λ bs. AllKnown m (cond (by.process == c) memo memo) (world_after w bs)) w by target tid (λ _ _ _ _. unnoted m memo w (by.process == c) all);
-  alike = λ k u by live s c. thread-alike k u by target tid c;
+  alike = λ k u by live s ports c. thread-alike k u by target tid c;
   stands = λ k u by live s c room. on-thread (AreClosed k) u by target tid (λ pid _ lives _. names-thread (k.threads (next_birth by)) (k.homes pid) room.thread (home-live k u pid c lives));
   fine = λ m c after u by idle f. on-thread (FineAfter m c after u) u by target tid (λ _ _ _ _ _. refl);
 }

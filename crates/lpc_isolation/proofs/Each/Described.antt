@@ -18,7 +18,7 @@ use Rattle.lpc_model.specs.Refusal.{found_or}
 use Rattle.lpc_model.specs.Request.{reply_test}
 use Rattle.lpc_model.specs.Tests.{client_test, is_client, port_test}
 use Rattle.lpc_model.specs.Then.{◌>>=◌}
-use Rattle.lpc_model.specs.Ranges.{Described, asked_test, described_test, range_test}
+use Rattle.lpc_model.specs.Ranges.{Described, asked_test, described_test, range_test, request_test}
 use Rattle.lpc_model.specs.Circle.{Group, is_no_outsiders_thread, names_no_outsider, outsider_sees, owner}
 use Rattle.lpc_model.proofs.Calls.Holding.{Holds, bind_holds, found_holds, holds-more, holds_ok, not_refused}
 use Rattle.lpc_isolation.proofs.Views.View.{our_wait, seen_port, seen_view, view}
@@ -40,20 +40,25 @@ pub record IsAsked (w : World) (by : ThreadRow) (handle : ℕ) (bytes : List ℕ
   pub message_read : message_test bytes ≡ Ok message
   pub client : is_client w message.header.client ≡ true
   pub fits : fitted w port.birth message ≡ Some x
+  pub request : (v : Unit {0}) × (request_test x ≡ Ok v)
 
 pub asked-is : (w : World) (by : ThreadRow) (handle : ℕ) (bytes : List ℕ) → Holds (IsAsked w by handle bytes) (asked_test w by handle bytes)
 asked-is w by handle bytes =
     let P : WaitRow → Type 0 = IsAsked w by handle bytes in
     bind_holds (port_test w by handle) _ P (λ p at.
     bind_holds (message_test bytes) _ P (λ a read.
-    bind_holds (client_test w a.header.client) _ P (λ u off.
-    found_holds P (fitted w p.birth a) REPLY_MESSAGE_MISMATCH (λ x fit. record {
+    bind_holds (reply_test w p a) _ P (λ x is.
+    bind_holds (request_test x) _ P (λ v asks.
+    let Q : WaitRow → Type 0 = λ x. (is_client w a.header.client ≡ true) × (fitted w p.birth a ≡ Some x) in
+    let both : Q x = holds_ok Q (reply_test w p a) x (bind_holds (client_test w a.header.client) _ Q (λ u off. found_holds Q (fitted w p.birth a) REPLY_MESSAGE_MISMATCH (λ x fit. (not-false (is_client w a.header.client) (not_refused (not (is_client w a.header.client)) INVALID_CID u off), fit)))) is in
+    record {
       port = p;
       message = a;
       port_found = at;
       message_read = read;
-      client = not-false (is_client w a.header.client) (not_refused (not (is_client w a.header.client)) INVALID_CID u off);
-      fits = fit;
+      client = both.0;
+      fits = both.1;
+      request = (v, asks);
     }))))
 
 -- its process is the one that the message names
@@ -130,7 +135,7 @@ c-asked m c w by handle bytes c_in mine f ways inside =
     rw (c-port_test m c w by handle c_in mine f) (bind-same (port_test w by handle) _ _ (λ p at.
     bind-same (message_test bytes) _ _ (λ a is.
     let p_in : m p.birth.process ≡ true = ap m ((holds_ok _ (port_test w by handle) p (port-own m c w by handle f) at).0 ∙ mine) ∙ c_in in
-    c-answered m c w p a f ways p_in (message-names m w bytes a is inside))))
+    ap (λ r. r >>= (λ x. request_test x >>= (λ _. Ok x))) (c-answered m c w p a f ways p_in (message-names m w bytes a is inside)))))
 
 pub c-client_in : (m : Group) (c : ℕ) (w : World) (by : ThreadRow) (handle : ℕ) (bytes : List ℕ) → Fair m c w → names_no_outsider m w bytes ≡ true → Holds (λ (x : WaitRow). m x.process ≡ true) (asked_test w by handle bytes)
 c-client_in m c w by handle bytes f inside =
@@ -161,9 +166,10 @@ asked-view m c w by handle bytes x f ways inside at x_in =
     let client_in : m a.message.header.client.process ≡ true = sym (ap m (asked-client w by handle bytes x a)) ∙ x_in in
     let same : reply_test (view m w) a.port a.message ≡ reply_test w a.port a.message = c-answered m c w a.port a.message f ways own (member-thread m c w a.message.header.client f a.client client_in) in
     let fit : reply_test w a.port a.message ≡ Ok x = let client = a.client in let fits = a.fits in rw (client, fits) refl in
-    ap (λ r. r >>= (λ p. message_test bytes >>= (λ b. reply_test (view m w) p b))) port
-    ∙ ap (λ r. r >>= (λ b. reply_test (view m w) (seen_port m a.port) b)) a.message_read
-    ∙ same ∙ fit
+    ap (λ r. r >>= (λ p. message_test bytes >>= (λ b. reply_test (view m w) p b >>= (λ x. request_test x >>= (λ _. Ok x))))) port
+    ∙ ap (λ r. r >>= (λ b. reply_test (view m w) (seen_port m a.port) b >>= (λ x. request_test x >>= (λ _. Ok x)))) a.message_read
+    ∙ ap (λ r. r >>= (λ x. request_test x >>= (λ _. Ok x))) (same ∙ fit)
+    ∙ ap (λ r. r >>= (λ _. Ok x)) a.request.1
 
 pub member-described : (m : Group) (c : ℕ) (w : World) (by : ThreadRow) (handle : ℕ) (bytes : List ℕ) (index n : ℕ) (d : Described) (is : IsDescribed w by handle bytes index n d) → Fair m c w → Ways m w → m by.process ≡ true → m is.wait.process ≡ true
     → described_test (view m w) by handle bytes index n ≡ result_map (seen_described m) (described_test w by handle bytes index n)
@@ -177,10 +183,11 @@ asked-unseen m w by handle bytes out =
     let P : WaitRow → Type 0 = λ x. ⊥ in
     bind_holds (port_test (view m w) by handle) _ P (λ p at.
     bind_holds (message_test bytes) _ P (λ a read.
-    bind_holds (client_test (view m w) a.header.client) _ P (λ u off.
+    bind_holds (reply_test (view m w) p a) _ P (λ x is. absurd (holds_ok P (reply_test (view m w) p a) x
+    (bind_holds (client_test (view m w) a.header.client) _ P (λ u off.
     found_holds P (fitted (view m w) p.birth a) REPLY_MESSAGE_MISMATCH (λ x fit.
     let none : fitted (view m w) p.birth a ≡ None = first-outside (our_wait m) (fits (view m w) p.birth a) (λ x is. unseen p a (out a read) x is) w.waits in
-    let both : None ≡ Some x = sym none ∙ fit in absurd (cc)))))
+    let both : None ≡ Some x = sym none ∙ fit in absurd (cc)))) is))))
   where
     unseen : (p : PortRow) (a : Message) → m a.header.client.process ≡ false → (x : WaitRow) → fits (view m w) p.birth a x ≡ true → our_wait m x ≡ false
     unseen p a off x is = let x_out : m x.process ≡ false = ap m (eqb-true _ _ (fit-process (view m w) p.birth a x is)) ∙ off in rw x_out refl

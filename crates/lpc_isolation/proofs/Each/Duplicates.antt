@@ -37,5 +37,5 @@ pub duplicate-calm : (handle : ℕ) (access : Option ℕ) → Calm (duplicate_ob
 duplicate-calm handle access = record {
   refuses = λ w by. refuses-duplicate w by handle access;
   members = answers_alike refl (λ m c w by known k a mine fine right. same-duplicate m c w by known handle access a mine fine);
-  alike = λ k u by live s c. alike-duplicate k u by handle access c;
+  alike = λ k u by live s ports c. alike-duplicate k u by handle access c;
 }

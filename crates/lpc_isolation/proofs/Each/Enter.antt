@@ -11,7 +11,7 @@ use Rattle.lpc_base.proofs.Births.{birth-same, birth-self, birth-turned}
 use Rattle.lpc_model.specs.declared.entry.CallName.{CallName}
 use Rattle.lpc_model.specs.declared.entry.Field.{Field}
 use Rattle.lpc_model.specs.Message.{asks, is_connection_request}
-use Rattle.lpc_model.specs.World.{Accepted, Birth, Connect, Listen, MessageRow, Receive, Request, WaitKind, WaitRow, World}
+use Rattle.lpc_model.specs.World.{Accepted, Birth, Connect, Listen, MessageRow, Receive, Request, WaitKind, WaitRow, World, Event}
 use Rattle.lpc_model.specs.Found.{is_listen, is_queued, is_queued_connect, is_receive, same_birth}
 use Rattle.lpc_model.specs.Basics.{Enters, Receives, Wakes, basic}
 use Rattle.lpc_model.specs.Entering.{enter, given_steps, shown, takes, woken}
@@ -84,6 +84,7 @@ when-ours m w false who q who' call fields = refl
 
 given-ours : (m : Group) (w : World) (x : MessageRow) (y : WaitRow) (k : WaitKind) → y.kind ≡ k → our_message m x ≡ true → takes x y ≡ true → is_patient w y ≡ true → are_ours m (basic w (Enters x)) (given_steps y x ++ woken SUCCESS (shown y x) y ∷ []) ≡ true
 given-ours m w x y (Request a) k ours is patient = let off : (false && same_birth y.queue x.queue) ≡ true = rw k at is in absurd (cc)
+given-ours m w x y (Event e) k ours is patient = let off : (false && same_birth y.queue x.queue) ≡ true = rw k at is in absurd (cc)
 given-ours m w x y Receive k ours is patient = rw (k, receive-first w x y is (rw k refl) patient, ours) (when-ours m _ (asks x.message) _ _ _ _ _)
 given-ours m w x y Listen k ours is patient = rw (k, listen-first w x y is (rw k refl) (rw k refl) patient, ours) (when-ours m _ (asks x.message) _ _ _ _ _)
 given-ours m w x y (Connect a offer) k ours is patient = let off : (false && same_birth y.queue x.queue) ≡ true = rw k at is in absurd (cc)
@@ -101,6 +102,8 @@ enter-ours m w x ours patient = entered-ours m w x (first (takes x) w.waits) ref
 given-fair : (m : Group) (c : ℕ) (w : World) (x : MessageRow) (y : WaitRow) (k : WaitKind) (asked : Bool) → y.kind ≡ k → asks x.message ≡ asked → are_fair m c w (given_steps y x ++ woken SUCCESS (shown y x) y ∷ []) ≡ true
 given-fair m c w x y (Request a) true k asked = rw (k, asked) refl
 given-fair m c w x y (Request a) false k asked = rw (k, asked) refl
+given-fair m c w x y (Event e) true k asked = rw (k, asked) refl
+given-fair m c w x y (Event e) false k asked = rw (k, asked) refl
 given-fair m c w x y Receive true k asked = rw (k, asked) refl
 given-fair m c w x y Receive false k asked = rw (k, asked) refl
 given-fair m c w x y Listen true k asked = rw (k, asked) refl

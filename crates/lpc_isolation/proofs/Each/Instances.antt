@@ -1,4 +1,5 @@
 -- Each service owes what its calls' lines need.
+use Rattle.lpc_model.specs.Raise.{nt_set_information_process, raise_exception}
 use Rattle.lpc_model.specs.Linked.{IsLinked}
 use Rattle.lpc_base.specs.declared.status.Status.{Status}
 use Rattle.lpc_model.specs.Message.{message_test}
@@ -15,7 +16,7 @@ use Rattle.lpc_model.specs.Found.{free_handle, live_thread, wait_of, view_holdin
 use Rattle.lpc_model.specs.Basics.{Basic, world_after}
 use Rattle.lpc_model.specs.Connect.{ConnectAnswer, answer_test}
 use Rattle.lpc_model.specs.Tests.{own_handle, port_test, client_test}
-use Rattle.lpc_model.specs.Lines.{ScriptCall, accept_connect_port, close, complete_connect_port, connect_port, create_port, duplicate_object, listen_port, query_object, reply_port, reply_wait_receive_port, request_port, request_wait_reply_port, register_thread_terminate_port, create_process, create_thread, terminate_thread, terminate_process, create_section, map_view_of_section, unmap_view_of_section, read_virtual_memory, write_virtual_memory, read_request_data, write_request_data, impersonate_client_of_port, open_process_token, open_thread_token, query_information_token, set_information_thread}
+use Rattle.lpc_model.specs.Lines.{ScriptCall, accept_connect_port, close, complete_connect_port, connect_port, create_port, duplicate_object, listen_port, query_object, reply_port, reply_wait_receive_port, request_port, request_wait_reply_port, register_thread_terminate_port, create_process, create_thread, terminate_thread, terminate_process, create_section, map_view_of_section, unmap_view_of_section, read_virtual_memory, write_virtual_memory, read_request_data, write_request_data, impersonate_client_of_port, open_process_token, open_thread_token, query_information_token, set_information_thread, raise, set_information_process}
 use Rattle.lpc_model.specs.Close.{close_steps}
 use Rattle.lpc_model.specs.Counts.{asked, duplicate_steps}
 use Rattle.lpc_model.specs.Death.{terminate_thread_steps, code_status, terminate_process_steps}
@@ -27,7 +28,7 @@ use Rattle.lpc_isolation.proofs.Gone.Served.{served}
 use Rattle.lpc_model.specs.SoundWaits.{IsSoundWorld, HasShutConnects}
 use Rattle.lpc_model.proofs.Calls.Holding.{Holds, holds-more, bind_holds}
 use Rattle.lpc_model.specs.Circle.{Group, Whose, owner, given_in}
-use Rattle.lpc_isolation.proofs.Views.Alone.{HasFineRows}
+use Rattle.lpc_isolation.proofs.Views.Alone.{HasFineRows, HasFineRaisers}
 use Rattle.lpc_isolation.proofs.Views.View.{view}
 use Rattle.lpc_isolation.proofs.Views.Basics.{are_ours}
 use Rattle.lpc_isolation.proofs.Rows.Fair.{Fair}
@@ -108,6 +109,8 @@ leads_by m known v by (query_information_token handle class) e o = []
 leads_by m known v by (set_information_thread class) e o = revert_steps by
 leads_by m known v by (terminate_thread target code) e o = led_end v by target code
 leads_by m known v by (terminate_process target code) e o = led_ends v by target code
+leads_by m known v by (set_information_process target class handle) e o = on_ok (nt_set_information_process v by target class handle) (λ bs. bs)
+leads_by m known v by (raise code handled) e o = on_ok (raise_exception v by code handled) (λ bs. bs)
 
 abbrev pub leading : Group → (List ℕ → Birth) → Contents → Leads
 leading m known k = record { lead = leads_by m known; bytes = k }
@@ -127,6 +130,8 @@ pub record At (m : Group) (c : ℕ) (w : World) (by : ThreadRow) (known : List �
   pub bound : OnceBound w.bindings
   pub paths : Paths w
   pub asked : Asked w
+  pub unmarked : w.marks ≡ []
+  pub raisers : HasFineRaisers m w
   pub live : live_thread w by.number ≡ Some by
   pub own : owner w by.number ≡ Some by.process
   pub idle : wait_of w by.number ≡ None
@@ -151,6 +156,8 @@ caller m c w by known u a used = record {
   bound = a.bound;
   paths = a.paths;
   asked = a.asked;
+  unmarked = a.unmarked;
+  raisers = a.raisers;
 }
 
 -- of c: where the view answers as the world does, by members' steps, it changes as the world does

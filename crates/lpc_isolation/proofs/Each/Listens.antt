@@ -13,8 +13,8 @@ use Rattle.lpc_model.specs.declared.entry.Entry.{Entry}
 use Rattle.lpc_model.specs.declared.entry.Entry.TheVariants as entry
 use Rattle.lpc_model.specs.Fields.{msg}
 use Rattle.lpc_model.specs.World.{Birth, MessageRow, PortRow, ThreadRow, WaitRow, World}
-use Rattle.lpc_model.specs.Found.{is_queued_connect}
-use Rattle.lpc_model.specs.Basics.{Awaits, Basic, Tells, Dies}
+use Rattle.lpc_model.specs.Found.{is_queued_connect, is_event}
+use Rattle.lpc_model.specs.Basics.{Awaits, Basic, Tells, Dies, Dooms}
 use Rattle.lpc_model.specs.Connect.{listen_steps, listen_wait, nt_listen_port}
 use Rattle.lpc_model.specs.Entering.{take_connect_steps}
 use Rattle.lpc_model.specs.Tests.{port_test}
@@ -22,7 +22,7 @@ use Rattle.lpc_model.specs.Circle.{Group, Whose, owner}
 use Rattle.lpc_isolation.proofs.Views.Filters.{first-kept}
 use Rattle.lpc_isolation.proofs.Views.View.{our_message, seen_port, view}
 use Rattle.lpc_isolation.proofs.Views.Basics.{are_ours, basic-ours, run-ours}
-use Rattle.lpc_isolation.proofs.Rows.Fair.{Fair, are_fair, is_fair_message, is_fair_wait, is_sent}
+use Rattle.lpc_isolation.proofs.Rows.Fair.{Fair, are_fair, is_fair_message, is_fair_wait, is_sent, home-of, is_home_wait, together}
 use Rattle.lpc_isolation.proofs.Views.Seen.{bind-same, port_test-view}
 use Rattle.lpc_isolation.proofs.Views.Apart.{are_apart}
 use Rattle.lpc_isolation.proofs.Views.Callers.{Led, on_ok}
@@ -31,9 +31,9 @@ use Rattle.lpc_isolation.proofs.Each.Sends.{Caller, Named, found-port}
 use Rattle.lpc_isolation.proofs.Each.Takes.{IsFirst, c-first, is_readable, shown_process, shows-message, take_connect-apart, take_connect-fair, take_connect-gone, take_connect-ours, take_connect-silent}
 
 -- a caller's own wait on a queue of its process
-pub own-wait-fair : (m : Group) (c : ℕ) (x : WaitRow) → m c ≡ true → x.port.process ≡ x.process → x.queue.process ≡ x.process → is_fair_wait m c x ≡ true
-own-wait-fair m c x c_in port queue =
-    let one : (x.port.process == x.process) ≡ true = rw port (same-number x.process) in
+pub own-wait-fair : (m : Group) (c : ℕ) (x : WaitRow) → m c ≡ true → is_event x ≡ false → x.port.process ≡ x.process → x.queue.process ≡ x.process → is_fair_wait m c x ≡ true
+own-wait-fair m c x c_in off port queue =
+    let one : is_home_wait m x ≡ true = home-of m x off port in
     let two : (x.queue.process == x.process) ≡ true = rw queue (same-number x.process) in
     let in_q : m x.queue.process ≡ m x.process = ap m queue in
     let own_q : (x.queue.process == c) ≡ (x.process == c) = ap (λ p. p == c) queue in
@@ -50,7 +50,7 @@ first-own q w x at = subst (λ b. first (is_queued_connect b) w.messages ≡ Som
 -- fair and apart
 pub listen-fair : (m : Group) (c : ℕ) (w : World) (by : ThreadRow) (p : PortRow) (o : Option MessageRow) → m c ≡ true → p.birth.process ≡ by.process → are_fair m c w (listen_steps by p.birth o) ≡ true
 listen-fair m c w by p (Some x) c_in own = take_connect-fair m c w x
-listen-fair m c w by p None c_in own = rw (own-wait-fair m c (listen_wait by p.birth) c_in own own) refl
+listen-fair m c w by p None c_in own = rw (own-wait-fair m c (listen_wait by p.birth) c_in refl own own) refl
 
 pub listen-apart : (m : Group) (c : ℕ) (u : World) (d : Whose) (w : World) (by : ThreadRow) (p : PortRow) (o : Option MessageRow) → first (is_queued_connect p.birth) w.messages ≡ o → owner u by.number ≡ Some by.process → m by.process ≡ false → p.birth.process ≡ by.process → are_apart m c u d w (listen_steps by p.birth o) ≡ true
 listen-apart m c u d w by p (Some x) at here out own = rw (here, out) (take_connect-apart m c u d w x (first-own p.birth w x at) (ap (λ (b : Birth). m b.process) (listen-queue p.birth w x at) ∙ ap m own ∙ out))
@@ -60,7 +60,13 @@ listen-apart m c u d w by p None at here out own = rw (here, out) refl
 abbrev pub own_entry : List Basic → Entry
 own_entry (Tells e ∷ bs) = e
 own_entry (Dies who status ∷ bs) = entry.Died who status
+own_entry (Dooms pid code ∷ bs) = entry.Died 0 SUCCESS
 own_entry bs = entry.Busy 0
+
+-- a call by which its process is to end tells nothing itself
+abbrev pub tells_some : List Basic → Bool
+tells_some (Dooms pid code ∷ bs) = false
+tells_some bs = true
 
 abbrev pub led_listened : Group → World → ThreadRow → PortRow → Entry → List Basic
 led_listened m v by p (entry.Waits who call fields) = Awaits (listen_wait by p.birth) ∷ []
@@ -78,7 +84,7 @@ listened m c u d w by p None at k readable by_in other own =
 listened m c u d w by p (Some x) at k readable by_in other own =
     let fair : is_fair_message m c x ≡ true = every-first (is_fair_message m c) (is_queued_connect p.birth) w.messages x k.fair.messages at in
     let shows : shown_process (msg x.message ∷ []) ≡ x.message.header.client.process = shows-message x (every-first is_readable (is_queued_connect p.birth) w.messages x readable at) in
-    let sender : m (shown_process (msg x.message ∷ [])) ≡ m x.sender.process = ap m (shows ∙ eqb-true _ _ (first-true _ _ fair)) in
+    let sender : m (shown_process (msg x.message ∷ [])) ≡ m x.sender.process = ap m shows ∙ together m _ _ (first-true _ _ fair) in
     rw sender (whose (m x.sender.process) refl fair)
   where
     q_in : m x.queue.process ≡ true

@@ -100,12 +100,12 @@ pub map-calm : (handle offset size prot : ℕ) → Calm (map_view_of_section han
 map-calm handle offset size prot = record {
   refuses = λ w by. refuses-map w by handle offset size prot;
   members = answers_alike refl (λ m c w by known k a mine fine right. same-map m c w by handle offset size prot a.fair (ap m mine ∙ a.c_in));
-  alike = λ k u by live s c. alike-map k u by handle offset size prot c;
+  alike = λ k u by live s ports c. alike-map k u by handle offset size prot c;
 }
 
 pub unmap-calm : (address : ℕ) → Calm (unmap_view_of_section address)
 unmap-calm address = record {
   refuses = λ w by. refuses-unmap w by address;
   members = answers_alike refl (λ m c w by known k a mine fine right. same-unmap m w by address (ap m mine ∙ a.c_in));
-  alike = λ k u by live s c. alike-unmap k u by address;
+  alike = λ k u by live s ports c. alike-unmap k u by address;
 }

@@ -108,12 +108,12 @@ pub read-calm : (address n : ℕ) → Calm (read_virtual_memory address n)
 read-calm address n = record {
   refuses = λ w by. refuses-read w by address n;
   members = answers_alike refl (λ m c w by known k a mine fine reads. same-read m c w by k address n a.fair a.c_in mine reads.views);
-  alike = λ k u by live s c. alike-read k u by address n c;
+  alike = λ k u by live s ports c. alike-read k u by address n c;
 }
 
 pub write-calm : (address : ℕ) (new : List ℕ) → Calm (write_virtual_memory address new)
 write-calm address new = record {
   refuses = λ w by. refuses-write w by address new;
   members = answers_alike refl (λ m c w by known k a mine fine reads. same-write m c w by address new a.fair a.c_in mine);
-  alike = λ k u by live s c. alike-write k u by address new;
+  alike = λ k u by live s ports c. alike-write k u by address new;
 }

@@ -1,4 +1,5 @@
 -- NtQueryObject in a view.
+use Rattle.lpc_model.specs.Left.{HasLivingPorts}
 use Rattle.std.proofs.Common.{◌≡◌, ℕ, List, [], ◌∷◌, true, refl, ap, ◌∙◌}
 use Rattle.std.specs.Prelude.{Ok}
 use Rattle.lpc_base.specs.Rows.{first}
@@ -38,14 +39,14 @@ same-query m c w by known handle a mine fine =
     ap (λ n. Ok (told_counts by r n (standing_count (view m w) r.object))) (handle_count-view m c w r.object a.fair.tables (ap m own ∙ a.c_in))
     ∙ ap (λ n. Ok (told_counts by r (handle_count w r.object) n)) (standing-view m c w r.object a.c_in own a.fair a.fine)))
 
-alike-query : (k : Alive) (u : World) (by : ThreadRow) (handle : ℕ) → Closed k u → served (thin k u) by (query_object handle) ≡ served u by (query_object handle)
-alike-query k u by handle c = bind-same (own_handle u by handle) _ _ (λ r at.
+alike-query : (k : Alive) (u : World) (by : ThreadRow) (handle : ℕ) → HasLivingPorts u → Closed k u → served (thin k u) by (query_object handle) ≡ served u by (query_object handle)
+alike-query k u by handle ports c = bind-same (own_handle u by handle) _ _ (λ r at.
     let live : handle_closed k r ≡ true = every-first (handle_closed k) (has_value handle) (handles_of u by.process) r (rows-closed k by.process u.handles (first (is_table by.process) u.handles) refl c.tables) (found_ok (handle_at u by.process handle) INVALID_HANDLE r at) in
-    ap (λ n. Ok (told_counts by r (handle_count u r.object) n)) (standing-thin k u r.object live c))
+    ap (λ n. Ok (told_counts by r (handle_count u r.object) n)) (standing-thin k u r.object live ports c))
 
 pub query-calm : (handle : ℕ) → Calm (query_object handle)
 query-calm handle = record {
   refuses = λ w by. refuses-query w by handle;
   members = answers_alike refl (λ m c w by known k a mine fine right. same-query m c w by known handle a mine fine);
-  alike = λ k u by live s c. alike-query k u by handle c;
+  alike = λ k u by live s ports c. alike-query k u by handle ports c;
 }

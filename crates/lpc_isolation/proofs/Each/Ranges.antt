@@ -110,12 +110,12 @@ pub read_range-calm : (handle : ℕ) (bytes : List ℕ) (index n : ℕ) → Calm
 read_range-calm handle bytes index n = record {
   refuses = λ w by. refuses-read_range w by handle bytes index n;
   members = answers_alike refl (λ m c w by known k a mine fine reads. same-read_range m c w by k handle bytes index n a.fair a.ways a.c_in mine fine reads.range);
-  alike = λ k u by live s c. alike-read_range k u by handle bytes index n c;
+  alike = λ k u by live s ports c. alike-read_range k u by handle bytes index n c;
 }
 
 pub write_range-calm : (handle : ℕ) (bytes : List ℕ) (index : ℕ) (new : List ℕ) → Calm (write_request_data handle bytes index new)
 write_range-calm handle bytes index new = record {
   refuses = λ w by. refuses-write_range w by handle bytes index new;
   members = tells_alike refl (own-write_range handle bytes index new);
-  alike = λ k u by live s c. alike-write_range k u by handle bytes index new c;
+  alike = λ k u by live s ports c. alike-write_range k u by handle bytes index new c;
 }

@@ -1,28 +1,29 @@
 -- NtReplyWaitReceivePort in a view.
+use Rattle.lpc_model.proofs.Sound.Reply.{reply-cases}
 use Rattle.std.proofs.Common.{◌≡◌, ℕ, List, [], ◌∷◌, ◌++◌, Bool, true, false, cond, Option, Some, None, refl, ap, sym, subst, ◌∙◌, arith}
 use Rattle.std.specs.Prelude.{◌&&◌, ◌==◌, Result, Ok, Err}
 use Rattle.std.proofs.lemmas.Bool.{and_from, eqb-true}
-use Rattle.lpc_base.specs.Rows.{every, first, given}
+use Rattle.lpc_base.specs.Rows.{every, first, given, which}
 use Rattle.lpc_base.proofs.RowWords.{every-without, first-passes}
 use Rattle.lpc_base.proofs.RowMaps.{every-first}
 use Rattle.lpc_base.proofs.Bools.{first-true, same-number, second-true}
 use Rattle.lpc_base.proofs.Births.{birth-same}
 use Rattle.lpc_base.specs.declared.status.Status.{Status}
-use Rattle.lpc_base.specs.declared.status.TheConstants.{PORT_DISCONNECTED, SUCCESS}
+use Rattle.lpc_base.specs.declared.status.TheConstants.{PORT_DISCONNECTED, SUCCESS, DBG_CONTINUE}
 use Rattle.lpc_model.specs.declared.entry.CallName.TheVariants.{NtReplyPort, NtReplyWaitReceivePort}
 use Rattle.lpc_model.specs.declared.entry.Entry.{Entry}
 use Rattle.lpc_model.specs.declared.entry.Entry.TheVariants as entry
 use Rattle.lpc_base.specs.declared.port_kind.PortKind.TheVariants.{Client, Server}
 use Rattle.lpc_model.specs.declared.message.Message.{Message}
-use Rattle.lpc_model.specs.Message.{message_test}
-use Rattle.lpc_model.specs.Fields.{receipt}
+use Rattle.lpc_model.specs.Message.{message_test, as_reply}
+use Rattle.lpc_model.specs.Fields.{receipt, msg}
 use Rattle.lpc_model.specs.Refusal.{found_or}
 use Rattle.lpc_model.specs.Then.{◌>>=◌}
 use Rattle.lpc_model.specs.World.{Birth, MessageRow, PortKind, PortRow, ThreadRow, WaitRow, World}
 use Rattle.lpc_model.specs.Found.{if_open, is_open, is_queued, is_server_port, queue_of, waits_as}
-use Rattle.lpc_model.specs.Basics.{Awaits, Basic, Tells, basic, entries_of, world_after}
+use Rattle.lpc_model.specs.Basics.{Awaits, Basic, Tells, basic, entries_of, world_after, Marks}
 use Rattle.lpc_model.specs.Request.{reply_test, given_reply, is_spent, nt_reply_wait_receive_port, optional_message, receive_steps, receive_test, receive_wait, reply}
-use Rattle.lpc_model.specs.Entering.{take_steps}
+use Rattle.lpc_model.specs.Entering.{take_steps, woken}
 use Rattle.lpc_model.specs.Tests.{port_test}
 use Rattle.lpc_model.proofs.Calls.Outcomes.{IsReceiving}
 use Rattle.lpc_model.proofs.Calls.Holding.{found_ok, holds_ok}
@@ -31,7 +32,7 @@ use Rattle.lpc_isolation.proofs.Views.Alone.{alone}
 use Rattle.lpc_isolation.proofs.Views.Filters.{first-kept}
 use Rattle.lpc_isolation.proofs.Views.View.{our_message, seen_port, view}
 use Rattle.lpc_isolation.proofs.Views.Basics.{are_ours, basic-ours, run-ours}
-use Rattle.lpc_isolation.proofs.Rows.Fair.{Fair, all_of, are_fair, implies, is_fair_message, is_home, is_sent}
+use Rattle.lpc_isolation.proofs.Rows.Fair.{Fair, all_of, are_fair, implies, is_fair_message, is_home, is_sent, together}
 use Rattle.lpc_isolation.proofs.Views.Seen.{bind-same, c-port, open-view, port_test-view}
 use Rattle.lpc_isolation.proofs.Views.Apart.{Owned, are_apart, heard, is_heard, is_owned}
 use Rattle.std.proofs.lemmas.List.Elements.{filter-append}
@@ -110,11 +111,13 @@ replied-as P w p (Some b) replied is none some = at (reply_test w p b) refl is
 -- fair
 pub received-fair : (m : Group) (c : ℕ) (w : World) (by : ThreadRow) (p : PortRow) (q : Birth) (o : Option MessageRow) → m c ≡ true → p.birth.process ≡ by.process → q.process ≡ by.process → are_fair m c w (receive_steps by p q [] o) ≡ true
 received-fair m c w by p q (Some x) c_in own queue = take-fair m c w x
-received-fair m c w by p q None c_in own queue = rw (own-wait-fair m c (receive_wait by p.birth q) c_in own queue) refl
+received-fair m c w by p q None c_in own queue = rw (own-wait-fair m c (receive_wait by p.birth q) c_in refl own queue) refl
 
 pub replied-fair : (m : Group) (c : ℕ) (w : World) (by : ThreadRow) (p : PortRow) (q : Birth) (y : WaitRow) (b : Message) (o : Option MessageRow) → m c ≡ true → p.birth.process ≡ by.process → q.process ≡ by.process → are_fair m c w (receive_steps by p q (reply y b ∷ []) o) ≡ true
-replied-fair m c w by p q y b (Some x) c_in own queue = take-fair m c (basic w (reply y b)) x
-replied-fair m c w by p q y b None c_in own queue = rw (own-wait-fair m c (receive_wait by p.birth q) c_in own queue) refl
+replied-fair m c w by p q y b (Some x) c_in own queue = reply-cases (λ r. are_fair m c w (receive_steps by p q (r ∷ []) (Some x)) ≡ true) y b (take-fair m c (basic w (woken SUCCESS (msg (as_reply b) ∷ []) y)) x) (take-fair m c (basic w (woken DBG_CONTINUE [] y)) x) (λ _. take-fair m c (basic w (Marks y.thread)) x)
+replied-fair m c w by p q y b None c_in own queue =
+    let fair = own-wait-fair m c (receive_wait by p.birth q) c_in refl own queue in
+    reply-cases (λ r. are_fair m c w (receive_steps by p q (r ∷ []) None) ≡ true) y b (rw fair refl) (rw fair refl) (λ _. rw fair refl)
 
 -- apart
 pub received-apart : (m : Group) (c : ℕ) (u : World) (d : Whose) (w : World) (by : ThreadRow) (p : PortRow) (q : Birth) (o : Option MessageRow) → first (is_queued q) w.messages ≡ o → owner u by.number ≡ Some by.process → m q.process ≡ false → m by.process ≡ false → are_apart m c u d w (receive_steps by p q [] o) ≡ true
@@ -123,7 +126,11 @@ received-apart m c u d w by p q (Some x) at here q_out out = rw (here, out) (tak
 
 pub replied-apart : (m : Group) (c : ℕ) (u : World) (d : Whose) (w : World) (by : ThreadRow) (p : PortRow) (q : Birth) (y : WaitRow) (b : Message) (o : Option MessageRow) → first (is_queued q) w.messages ≡ o → owner u by.number ≡ Some by.process → m q.process ≡ false → m by.process ≡ false → are_apart m c u d w (reply y b ∷ []) ≡ true → are_apart m c u d w (receive_steps by p q (reply y b ∷ []) o) ≡ true
 replied-apart m c u d w by p q y b None at here q_out out woke = rw (here, out) (and_from _ _ (first-true _ _ woke) refl)
-replied-apart m c u d w by p q y b (Some x) at here q_out out woke = rw (here, out) (and_from _ _ (first-true _ _ woke) (take-apart m c u d (basic w (reply y b)) x (first-own q w x at) (ap (λ (b : Birth). m b.process) (receive-queue q w x at) ∙ q_out)))
+replied-apart m c u d w by p q y b (Some x) at here q_out out woke =
+    reply-cases (λ r. are_apart m c u d w (r ∷ []) ≡ true → are_apart m c u d w (receive_steps by p q (r ∷ []) (Some x)) ≡ true) y b
+    (λ woke. rw (here, out) (and_from _ _ (first-true _ _ woke) (take-apart m c u d (basic w (woken SUCCESS (msg (as_reply b) ∷ []) y)) x (first-own q w x at) (ap (λ (b : Birth). m b.process) (receive-queue q w x at) ∙ q_out))))
+    (λ woke. rw (here, out) (and_from _ _ (first-true _ _ woke) (take-apart m c u d (basic w (woken DBG_CONTINUE [] y)) x (first-own q w x at) (ap (λ (b : Birth). m b.process) (receive-queue q w x at) ∙ q_out))))
+    (λ _ woke. rw (here, out) (and_from _ _ (first-true _ _ woke) (take-apart m c u d (basic w (Marks y.thread)) x (first-own q w x at) (ap (λ (b : Birth). m b.process) (receive-queue q w x at) ∙ q_out)))) woke
 
 -- of another member than c, by what it was told
 abbrev pub led_replied : World → Option (List ℕ) → List Basic
@@ -172,7 +179,7 @@ rest-led m c u d w by port q (Some x) at by_in queue owned facts =
     let fair : is_fair_message m c x ≡ true = first-true _ _ (facts x refl) in
     let readable : is_readable x ≡ true = first-true _ _ (second-true (is_fair_message m c x) _ (facts x refl)) in
     let sent : is_sent u.used_threads x ≡ true = second-true (is_readable x) _ (second-true (is_fair_message m c x) _ (facts x refl)) in
-    let sender : m (shown_process (receipt x)) ≡ m x.sender.process = ap m (shows-receipt x readable ∙ eqb-true _ _ (first-true _ _ fair)) in
+    let sender : m (shown_process (receipt x)) ≡ m x.sender.process = ap m (shows-receipt x readable) ∙ together m _ _ (first-true _ _ fair) in
     rw sender (whose (m x.sender.process) refl fair sent)
   where
     q_in : m x.queue.process ≡ true
@@ -208,7 +215,10 @@ entry-of by p q replied None = refl
 entry-of by p q replied (Some x) = refl
 
 woken-owned : (u w : World) (y : WaitRow) (b : Message) → Owned u w → Owned u (basic w (reply y b))
-woken-owned u w y b owned = every-without (is_owned u) (waits_as y.thread) w.waits owned
+woken-owned u w y b owned = reply-cases (λ r. Owned u (basic w r)) y b (every-without (is_owned u) (waits_as y.thread) w.waits owned) (every-without (is_owned u) (waits_as y.thread) w.waits owned) (λ _. owned)
+
+reply-messages : (w : World) (y : WaitRow) (b : Message) → (basic w (reply y b)).messages ≡ w.messages
+reply-messages w y b = reply-cases (λ r. (basic w r).messages ≡ w.messages) y b refl refl (λ _. refl)
 
 -- the messages stand while the reply is made
 received-as : (m : Group) (v v' : World) (by : ThreadRow) (port q : Birth) (e : Entry) → v'.messages ≡ v.messages → led_received m v' by port q e ≡ led_received m v by port q e
@@ -242,8 +252,8 @@ receive-led m c u d w by handle (Some bs) a p q replied k readable by_in other i
         answered (Err s) t is = absurd (cc)
         answered (Ok y) t is =
             let same : replied ≡ reply y b ∷ [] = cc in
-            rw (same, sym (received-as m (view m w) (view m (basic w (reply y b))) by p.birth q (own by o) refl))
-            (received-led m c u d w by p q a (reply y b ∷ []) (led_reply (view m w) b) o at k readable by_in other queue (led-woken m c u d w by p b y k other t) refl refl (woken-owned u w y b k.owned))
+            rw (same, sym (received-as m (view m w) (view m (basic w (reply y b))) by p.birth q (own by o) (ap (which (our_message m)) (reply-messages w y b))))
+            (received-led m c u d w by p q a (reply y b ∷ []) (led_reply (view m w) b) o at k readable by_in other queue (led-woken m c u d w by p b y k other t) (reply-messages w y b) (reply-messages w y b) (woken-owned u w y b k.owned))
 
 pub received-as-led : (m : Group) (c : ℕ) (u : World) (d : Whose) (w : World) (by : ThreadRow) (handle : ℕ) (bytes : Option (List ℕ)) (a : Option Message) (p : PortRow) (q : Birth) (replied : List Basic) (o : Option MessageRow) → first (is_queued q) w.messages ≡ o → Caller m c u w by → every is_readable w.messages ≡ true → m by.process ≡ true → (by.process == c) ≡ false → IsReceiving w by handle bytes a p q replied
     → Led m c u d w (receive_steps by p q replied o) (led_receive m (view m w) by handle bytes (own_entry (receive_steps by p q replied o)))

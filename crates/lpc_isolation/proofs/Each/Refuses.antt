@@ -2,7 +2,7 @@
 use Rattle.lpc_sid.specs.Access.{grants}
 use Rattle.lpc_tokens.specs.declared.level.TheConstants.{IMPERSONATION}
 use Rattle.lpc_tokens.specs.Tokens.{counts_as}
-use Rattle.lpc_model.specs.Ranges.{asked_test}
+use Rattle.lpc_model.specs.Ranges.{asked_test, request_test}
 use Rattle.std.proofs.Common.{◌≡◌, ℕ, List, Bool, true, false, not, Option, Some, None, refl, map}
 use Rattle.std.specs.Prelude.{◌==◌, ◌+◌, Result, Ok, Err, is_some, length, nat_lt, nat_le, ◌%◌}
 use Rattle.lpc_model.specs.Basics.{world_after}
@@ -13,7 +13,7 @@ use Rattle.lpc_message.specs.Layout.{fault_of, header_of}
 use Rattle.lpc_message.specs.declared.message.ClientId.{ClientId}
 use Rattle.lpc_model.specs.declared.entry.ObjectKind.TheVariants as kind
 use Rattle.lpc_model.specs.declared.message.Message.{Message}
-use Rattle.lpc_model.specs.Found.{datagrams, fitted, handle_at, is_connection_port, is_server_port, port_row, queue_of, route, same_kind, section_row, offer_of, views_of, acting_token, access_list}
+use Rattle.lpc_model.specs.Found.{datagrams, fitted, handle_at, is_connection_port, is_server_port, port_row, queue_of, route, same_kind, section_row, offer_of, views_of, acting_token, access_list, is_event}
 use Rattle.lpc_base.specs.declared.status.Status.{Status}
 use Rattle.lpc_base.specs.declared.status.TheConstants.{ACCESS_DENIED, INVALID_CID, INVALID_HANDLE, INVALID_PARAMETER, INVALID_PORT_HANDLE, OBJECT_TYPE_MISMATCH, PORT_DISCONNECTED, PORT_MESSAGE_TOO_LONG, QUOTA_EXCEEDED, REPLY_MESSAGE_MISMATCH, SUCCESS, MAPPED_ALIGNMENT, SECTION_PROTECTION, INVALID_VIEW_SIZE, BAD_IMPERSONATION_LEVEL}
 use Rattle.lpc_names.specs.declared.fault.NameFault.{NameFault}
@@ -211,7 +211,7 @@ refuses-reply w by handle bytes = bind (port_test w by handle) _ (port w by hand
 
 -- the request that a call on a described range names
 pub refuses-asked : (w : World) (by : ThreadRow) (handle : ℕ) (bytes : List ℕ) → Refuses (asked_test w by handle bytes)
-refuses-asked w by handle bytes = bind (port_test w by handle) _ (port w by handle) (λ p. bind (message_test bytes) _ (message bytes) (λ m. answered w p m))
+refuses-asked w by handle bytes = bind (port_test w by handle) _ (port w by handle) (λ p. bind (message_test bytes) _ (message bytes) (λ m. bind (reply_test w p m) _ (answered w p m) (λ x. bind (request_test x) _ (if_refuses (is_event x) REPLY_MESSAGE_MISMATCH refl) (λ _. tt))))
 
 pub refuses-receive : (w : World) (by : ThreadRow) (handle : ℕ) (message : Option (List ℕ)) → Refuses (served w by (reply_wait_receive_port handle message))
 unfolding nt_reply_wait_receive_port

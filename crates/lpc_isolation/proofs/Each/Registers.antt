@@ -33,5 +33,5 @@ pub register-calm : (handle : ℕ) → Calm (register_thread_terminate_port hand
 register-calm handle = record {
   refuses = λ w by. refuses-register w by handle;
   members = answers_alike refl (λ m c w by known k a mine fine right. same-register m c w by known handle a mine fine);
-  alike = λ k u by live s c. alike-register k u by handle c;
+  alike = λ k u by live s ports c. alike-register k u by handle c;
 }

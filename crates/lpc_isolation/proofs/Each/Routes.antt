@@ -1,4 +1,5 @@
 -- Where a message goes that is sent on a port, in a view.
+use Rattle.lpc_model.specs.Linked.{passes_or_none}
 use Rattle.std.proofs.Common.{◌≡◌, ℕ, Bool, true, false, cond, not, Option, Some, None, refl, ap, sym, ◌∙◌, arith}
 use Rattle.std.specs.Prelude.{◌&&◌, ◌==◌, is_none}
 use Rattle.std.proofs.lemmas.Bool.{eqb-true}
@@ -7,7 +8,7 @@ use Rattle.lpc_base.specs.declared.port_kind.PortKind.TheVariants.{Client, Conne
 use Rattle.lpc_base.proofs.RowMaps.{every-first}
 use Rattle.lpc_model.specs.World.{Birth, PortKind, PortRow, World}
 use Rattle.lpc_model.specs.Found.{context_of, if_open, is_open, is_port, is_server_port, port_row, route, way}
-use Rattle.lpc_model.specs.Circle.{Group, is_fine_client, is_fine_port}
+use Rattle.lpc_model.specs.Circle.{Group, is_fine_client, is_fine_port, is_told_inside}
 use Rattle.lpc_isolation.proofs.Views.Alone.{HasFineRows}
 use Rattle.lpc_isolation.proofs.Views.View.{seen_pair, seen_port, view}
 use Rattle.lpc_isolation.proofs.Rows.Fair.{Fair, all_of, is_fair_pair, is_fair_port, is_home}
@@ -138,6 +139,20 @@ pub routed-in : (m : Group) (c : ℕ) (w : World) (p : PortRow) (q : Birth) → 
 routed-in m c w p q r c_in mine at =
     let own : m p.birth.process ≡ true = ap m (eqb-true _ _ mine) ∙ c_in in
     rw at at (route-keeps w (inside m) p (c-way m c w p p.kind refl r own mine))
+
+-- where what is told of a member's exceptions leads to no outsider
+told-pair : (m : Group) (o : Option Birth) → passes_or_none o (λ client. m client.process) ≡ true → all_of o (inside m) ≡ true
+told-pair m None is = refl
+told-pair m (Some q) is = is
+
+told-way : (m : Group) (c : ℕ) (w : World) (p : PortRow) (k : PortKind) → p.kind ≡ k → Right m c w p → m p.birth.process ≡ true → is_told_inside m p ≡ true → all_of (way w p) (inside m) ≡ true
+told-way m c w p Unnamed k r own told = rw k own
+told-way m c w p Connection k r own told = rw k own
+told-way m c w p Client k r own told = rw k (if_open-keeps w (inside m) _ (cut-or (inside m) (is_none p.pair) p.connection (fine-in m c p.birth p.connection (rw k at r.fine) own)))
+told-way m c w p Server k r own told = let pair : passes_or_none p.pair (λ client. m client.process) ≡ true = rw k at told in rw k (if_open-keeps w (inside m) p.pair (told-pair m p.pair pair))
+
+pub routed-inside : (m : Group) (c : ℕ) (w : World) (p : PortRow) (q : Birth) → Right m c w p → m p.birth.process ≡ true → is_told_inside m p ≡ true → route w p ≡ Some q → m q.process ≡ true
+routed-inside m c w p q r own told at = rw at at (route-keeps w (inside m) p (told-way m c w p p.kind refl r own told))
 
 pub routed-out : (m : Group) (c : ℕ) (w : World) (p : PortRow) (q : Birth) → Right m c w p → m c ≡ true → m p.birth.process ≡ false → route w p ≡ Some q → (q.process == c) ≡ false
 routed-out m c w p q r c_in out at =

@@ -42,5 +42,5 @@ pub section-calm : (size prot : ℕ) → Calm (create_section size prot)
 section-calm size prot = record {
   refuses = λ w by. refuses-section w by size prot;
   members = answers_alike refl (λ m c w by known k a mine fine right. same-section m c w by size prot a.c_in mine a.fair a.fine);
-  alike = λ k u by live s c. alike-section k u by size prot c;
+  alike = λ k u by live s ports c. alike-section k u by size prot c;
 }

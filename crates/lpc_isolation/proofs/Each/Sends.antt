@@ -1,5 +1,5 @@
 -- NtRequestPort in a view, and what it shares with NtRequestWaitReplyPort.
-use Rattle.std.proofs.Common.{◌≡◌, ℕ, ◌≤◌, List, ◌++◌, Bool, true, false, cond, Option, Some, None, refl, ap, sym, subst, ◌∙◌, arith}
+use Rattle.std.proofs.Common.{◌≡◌, ℕ, ◌≤◌, List, ◌++◌, Bool, true, false, cond, Option, Some, None, refl, ap, sym, subst, ◌∙◌, arith, []}
 use Rattle.std.specs.Prelude.{◌&&◌, ◌==◌, Ok}
 use Rattle.std.proofs.lemmas.Bool.{and_from, eqb-true}
 use Rattle.lpc_base.specs.Rows.{count, which}
@@ -20,11 +20,11 @@ use Rattle.lpc_model.specs.Tests.{port_test}
 use Rattle.lpc_model.specs.SoundWaits.{IsSoundWorld, HasShutConnects}
 use Rattle.lpc_model.proofs.Calls.Holding.{Holds, bind_holds, found_ok, holds-more, holds_ok}
 use Rattle.lpc_model.specs.Circle.{Group, Whose, owner}
-use Rattle.lpc_isolation.proofs.Views.Alone.{HasFineRows}
+use Rattle.lpc_isolation.proofs.Views.Alone.{HasFineRows, HasFineRaisers}
 use Rattle.lpc_isolation.proofs.Views.Filters.{which-where}
 use Rattle.lpc_isolation.proofs.Views.View.{our_message, seen_pair, seen_port, view}
 use Rattle.lpc_isolation.proofs.Views.Basics.{are_ours, run-ours}
-use Rattle.lpc_isolation.proofs.Rows.Fair.{Fair, are_fair, implies, is_fair_message, is_sent, keeps-fair, owner-sent}
+use Rattle.lpc_isolation.proofs.Rows.Fair.{Fair, are_fair, implies, is_fair_message, is_sent, keeps-fair, owner-sent, together-of}
 use Rattle.lpc_isolation.proofs.Views.Seen.{bind-same, c-port, port-own, port_test-view}
 use Rattle.lpc_isolation.proofs.Each.Enter.{Patient, enter-fair, enter-ours, enter-view}
 use Rattle.lpc_isolation.proofs.Views.Apart.{Owned, are_apart, enter-apart, enter-gone, unseen-at, unseen-wait}
@@ -55,6 +55,8 @@ pub record Caller (m : Group) (c : ℕ) (u w : World) (by : ThreadRow) : Type 0 
   pub bound : OnceBound w.bindings
   pub paths : Paths w
   pub asked : Asked w
+  pub unmarked : w.marks ≡ []
+  pub raisers : HasFineRaisers m w
 
 -- what a port that a handle names is
 pub record Named (m : Group) (c : ℕ) (w : World) (by : ThreadRow) (p : PortRow) : Type 0 where
@@ -96,7 +98,7 @@ found-datagram m c u w by handle bytes s k at = holds_ok (IsSendable m c w by ha
 -- the message's row is fair
 pub row-fair : (m : Group) (c : ℕ) (w : World) (by : ThreadRow) (p : PortRow) (q : Birth) (kind : ℕ) (a : Message) → m c ≡ true → owner w by.number ≡ Some by.process → Named m c w by p → route w p ≡ Some q → (is_fair_message m c (row_of q p (sent_by by kind a)) && is_sent w.used_threads (row_of q p (sent_by by kind a))) ≡ true
 row-fair m c w by p q kind a c_in own n to =
-    and_from _ _ (and_from _ _ (rw n.process (same-number by.process)) (and_from _ _ (at (m p.birth.process) refl) (mine (p.birth.process == c) refl))) (owner-sent w (row_of q p (sent_by by kind a)) by.process own refl)
+    and_from _ _ (and_from _ _ (together-of m by.process p.birth.process (sym (ap m n.process))) (and_from _ _ (at (m p.birth.process) refl) (mine (p.birth.process == c) refl))) (owner-sent w (row_of q p (sent_by by kind a)) by.process own refl)
   where
     at : (b : Bool) → m p.birth.process ≡ b → implies (q.process == c) b ≡ true
     at true is = grind arith

@@ -19,7 +19,7 @@ use Rattle.lpc_model.specs.Circle.{Group, Whose}
 use Rattle.lpc_isolation.proofs.Views.Filters.{first-where}
 use Rattle.lpc_isolation.proofs.Views.View.{our_message, view}
 use Rattle.lpc_isolation.proofs.Views.Basics.{are_ours, basic-unseen, sees_at}
-use Rattle.lpc_isolation.proofs.Rows.Fair.{Fair, are_fair, is_fair_message, is_sent, sent-owner}
+use Rattle.lpc_isolation.proofs.Rows.Fair.{Fair, are_fair, is_fair_message, is_sent, sent-owner, together}
 use Rattle.lpc_isolation.proofs.Views.Apart.{Owned, are_apart, unseen-at, unseen-queue, unseen-wait}
 
 -- the message is what is taken of a queue: the first that passes a test
@@ -70,8 +70,8 @@ sender-out m x out = rw out refl
 
 unseen-sender : (m : Group) (c : ℕ) (u w : World) (x : MessageRow) → Owned u w → is_sent u.used_threads x ≡ true → is_fair_message m c x ≡ true → m x.sender.process ≡ false → sees_at m w x.message.header.client.thread x.queue ≡ false
 unseen-sender m c u w x owned sent fair out =
-    let process : x.message.header.client.process ≡ x.sender.process = eqb-true _ _ (first-true _ _ fair) in
-    unseen-at m w x.message.header.client.thread x.queue (unseen-wait m u w x.message.header.client.thread x.message.header.client.process owned (sent-owner u x sent) (ap m process ∙ out))
+    let process : m x.message.header.client.process ≡ m x.sender.process = together m _ _ (first-true _ _ fair) in
+    unseen-at m w x.message.header.client.thread x.queue (unseen-wait m u w x.message.header.client.thread x.message.header.client.process owned (sent-owner u x sent) (process ∙ out))
 
 when-gone : (m : Group) (w : World) (asked : Bool) (who : ℕ) (q : Birth) → sees_at m w who q ≡ false → view m (world_after w (when asked (Receives who q ∷ []))) ≡ view m w
 when-gone m w true who q out = basic-unseen m w (Receives who q) out refl

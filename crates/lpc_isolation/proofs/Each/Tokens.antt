@@ -36,7 +36,7 @@ use Rattle.lpc_isolation.proofs.Each.Refuses.{Refuses, bind, found, handles, if_
 use Rattle.lpc_isolation.proofs.Gone.Served.{served}
 use Rattle.lpc_isolation.proofs.Gone.Thin.{Alive, Closed, handle_closed, thin, token-live-as, token_alive, wait_closed, client-thin, live-thin}
 use Rattle.lpc_isolation.proofs.Gone.ThinCalls.{rows-closed, token-thin, port-thin, row-thin}
-use Rattle.lpc_isolation.proofs.Rows.Fair.{Fair, is_fair_wait}
+use Rattle.lpc_isolation.proofs.Rows.Fair.{Fair, is_fair_wait, port-side}
 use Rattle.lpc_isolation.proofs.Views.Callers.{handles_test-view}
 use Rattle.lpc_isolation.proofs.Views.Filters.{first-inside, first-where}
 use Rattle.lpc_isolation.proofs.Views.Seen.{bind-same, free-view, object-own, object-view, token-view, port-own, port-view}
@@ -55,7 +55,7 @@ pub revert-calm : (class : ℕ) → Calm (set_information_thread class)
 revert-calm class = record {
   refuses = λ w by. refuses-revert w by class;
   members = answers_alike refl (λ m c w by known k a mine fine right. alike-revert w (view m w) by class);
-  alike = λ k u by live s c. alike-revert u (thin k u) by class;
+  alike = λ k u by live s ports c. alike-revert u (thin k u) by class;
 }
 
 -- NtOpenThreadToken and NtOpenProcessToken
@@ -93,14 +93,14 @@ pub own-calm : Calm open_thread_token
 own-calm = record {
   refuses = λ w by. refuses-own w by;
   members = answers_alike refl (λ m c w by known k a mine fine right. same-own m c w by a.c_in mine a.fair);
-  alike = λ k u by live s c. alike-own k u by;
+  alike = λ k u by live s ports c. alike-own k u by;
 }
 
 pub primary-calm : Calm open_process_token
 primary-calm = record {
   refuses = λ w by. refuses-primary w by;
   members = answers_alike refl (λ m c w by known k a mine fine right. same-primary m c w by a.c_in mine a.fair);
-  alike = λ k u by live s c. alike-primary k u by live c;
+  alike = λ k u by live s ports c. alike-primary k u by live c;
 }
 
 -- NtQueryInformationToken
@@ -154,7 +154,7 @@ pub ask-calm : (handle class : ℕ) → Calm (query_information_token handle cla
 ask-calm handle class = record {
   refuses = λ w by. refuses-ask w by handle class;
   members = answers_alike refl (λ m c w by known k a mine fine right. same-ask m c w by handle class a.fair (ap m mine ∙ a.c_in));
-  alike = λ k u by live s c. alike-ask k u by handle class c;
+  alike = λ k u by live s ports c. alike-ask k u by handle class c;
 }
 
 -- NtImpersonateClientOfPort
@@ -274,11 +274,11 @@ same-impersonate m c w by known handle bytes a mine fine =
     let fair = every-first (is_fair_wait m c) (is_served_by p b) w.waits x a.fair.waits found in
     let process : m x.process ≡ true = ap m (eqb-true _ _ (named-process x b its)) ∙ client_in in
     ap (λ o. found_or o REPLY_MESSAGE_MISMATCH >>= (λ own. Ok (impersonate_steps by own)))
-    (same-impersonate-at m c w by p b x a.fair named client (eqb-true _ _ (named-thread x b its)) (ap m (eqb-true _ _ (first-true _ _ fair)) ∙ process) client_in))))))))
+    (same-impersonate-at m c w by p b x a.fair named client (eqb-true _ _ (named-thread x b its)) (port-side m x (first-true _ _ fair) ∙ process) client_in))))))))
 
 pub impersonate-calm : (handle : ℕ) (bytes : List ℕ) → Calm (impersonate_client_of_port handle bytes)
 impersonate-calm handle bytes = record {
   refuses = λ w by. refuses-impersonate w by handle bytes;
   members = answers_alike refl (λ m c w by known k a mine fine right. same-impersonate m c w by known handle bytes a mine fine);
-  alike = λ k u by live s c. alike-impersonate k u by handle bytes c;
+  alike = λ k u by live s ports c. alike-impersonate k u by handle bytes c;
 }

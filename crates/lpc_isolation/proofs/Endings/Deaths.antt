@@ -2,15 +2,15 @@
 use Rattle.std.proofs.Common.{◌≡◌, ℕ, List, [], ◌∷◌, ◌++◌, Bool, true, false, cond, not, Option, Some, None, refl, ap, sym, subst, ◌∙◌, arith}
 use Rattle.std.specs.Prelude.{◌&&◌, ◌||◌, ◌==◌, option_and_then, option_map, is_some}
 use Rattle.std.proofs.lemmas.Bool.{and_from, eqb-true}
-use Rattle.lpc_base.specs.Rows.{every, first, given, when}
-use Rattle.lpc_base.proofs.RowWords.{first-passes}
+use Rattle.lpc_base.specs.Rows.{every, first, given, when, without}
+use Rattle.lpc_base.proofs.RowWords.{first-passes, every-without}
 use Rattle.lpc_base.proofs.RowMaps.{every-first}
 use Rattle.lpc_base.proofs.Bools.{first-true, same-number}
 use Rattle.lpc_base.specs.declared.status.Status.{Status}
 use Rattle.lpc_base.specs.declared.status.TheConstants.{SUCCESS}
-use Rattle.lpc_model.specs.World.{Birth, MessageRow, PortRow, ThreadRow, WaitRow, World}
-use Rattle.lpc_model.specs.Found.{is_accepted, port_row, route, wait_of, waits_as, is_connect}
-use Rattle.lpc_model.specs.Basics.{Basic, Dies, Enters, Steps, Unregisters, Withdraws, basic, doing, entries_of, world_after, ◌▹◌, Wakes, Empties, Unbinds, DropsOwned, provided}
+use Rattle.lpc_model.specs.World.{Birth, MessageRow, PortRow, ThreadRow, WaitRow, World, Accepted, Connect, WaitKind}
+use Rattle.lpc_model.specs.Found.{is_accepted, port_row, route, wait_of, waits_as, is_connect, is_event, is_mark, is_own_of}
+use Rattle.lpc_model.specs.Basics.{Basic, Dies, Enters, Steps, Unregisters, Withdraws, basic, doing, entries_of, world_after, ◌▹◌, Wakes, Empties, Unbinds, DropsOwned, provided, Marks}
 use Rattle.lpc_model.specs.Close.{cut_pair}
 use Rattle.lpc_model.specs.Death.{end_client, die, died_message, post_death, death_post}
 use Rattle.lpc_model.specs.Entering.{enter, row_of, takes, given_steps, woken, shown}
@@ -22,7 +22,7 @@ use Rattle.lpc_model.proofs.Steps.InTurn.{after-append}
 use Rattle.lpc_model.proofs.Calls.Usable.{port-birth}
 use Rattle.lpc_isolation.proofs.Views.View.{our_wait, seen_pair, seen_port, view}
 use Rattle.lpc_isolation.proofs.Views.Basics.{sees_wait, sees_own}
-use Rattle.lpc_isolation.proofs.Rows.Fair.{are_fair, implies, is_fair_message, is_fair_wait, is_sent, owner-sent}
+use Rattle.lpc_isolation.proofs.Rows.Fair.{are_fair, implies, is_fair_message, is_fair_wait, is_sent, owner-sent, port-home, together-of}
 use Rattle.lpc_isolation.proofs.Views.Seen.{port-view}
 use Rattle.lpc_isolation.proofs.Views.Filters.{first-kept, first-none_kept}
 use Rattle.lpc_isolation.proofs.Each.Enter.{enter-fair, enter-ours, enter-view}
@@ -32,7 +32,7 @@ use Rattle.lpc_isolation.proofs.Each.Routes.{Right, context-view, right-row, rou
 use Rattle.lpc_isolation.proofs.Plays.Play.{told_inputs}
 use Rattle.lpc_isolation.proofs.Rows.Ways.{route-home}
 use Rattle.lpc_isolation.proofs.Rows.Sent.{are_sent, is_sent_home, none-sent, sends_none}
-use Rattle.lpc_isolation.proofs.Rows.Asked.{Asked, enter-asked, run-asked, basic-asked}
+use Rattle.lpc_isolation.proofs.Rows.Asked.{Asked, enter-asked, run-asked, basic-asked, is_quiet}
 use Rattle.lpc_isolation.proofs.Rows.Ids.{Numbered, of_number}
 use Rattle.lpc_isolation.proofs.Memory.Heard.{Heard, Reads, entries_memo, reads-of}
 use Rattle.lpc_isolation.proofs.Gone.Thin.{Alive, Closed, wait_closed}
@@ -41,6 +41,7 @@ use Rattle.lpc_isolation.proofs.Closings.Mild.{AreMild, Sure, sure-losses, is_mi
 use Rattle.lpc_isolation.proofs.Closings.Lone.{own-seen, is_lone, lone-all}
 use Rattle.lpc_isolation.proofs.Closings.Ends.{drawn-asked}
 use Rattle.lpc_isolation.proofs.Closings.Stages.{kept}
+use Rattle.lpc_isolation.proofs.Closings.Shown.{are_shown, enter-shown}
 use Rattle.lpc_isolation.proofs.Closings.Posts.{entered-none, mild-entered, mute-entered}
 use Rattle.lpc_isolation.proofs.Closings.Ports.{cut-off}
 use Rattle.lpc_isolation.proofs.Endings.Parts.{Part, Remains, Steady, good-part, none-part, none-remains, provided-part, steady-after, then-part, then-remains, provided-remains}
@@ -53,7 +54,7 @@ goes n code = doing (Dies n code ∷ Withdraws n ∷ [])
 -- the port of a wait is of the process
 abbrev is_made_in : ℕ → Option WaitRow → Bool
 is_made_in pid None = true
-is_made_in pid (Some x) = x.port.process == pid
+is_made_in pid (Some x) = is_event x || (x.port.process == pid)
 
 -- and it stands
 abbrev is_live_port : Alive → Option WaitRow → Bool
@@ -64,6 +65,7 @@ is_live_port k (Some x) = k.ports x.port
 away-mild : (x : Basic) → takes_away x ≡ true → is_mild x ≡ true
 away-mild (Wakes who call status fields) is = refl
 away-mild (Withdraws who) is = refl
+away-mild (Marks who) is = refl
 away-mild (Empties q) is = refl
 away-mild (Unbinds b) is = refl
 away-mild (DropsOwned b) is = refl
@@ -72,6 +74,7 @@ away-mild x is = absurd (cc)
 away-none : (x : Basic) → takes_away x ≡ true → sends_none x ≡ true
 away-none (Wakes who call status fields) is = refl
 away-none (Withdraws who) is = refl
+away-none (Marks who) is = refl
 away-none (Empties q) is = refl
 away-none (Unbinds b) is = refl
 away-none (DropsOwned b) is = refl
@@ -83,10 +86,20 @@ die-mild code t w = die-pass is_mild away-mild (λ k status. refl) (λ b. refl) 
 pub die-sent : (code : Status) (t : ThreadRow) (w : World) → are_sent w (die code t w) ≡ true
 die-sent code t w = none-sent w (die code t w) (die-pass sends_none away-none (λ k status. refl) (λ b. refl) code t w)
 
+-- an event is no connect
+event-accepted : (x : WaitRow) (k : WaitKind) → x.kind ≡ k → is_event x ≡ true → is_accepted x ≡ false
+event-accepted x (Accepted a r) k is = let off : false ≡ true = rw k at is in absurd (cc)
+event-accepted x b k is = rw k refl
+
+event-connect : (x : WaitRow) (k : WaitKind) → x.kind ≡ k → is_event x ≡ true → is_connect x ≡ false
+event-connect x (Accepted a r) k is = let off : false ≡ true = rw k at is in absurd (cc)
+event-connect x (Connect a offer) k is = let off : false ≡ true = rw k at is in absurd (cc)
+event-connect x b k is = rw k refl
+
 -- what is known of the owner of its number
 module _ (m : Group) (c : ℕ) (u : World) (pid : ℕ) (c_in : m c ≡ true) (n : ℕ) (code : Status) (own : owner u n ≡ Some pid) where
   goes-asked : (w : World) → Asked w → Asked (world_after w (goes n code w))
-  goes-asked w a = let b = drawn-asked w n a in record { sorts = b.sorts; own = b.own; one = b.one }
+  goes-asked w a = let b = drawn-asked w n a in record { sorts = b.sorts; own = b.own; one = b.one; marked = every-without (is_quiet (without (is_own_of n) w.messages)) (is_mark n) w.marks b.marked }
 
   goes-apart : (d : Whose) (w : World) → Sure m c u w → m pid ≡ false → are_apart m c u d w (goes n code w) ≡ true
   goes-apart d w s out =
@@ -107,6 +120,7 @@ module _ (m : Group) (c : ℕ) (u : World) (pid : ℕ) (c_in : m c ≡ true) (n 
     asked = λ w s. goes-asked w s.asked;
     apart = goes-apart;
     mute = λ d w memo s k out. goes-mute d w memo out;
+    shown = λ w s k e is. refl;
     led = λ d w s inside. led-same m c u d w (goes n code w) refl;
   }
 
@@ -123,22 +137,32 @@ module _ (m : Group) (c : ℕ) (u : World) (pid : ℕ) (c_in : m c ≡ true) (n 
     asked = λ w s. basic-asked w (DropsOwned b) refl s.asked;
     apart = λ d w s out. rw (unseen-owned m c w b s.fair (ap m home ∙ out)) refl;
     mute = λ d w memo s k out. refl;
+    shown = λ w s k e is. refl;
     led = λ d w s inside. led-same m c u d w (DropsOwned b ∷ []) refl;
   }
 
   -- and then the client port of its connect is cut, where that was accepted, and its views go
   cut-part : (o : Option WaitRow) → is_made_in pid o ≡ true → Part m c u pid (Sure m c u) (end_client o)
   cut-part None is = none-part m c u pid c_in (Sure m c u) (λ w s. s)
-  cut-part (Some x) is =
-      let home : x.port.process ≡ pid = eqb-true _ _ is in
-      then-part m c u pid c_in (Sure m c u) (Sure m c u) (provided (λ w. is_accepted x) (cut_pair x.port)) (provided (λ w. is_connect x) (doing (DropsOwned x.port ∷ [])))
-      (provided-part m c u pid c_in (Sure m c u) (λ w. is_accepted x) (cut_pair x.port) (λ w s. s) (λ w s inside. refl) (good-part m c u pid c_in x.port (cut_pair x.port) home (cut-off m c x.port).good))
-      (λ w s. sure-cut w s (is_accepted x))
-      (provided-part m c u pid c_in (Sure m c u) (λ w. is_connect x) (doing (DropsOwned x.port ∷ [])) (λ w s. s) (λ w s inside. refl) (own-part x.port home))
+  cut-part (Some x) is = by-kind (is_event x) refl
     where
-      sure-cut : (w : World) → Sure m c u w → (e : Bool) → Sure m c u (world_after w (when e (cut_pair x.port w)))
-      sure-cut w s true = kept m c x.port (cut_pair x.port) (cut-off m c x.port) u w s
-      sure-cut w s false = s
+      by-kind : (e : Bool) → is_event x ≡ e → Part m c u pid (Sure m c u) (end_client (Some x))
+      by-kind true on =
+          let accepted : is_accepted x ≡ false = event-accepted x x.kind refl on in
+          let connect : is_connect x ≡ false = event-connect x x.kind refl on in
+          subst (λ (f : Steps). Part m c u pid (Sure m c u) f) (sym (ap (λ e. provided (λ w. e) (cut_pair x.port) ▹ provided (λ w. is_connect x) (doing (DropsOwned x.port ∷ []))) accepted ∙ ap (λ e. provided (λ w. false) (cut_pair x.port) ▹ provided (λ w. e) (doing (DropsOwned x.port ∷ []))) connect))
+          (none-part m c u pid c_in (Sure m c u) (λ w s. s))
+      by-kind false off =
+          let it : (false || (x.port.process == pid)) ≡ true = rw off at is in
+          let home : x.port.process ≡ pid = eqb-true _ _ it in
+          then-part m c u pid c_in (Sure m c u) (Sure m c u) (provided (λ w. is_accepted x) (cut_pair x.port)) (provided (λ w. is_connect x) (doing (DropsOwned x.port ∷ [])))
+          (provided-part m c u pid c_in (Sure m c u) (λ w. is_accepted x) (cut_pair x.port) (λ w s. s) (λ w s inside. refl) (good-part m c u pid c_in x.port (cut_pair x.port) home (cut-off m c x.port).good))
+          (λ w s. sure-cut w s (is_accepted x))
+          (provided-part m c u pid c_in (Sure m c u) (λ w. is_connect x) (doing (DropsOwned x.port ∷ [])) (λ w s. s) (λ w s inside. refl) (own-part x.port home))
+        where
+          sure-cut : (w : World) → Sure m c u w → (e : Bool) → Sure m c u (world_after w (when e (cut_pair x.port w)))
+          sure-cut w s true = kept m c x.port (cut_pair x.port) (cut-off m c x.port) u w s
+          sure-cut w s false = s
 
   ending-part : (o : Option WaitRow) → is_made_in pid o ≡ true → Part m c u pid (Sure m c u) (goes n code ▹ end_client o)
   ending-part o is = then-part m c u pid c_in (Sure m c u) (Sure m c u) (goes n code) (end_client o) goes-part goes-sure (cut-part o is)
@@ -160,7 +184,11 @@ module _ (m : Group) (c : ℕ) (u : World) (pid : ℕ) (c_in : m c ≡ true) (co
     where
       at : (o : Option WaitRow) → wait_of w n ≡ o → is_made_in pid o ≡ true
       at None none = refl
-      at (Some x) some = let k = found-known w x s some in subst (λ p. (x.port.process == p) ≡ true) k.1 (first-true (x.port.process == x.process) _ k.0)
+      at (Some x) some = let k = found-known w x s some in by-kind x (is_event x) refl k.0 k.1
+        where
+          by-kind : (x : WaitRow) (e : Bool) → is_event x ≡ e → is_fair_wait m c x ≡ true → x.process ≡ pid → (is_event x || (x.port.process == pid)) ≡ true
+          by-kind x true on fair its = rw on refl
+          by-kind x false off fair its = rw (off, port-home m x off (first-true _ _ fair), its) (same-number pid)
 
   -- what a member's wait leaves to cut is seen in the view
   cut-seen : (w : World) → Sure m c u w → m pid ≡ true → (v : World) → end_client (wait_of (view m w) n) v ≡ end_client (wait_of w n) v
@@ -213,6 +241,7 @@ module _ (m : Group) (c : ℕ) (u : World) (pid : ℕ) (c_in : m c ≡ true) (co
     asked = λ w k. let p = die-at w k in p.asked w k.sure;
     apart = λ d w k out. let p = die-at w k in p.apart d w k.sure out;
     mute = λ d w memo k s out. let p = die-at w k in p.mute d w memo k.sure s out;
+    shown = λ w k s e is. let p = die-at w k in p.shown w k.sure s e is;
     led = λ d w k inside. let p = die-at w k in subst (Led m c u d w (die code t w)) (sym (die-view w k inside)) (p.led d w k.sure inside);
   }
 
@@ -277,7 +306,7 @@ module _ (m : Group) (c : ℕ) (u : World) (pid : ℕ) (c_in : m c ≡ true) (t 
         process = born;
         right = right;
         to = to;
-        fair = and_from _ _ (rw (process, born) (same-number pid)) (and_from _ _ (at right (m p.birth.process) refl) (mine right (p.birth.process == c) refl));
+        fair = and_from _ _ (rw (process, born) (together-of m pid pid refl)) (and_from _ _ (at right (m p.birth.process) refl) (mine right (p.birth.process == c) refl));
         sent = owner-sent w (died_row t p q) pid (rw (sym s.used) own) process;
       }
     where
@@ -299,6 +328,13 @@ module _ (m : Group) (c : ℕ) (u : World) (pid : ℕ) (c_in : m c ≡ true) (t 
       let y : MessageRow = died_row t p q in
       let r : Reads y = reads-of w.used_threads y (subst (λ us. every of_number us ≡ true) s.used k) is.sent refl in
       mute-entered m c u d w memo y s r refl (routed-out m c w p q is.right c_in (ap m is.process ∙ out) is.to) (first (takes y) w.waits) refl
+
+  -- it shows a message of the thread's side
+  tells-shown : (w : World) (p : PortRow) (q : Birth) → Sure m c u w → Numbered u → Told m c u w pid t p q → (e : Bool) → m pid ≡ e → are_shown false m e w (enter (died_row t p q) w) ≡ true
+  tells-shown w p q s k is e side =
+      let y : MessageRow = died_row t p q in
+      let r : Reads y = reads-of w.used_threads y (subst (λ us. every of_number us ≡ true) s.used k) is.sent refl in
+      enter-shown false m e w y refl s.once r refl (ap m process ∙ side)
 
   -- a member's message to a member, in the view as in the world
   tells-view : (w : World) (p : PortRow) (q : Birth) → Sure m c u w → Told m c u w pid t p q → m pid ≡ true → m q.process ≡ true → enter (died_row t (seen_port m p) q) (view m w) ≡ enter (died_row t p q) w
@@ -342,6 +378,7 @@ module _ (m : Group) (c : ℕ) (u : World) (pid : ℕ) (c_in : m c ≡ true) (t 
     asked = λ w k. let s = k.sure in on-told (λ bs. Asked (world_after w bs)) t b w s.asked (λ p q row to. run-asked w (enter (died_row t p q) w) (enter-asked w (died_row t p q) s.asked s.patient s.once refl) s.asked);
     apart = λ d w k out. on-told (λ bs. are_apart m c u d w bs ≡ true) t b w refl (λ p q row to. tells-apart d w p q k.sure (told-row w p q k.sure row to) out);
     mute = λ d w memo k n out. on-told (λ bs. entries_memo m (view m w) memo (told_inputs m c u d (entries_of bs)) ≡ memo) t b w refl (λ p q row to. tells-mute d w memo p q k.sure n (told-row w p q k.sure row to) out);
+    shown = λ w k n e is. on-told (λ bs. are_shown false m e w bs ≡ true) t b w refl (λ p q row to. tells-shown w p q k.sure n (told-row w p q k.sure row to) e is);
     led = λ d w k inside. tells-led d w k.sure inside;
   }
 
@@ -356,6 +393,7 @@ module _ (m : Group) (c : ℕ) (u : World) (pid : ℕ) (c_in : m c ≡ true) (t 
     asked = λ w k. let s = k.sure in basic-asked w (Unregisters t.number b) refl s.asked;
     apart = λ d w k out. let s = k.sure in rw (unseen-thread m c w t.number pid s.fair (rw (sym s.used) own) out) refl;
     mute = λ d w memo k n out. refl;
+    shown = λ w k n e is. refl;
     led = λ d w k inside. led-same m c u d w (leaves t.number b w) refl;
   }
 

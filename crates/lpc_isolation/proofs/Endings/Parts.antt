@@ -27,6 +27,7 @@ use Rattle.lpc_isolation.proofs.Memory.Heard.{Heard, entries_memo}
 use Rattle.lpc_isolation.proofs.Gone.Fine.{makes_fine, run-fine}
 use Rattle.lpc_isolation.proofs.Closings.Mild.{AreMild, Sure, is_mild, mild-fine, mild-orderly, mild-paths}
 use Rattle.lpc_isolation.proofs.Closings.Stages.{Good, mute-append}
+use Rattle.lpc_isolation.proofs.Closings.Shown.{are_shown, shown-append}
 use Rattle.lpc_isolation.proofs.Gone.Thin.{Alive, thin, Closed, thin-run, closed-run}
 use Rattle.lpc_isolation.proofs.Gone.ThinCalls.{AreClosed}
 
@@ -39,6 +40,8 @@ pub record Part (m : Group) (c : ℕ) (u : World) (pid : ℕ) (K : World → Typ
   -- of an outsider: the view loses only waits whose wakes are told, and no entry shows a member a connect
   pub apart : (d : Whose) (w : World) → K w → m pid ≡ false → are_apart m c u d w (f w) ≡ true
   pub mute : (d : Whose) (w : World) (memo : List Heard) → K w → Numbered u → m pid ≡ false → entries_memo m (view m w) memo (told_inputs m c u d (entries_of (f w))) ≡ memo
+  -- and members are shown outsiders' messages alone; by a member's none of those
+  pub shown : (w : World) → K w → Numbered u → (e : Bool) → m pid ≡ e → are_shown false m e w (f w) ≡ true
   -- of a member: the view changes as by the part in the view
   pub led : (d : Whose) (w : World) → K w → m pid ≡ true → Led m c u d w (f w) (f (view m w))
 
@@ -52,6 +55,7 @@ module _ (m : Group) (c : ℕ) (u : World) (pid : ℕ) (c_in : m c ≡ true) whe
     asked = λ w s. g.asked u w s;
     apart = λ d w s out. g.apart u d w s (ap m own ∙ out);
     mute = λ d w memo s n out. g.mute u d w memo s n (ap m own ∙ out);
+    shown = λ w s n e is. g.shown u w s n e (ap m own ∙ is);
     led = λ d w s inside. g.led u d w s (ap m own ∙ inside);
   }
 
@@ -64,6 +68,7 @@ module _ (m : Group) (c : ℕ) (u : World) (pid : ℕ) (c_in : m c ≡ true) whe
     asked = λ w l. p.asked w (knows w l);
     apart = λ d w l out. p.apart d w (knows w l) out;
     mute = λ d w memo l n out. p.mute d w memo (knows w l) n out;
+    shown = λ w l n e is. p.shown w (knows w l) n e is;
     led = λ d w l inside. p.led d w (knows w l) inside;
   }
 
@@ -76,6 +81,7 @@ module _ (m : Group) (c : ℕ) (u : World) (pid : ℕ) (c_in : m c ≡ true) whe
     asked = λ w k. let s = sure w k in s.asked;
     apart = λ d w k out. refl;
     mute = λ d w memo k n out. refl;
+    shown = λ w k n e is. refl;
     led = λ d w k inside. led-same m c u d w [] refl;
   }
 
@@ -88,6 +94,7 @@ module _ (m : Group) (c : ℕ) (u : World) (pid : ℕ) (c_in : m c ≡ true) whe
     asked = λ w k. subst Asked (sym (after-append w (f w) (g (world_after w (f w))))) (q.asked (world_after w (f w)) (next w k));
     apart = λ d w k out. apart-append m c u d w (f w) (g (world_after w (f w))) (p.apart d w k out) (q.apart d (world_after w (f w)) (next w k) out);
     mute = λ d w memo k n out. mute-append m c u d w memo (f w) (g (world_after w (f w))) c_in (p.apart d w k out) (p.mute d w memo k n out) (q.mute d (world_after w (f w)) memo (next w k) n out);
+    shown = λ w k n e is. shown-append false m e w (f w) (g (world_after w (f w))) (p.shown w k n e is) (q.shown (world_after w (f w)) (next w k) n e is);
     led = λ d w k inside.
         let one : Led m c u d w (f w) (f (view m w)) = p.led d w k inside in
         led-append m c u d w (f w) (f (view m w)) (g (world_after w (f w))) (g (world_after (view m w) (f (view m w)))) one
@@ -103,6 +110,7 @@ module _ (m : Group) (c : ℕ) (u : World) (pid : ℕ) (c_in : m c ≡ true) whe
     asked = λ w k. let s = sure w k in by (λ bs. Asked (world_after w bs)) (f w) (test w) s.asked (p.asked w k);
     apart = λ d w k out. by (λ bs. are_apart m c u d w bs ≡ true) (f w) (test w) refl (p.apart d w k out);
     mute = λ d w memo k n out. by (λ bs. entries_memo m (view m w) memo (told_inputs m c u d (entries_of bs)) ≡ memo) (f w) (test w) refl (p.mute d w memo k n out);
+    shown = λ w k n e is. by (λ bs. are_shown false m e w bs ≡ true) (f w) (test w) refl (p.shown w k n e is);
     led = λ d w k inside. subst (λ e. Led m c u d w (when (test w) (f w)) (when e (f (view m w)))) (sym (seen w k inside)) (both-led d w (test w) (p.led d w k inside));
   }
     where

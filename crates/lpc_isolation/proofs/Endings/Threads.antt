@@ -9,13 +9,13 @@ use Rattle.lpc_base.proofs.Bools.{first-true, second-true}
 use Rattle.lpc_base.specs.declared.status.Status.{Status}
 use Rattle.lpc_model.specs.World.{Birth, HandleRow, ThreadRow, World, HandleTable}
 use Rattle.lpc_model.specs.Found.{handles_of, is_live, is_table, live_threads, lives_in, rows_in}
-use Rattle.lpc_model.specs.Basics.{DropsViewsOf, Steps, doing, in_turn, provided, world_after, ◌▹◌}
+use Rattle.lpc_model.specs.Basics.{DropsViewsOf, Steps, doing, in_turn, provided, world_after, ◌▹◌, LetsGo, basic}
 use Rattle.lpc_model.specs.Close.{close_handle}
-use Rattle.lpc_model.specs.Death.{die, end_process, end_threads, post_death, post_deaths}
+use Rattle.lpc_model.specs.Death.{die, end_process, end_threads, post_death, post_deaths, close_handles}
 use Rattle.lpc_model.specs.Circle.{Group, owner}
 use Rattle.lpc_model.proofs.Steps.Closing.{then-holds}
 use Rattle.lpc_model.proofs.Steps.Ending.{first-at, rows-left, turn-pass}
-use Rattle.lpc_model.proofs.Sound.Terminate.{handle-safe}
+use Rattle.lpc_model.proofs.Sound.Terminate.{handle-safe, lets-safe}
 use Rattle.lpc_isolation.proofs.Views.View.{our_thread, view}
 use Rattle.lpc_isolation.proofs.Rows.Fair.{is_fair_table, is_fair_thread, is_own}
 use Rattle.lpc_isolation.proofs.Views.Filters.{count-inside, first-inside}
@@ -56,10 +56,10 @@ turn-sent f sent [] w = refl
 turn-sent f sent (x ∷ xs) w = let v : World = world_after w (f x w) in append-sent w (f x w) (in_turn f xs v) (sent x w) (turn-sent f sent xs v)
 
 process-mild : (pid : ℕ) (w : World) → AreMild (end_process pid w)
-process-mild pid w = every-append is_mild (in_turn (close_handle pid) (handles_of w pid) w) (DropsViewsOf pid ∷ []) (turn-pass is_mild (close_handle pid) (λ r v. handle-mild v pid r) (handles_of w pid) w) refl
+process-mild pid w = let v : World = basic w (LetsGo pid) in every-append is_mild (in_turn (close_handle pid) (handles_of v pid) v) (DropsViewsOf pid ∷ []) (turn-pass is_mild (close_handle pid) (λ r v. handle-mild v pid r) (handles_of v pid) v) refl
 
 process-sent : (pid : ℕ) (w : World) → are_sent w (end_process pid w) ≡ true
-process-sent pid w = append-sent w (in_turn (close_handle pid) (handles_of w pid) w) (DropsViewsOf pid ∷ []) (turn-sent (close_handle pid) (λ r v. handle-sent v pid r) (handles_of w pid) w) refl
+process-sent pid w = let v : World = basic w (LetsGo pid) in append-sent v (in_turn (close_handle pid) (handles_of v pid) v) (DropsViewsOf pid ∷ []) (turn-sent (close_handle pid) (λ r v. handle-sent v pid r) (handles_of v pid) v) refl
 
 pub ends-mild : (pid : ℕ) (code : Status) (ts : List ThreadRow) (w : World) → AreMild (end_threads pid code ts w)
 unfolding end_threads
@@ -156,9 +156,10 @@ module _ (m : Group) (c : ℕ) (u : World) (pid : ℕ) (c_in : m c ≡ true) whe
     mild = λ w. refl;
     sent = λ w. refl;
     fair = λ w k. refl;
-    asked = λ w k. let s = k.sure in let a = s.asked in record { sorts = a.sorts; own = a.own; one = a.one };
+    asked = λ w k. let s = k.sure in let a = s.asked in record { sorts = a.sorts; own = a.own; one = a.one; marked = a.marked };
     apart = λ d w k out. rw out refl;
     mute = λ d w memo k n out. refl;
+    shown = λ w k n e is. refl;
     led = λ d w k inside. led-same m c u d w (DropsViewsOf pid ∷ []) refl;
   }
 
@@ -167,19 +168,39 @@ module _ (m : Group) (c : ℕ) (u : World) (pid : ℕ) (c_in : m c ≡ true) whe
       let rows = handles_of w pid in
       then-part m c u pid c_in (has_rows rows) known (in_turn (close_handle pid) rows) (doing (DropsViewsOf pid ∷ [])) (rows-part rows (rows-own w k)) (rows-steady rows (rows-own w k)) views-part
 
-  process-view : (w : World) → m pid ≡ true → end_process pid (view m w) ≡ (in_turn (close_handle pid) (handles_of w pid) ▹ doing (DropsViewsOf pid ∷ [])) (view m w)
+  -- behind the ports that are let go
+  abbrev rest : Steps
+  rest = close_handles pid ▹ doing (DropsViewsOf pid ∷ [])
+
+  process-view : (w : World) → m pid ≡ true → rest (view m w) ≡ (in_turn (close_handle pid) (handles_of w pid) ▹ doing (DropsViewsOf pid ∷ [])) (view m w)
   process-view w inside = ap (λ rows. (in_turn (close_handle pid) rows ▹ doing (DropsViewsOf pid ∷ [])) (view m w)) (handles-view m w pid inside)
 
-  process-part : Part m c u pid known (end_process pid)
-  process-part = record {
-    mild = process-mild pid;
-    sent = process-sent pid;
+  rest-part : Part m c u pid known rest
+  rest-part = record {
+    mild = λ w. every-append is_mild (in_turn (close_handle pid) (handles_of w pid) w) (DropsViewsOf pid ∷ []) (turn-pass is_mild (close_handle pid) (λ r v. handle-mild v pid r) (handles_of w pid) w) refl;
+    sent = λ w. append-sent w (in_turn (close_handle pid) (handles_of w pid) w) (DropsViewsOf pid ∷ []) (turn-sent (close_handle pid) (λ r v. handle-sent v pid r) (handles_of w pid) w) refl;
     fair = λ w k. let p = process-at w k in p.fair w (k, refl);
     asked = λ w k. let p = process-at w k in p.asked w (k, refl);
     apart = λ d w k out. let p = process-at w k in p.apart d w (k, refl) out;
     mute = λ d w memo k n out. let p = process-at w k in p.mute d w memo (k, refl) n out;
-    led = λ d w k inside. let p = process-at w k in subst (Led m c u d w (end_process pid w)) (sym (process-view w inside)) (p.led d w (k, refl) inside);
+    shown = λ w k n e is. let p = process-at w k in p.shown w (k, refl) n e is;
+    led = λ d w k inside. let p = process-at w k in subst (Led m c u d w (rest w)) (sym (process-view w inside)) (p.led d w (k, refl) inside);
   }
+
+  lets-part : Part m c u pid known (doing (LetsGo pid ∷ []))
+  lets-part = record {
+    mild = λ w. refl;
+    sent = λ w. refl;
+    fair = λ w k. refl;
+    asked = λ w k. let s = k.sure in let a = s.asked in record { sorts = a.sorts; own = a.own; one = a.one; marked = a.marked };
+    apart = λ d w k out. rw out refl;
+    mute = λ d w memo k n out. refl;
+    shown = λ w k n e is. refl;
+    led = λ d w k inside. led-same m c u d w (LetsGo pid ∷ []) refl;
+  }
+
+  process-part : Part m c u pid known (end_process pid)
+  process-part = then-part m c u pid c_in known known (doing (LetsGo pid ∷ [])) rest lets-part (λ w k. steady-after m c u pid known (doing (LetsGo pid ∷ [])) lets-part w k k.sure (lets-safe w pid k.safe)) rest-part
 
   -- all of it
   pub ends-part : (code : Status) (ts : List ThreadRow) → every (is_ending_of u pid) ts ≡ true → Part m c u pid known (end_threads pid code ts)
@@ -191,11 +212,14 @@ module _ (m : Group) (c : ℕ) (u : World) (pid : ℕ) (c_in : m c ≡ true) whe
 
 -- Where rows have gone
 process-remains : (k : Alive) (pid : ℕ) → Remains k (end_process pid)
-process-remains k pid = record {
+process-remains k pid = then-remains k (doing (LetsGo pid ∷ [])) (close_handles pid ▹ doing (DropsViewsOf pid ∷ [])) lets (record {
   alike = λ u closed. (at u closed).alike u closed;
   stands = λ u closed. (at u closed).stands u closed;
-}
+})
   where
+    lets : Remains k (doing (LetsGo pid ∷ []))
+    lets = record { alike = λ u closed. refl; stands = λ u closed. refl }
+
     row : (r : HandleRow) → handle_closed k r ≡ true → Remains k (close_handle pid r)
     row r live = record { alike = λ u closed. thin-handle k u pid r closed live; stands = λ u closed. handle-stands k u pid r closed live }
 

@@ -2,10 +2,10 @@
 use Rattle.std.specs.Prelude.{◌≡◌, ℕ, Bool, false, true, List, [], ◌∷◌, ◌++◌, map, Option, Some, None}
 use Rattle.lpc_model.specs.World.{Birth, World, no_rows}
 use Rattle.lpc_model.specs.Lines.{ScriptLine}
-use Rattle.lpc_isolation.proofs.Gone.Served.{served_step, served_steps}
+use Rattle.lpc_isolation.proofs.Gone.Served.{served_step, served_steps, own_served, own_served_step}
 use Rattle.lpc_model.specs.Run.{said_in}
-use Rattle.lpc_model.specs.Circle.{Event, Group, HasInnerViews, Ran, full_inputs, is_fine_line, is_seen, full_items, line_whose, told_event, members, ReadsInner, gave_event, given_in}
-use Rattle.lpc_isolation.proofs.Views.Alone.{HasFineRows, WritesOuter, alone, ShowsOuter}
+use Rattle.lpc_model.specs.Circle.{Event, Group, HasInnerViews, Ran, is_fine_line, is_seen, line_whose, told_event, members, ReadsInner, gave_event, given_in, full_inputs, full_items}
+use Rattle.lpc_isolation.proofs.Views.Alone.{HasFineRows, WritesOuter, alone, ShowsOuter, HasFineRaisers}
 
 -- what happens at a line, before rows go
 abbrev pub bare_line_events : World → ScriptLine → List Event
@@ -14,16 +14,24 @@ bare_line_events w line =
     ∷ map (told_event (served_step w line).world (line_whose w line)) (served_step w line).entries
     ++ map (gave_event (line_whose w line)) (given_in (served_steps line w))
 
+-- and by its own steps, before the world settles
+abbrev pub own_line_events : World → ScriptLine → List Event
+own_line_events w line =
+    record { whose = line_whose w line; item = Ran line }
+    ∷ map (told_event (own_served_step w line).world (line_whose w line)) (own_served_step w line).entries
+    ++ map (gave_event (line_whose w line)) (given_in (own_served line w))
+
 -- what happens in a run from a world on
 abbrev pub bare_events : World → List (Option ScriptLine) → List Event
 bare_events w [] = []
 bare_events w (None ∷ later) = bare_events w later
 bare_events w (Some line ∷ later) = bare_line_events w line ++ bare_events (served_step w line).world later
 
--- in a world, c has no view of an outer section, and what outsiders' views show is outer
+-- in a world, c has no view of an outer section, what outsiders' views show is outer, and members' exceptions are told inside
 pub record HasViewsApart (group : Group) (c : ℕ) (outer : Birth → Bool) (w : World) : Type 0 where
   pub inner : HasInnerViews c outer w
   pub shows : ShowsOuter group outer w
+  pub raisers : HasFineRaisers group w
 
 -- at a line, what it writes is outer, where it is an outsider's; and c reads of no outer section through a range that a request
 -- describes

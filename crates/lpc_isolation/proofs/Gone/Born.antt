@@ -1,4 +1,7 @@
 -- Births of processes and threads in the run whose rows never go: what is made next has a birth that no row has.
+use Rattle.lpc_model.proofs.Calls.Raising.{set-passes}
+use Rattle.lpc_model.specs.Raise.{Heard, event_begun, event_message, raise_steps, set_told}
+use Rattle.lpc_model.proofs.Sound.Reply.{reply-cases}
 use Rattle.lpc_model.specs.declared.entry.CallName.{CallName}
 use Rattle.lpc_model.specs.Ranges.{write_range_steps}
 use Rattle.lpc_model.specs.Memory.{new_section, section_steps, map_steps, mapped_view, unmap_steps, write_steps}
@@ -33,18 +36,18 @@ use Rattle.lpc_model.specs.declared.entry.Word.TheVariants as word
 use Rattle.lpc_model.specs.Grammar.{has_call_ids, has_ids}
 use Rattle.lpc_model.specs.Words.{is_id}
 use Rattle.lpc_model.specs.World.{Birth, ContentRow, Contents, Known, ProcessRow, ThreadRow, Unknown, UsedThread, WaitRow, World, no_rows, MessageRow, PortRow, SectionRow, Effective, Token}
-use Rattle.lpc_model.specs.Found.{is_content, is_live, is_live_thread, is_section, is_thread, live_thread, same_birth, wait_of, was_process, was_thread, free_handle, is_token, token_of, named_token}
-use Rattle.lpc_model.specs.Basics.{AddsProcess, AddsSection, AddsThread, Basic, Binds, Dies, DrawsIdentifier, DrawsOrdinal, Frees, Registers, Unregisters, Writes, basic, ended, freed, in_known, past_identifier, past_ordinal, registering, unregistering, world_after, written, zeros, Acts, AddsToken, NamesToken, acting}
+use Rattle.lpc_model.specs.Found.{is_content, is_live, is_live_thread, is_section, is_thread, live_thread, same_birth, wait_of, was_process, was_thread, free_handle, is_token, token_of, named_token, is_process}
+use Rattle.lpc_model.specs.Basics.{AddsProcess, AddsSection, AddsThread, Basic, Binds, Dies, DrawsIdentifier, DrawsOrdinal, Frees, Registers, Unregisters, Writes, basic, ended, freed, in_known, past_identifier, past_ordinal, registering, unregistering, world_after, written, zeros, Acts, AddsToken, NamesToken, acting, SetsDebug, SetsException, LetsGo, Dooms, debugged, doomed, excepted, portless}
 use Rattle.lpc_model.specs.Named.{free_name, spelled_name}
-use Rattle.lpc_model.specs.Lines.{of_resident, ScriptCall, ScriptLine, boot, dir, link, run, thread, token}
-use Rattle.lpc_model.specs.Machine.{bare_steps, boot_line, dir_line, directive_birth, link_line, name_of_call, new_process, new_thread, thread_line, thread_test, unused_test, boot_token, token_line}
+use Rattle.lpc_model.specs.Lines.{ScriptCall, ScriptLine, boot, dir, link, run, thread, token, of_resident}
+use Rattle.lpc_model.specs.Machine.{own_steps, boot_line, dir_line, directive_birth, link_line, name_of_call, new_process, new_thread, thread_line, thread_test, unused_test, boot_token, token_line}
 use Rattle.lpc_model.specs.Creation.{second_birth, making_process, making_thread}
-use Rattle.lpc_model.specs.Tests.{next_birth}
+use Rattle.lpc_model.specs.Tests.{next_birth, client_of}
 use Rattle.lpc_model.proofs.Calls.Creating.{tested-further}
 use Rattle.lpc_model.proofs.Steps.Ending.{answered_end, ending-enter, ending-receipt, handle-ending, is_ending, steps-end}
 use Rattle.lpc_model.proofs.Calls.Holding.{Holds, bind_holds, directed_holds, holds-more, holds_ok, not_refused, settled_holds}
 use Rattle.lpc_model.proofs.Calls.Usable.{live-number}
-use Rattle.lpc_isolation.proofs.Gone.Served.{served, served_ready, served_step, served_thread}
+use Rattle.lpc_isolation.proofs.Gone.Served.{served, served_ready, own_served_step, served_thread}
 use Rattle.lpc_model.specs.Offers.{mapped}
 use Rattle.lpc_model.proofs.Calls.Sharing.{mapped-pass, shared-pass, guard-pass}
 use Rattle.lpc_model.specs.Impersonation.{held_content, impersonate_steps, new_token, process_content, revert_steps, token_steps}
@@ -181,6 +184,24 @@ freed-born u kind.Thread b o = record {
     drawn : (d : Birth) → is_drawn u d ≡ true → is_drawn (freed u kind.Thread b) d ≡ true
     drawn d is = and_from _ _ (first-true _ _ is) (every-without (is_before d) (λ t. same_birth t.birth b) u.threads (second-true (was_thread u d.maker) _ is))
 
+-- a process that changes keeps its birth and its number
+processed-born : (u : World) (pid : ℕ) (f : ProcessRow → ProcessRow) → ((p : ProcessRow) → (f p).birth ≡ p.birth) → ((p : ProcessRow) → (f p).number ≡ p.number) → Born u → Born (record u { processes = change (is_process pid) f u.processes })
+processed-born u pid f births numbers b = record {
+  processes = every-change (λ p. is_made u p.birth p.number) (is_process pid) f (λ p is. rw (births p, numbers p) is) u.processes b.processes;
+  threads = b.threads;
+  past = every-more (is_after u) (is_after v) (λ t is. and_from _ _ (every-change (λ p. is_before p.birth t) (is_process pid) f (λ p one. rw (births p) one) u.processes (first-true _ _ is)) (second-true (every (λ p. is_before p.birth t) u.processes) _ is)) u.threads b.past;
+  numbers = every-change (λ p. was_process u p.number) (is_process pid) f (λ p is. rw (numbers p) is) u.processes b.numbers;
+  uses = b.uses;
+  zero = b.zero;
+  once = b.once;
+  sections = b.sections;
+  contents = b.contents;
+  tokens = b.tokens;
+}
+  where
+    v : World
+    v = record u { processes = change (is_process pid) f u.processes }
+
 -- a step that makes no process, no thread and no section
 abbrev pub makes_none : Basic → Bool
 makes_none (AddsProcess p) = false
@@ -201,6 +222,10 @@ none-born u (DrawsOrdinal who) none o = changed-born u who past_ordinal (λ x. r
 none-born u (Dies who status) none o = let c = changed-born u who ended (λ x. refl) (λ x. refl) (λ b x is. is) o in record { processes = c.processes; threads = c.threads; past = c.past; numbers = c.numbers; uses = c.uses; zero = c.zero; once = c.once; sections = c.sections; contents = c.contents; tokens = c.tokens }
 none-born u (Registers who b) none o = changed-born u who (registering b) (λ x. refl) (λ x. refl) (λ b x is. is) o
 none-born u (Unregisters who b) none o = changed-born u who (unregistering b) (λ x. refl) (λ x. refl) (λ b x is. is) o
+none-born u (SetsDebug pid b) none o = processed-born u pid (debugged b) (λ p. refl) (λ p. refl) o
+none-born u (SetsException pid b) none o = processed-born u pid (excepted b) (λ p. refl) (λ p. refl) o
+none-born u (LetsGo pid) none o = processed-born u pid portless (λ p. refl) (λ p. refl) o
+none-born u (Dooms pid code) none o = processed-born u pid (doomed code) (λ p. refl) (λ p. refl) o
 none-born u (Frees n) none o = freed-born u n.kind n.birth o
 none-born u b none o = record { processes = o.processes; threads = o.threads; past = o.past; numbers = o.numbers; uses = o.uses; zero = o.zero; once = o.once; sections = o.sections; contents = o.contents; tokens = o.tokens }
 
@@ -336,14 +361,14 @@ made-by : (u : World) (b : Birth) (n : ℕ) → was_thread u b.maker ≡ true �
 made-by u b n used = rw used (or-true ((b.maker == 0) && (b.ordinal == n)))
 
 -- Calls
-ending-none : (b : Basic) → is_ending b ≡ true → makes_none b ≡ true
+pub ending-none : (b : Basic) → is_ending b ≡ true → makes_none b ≡ true
 ending-none (AddsProcess p) is = absurd (cc)
 ending-none (AddsThread t) is = absurd (cc)
 ending-none (AddsSection s) is = absurd (cc)
 ending-none (AddsToken t) is = absurd (cc)
 ending-none b is = refl
 
-enter-none : (m : MessageRow) (v : World) → every makes_none (enter m v) ≡ true
+pub enter-none : (m : MessageRow) (v : World) → every makes_none (enter m v) ≡ true
 enter-none m v = every-more is_ending makes_none ending-none (enter m v) (ending-enter m v)
 
 taken-none : (m : MessageRow) → every makes_none (received_steps m) ≡ true
@@ -351,7 +376,7 @@ taken-none m = every-more is_ending makes_none ending-none (received_steps m) (e
 
 given-none : (u : World) (port : PortRow) (o : Option Message) → Holds (λ bs. every makes_none bs ≡ true) (given_reply u port o)
 given-none u port None = refl
-given-none u port (Some m) = bind_holds (reply_test u port m) _ (λ bs. every makes_none bs ≡ true) (λ x _. refl)
+given-none u port (Some m) = bind_holds (reply_test u port m) _ (λ bs. every makes_none bs ≡ true) (λ x _. reply-cases (λ r. every makes_none (r ∷ []) ≡ true) x m refl refl (λ _. refl))
 
 module _ (u : World) (by : ThreadRow) (live : live_thread u by.number ≡ Some by) (o : Born u) where
   used : was_thread u by.number ≡ true
@@ -435,7 +460,7 @@ module _ (u : World) (by : ThreadRow) (live : live_thread u by.number ≡ Some b
     asks = λ handle bytes s at _.
         let y = sent_by by REQUEST s.message in
         nones (request_steps by s.port s.queue y u) (enter-none (row_of s.queue s.port y) (world_after u (request_start by s.port.birth s.queue y)));
-    replies = λ handle bytes port m x at read fits _. nones (reply_steps by x m) refl;
+    replies = λ handle bytes port m x at read fits _. nones (reply_steps by x m) (reply-cases (λ r. every makes_none (r ∷ []) ≡ true) x m refl refl (λ _. refl));
     receives = λ handle bytes a port queue replied m r at _. nones (receive_steps by port queue replied (Some m)) (every-append makes_none replied _ (given port a replied r.reply_made) (taken-none m));
     awaits_message = λ handle bytes a port queue replied r at _. nones (receive_steps by port queue replied None) (every-append makes_none replied _ (given port a replied r.reply_made) refl);
     registers = λ handle port at new few _. none-born u (Registers by.number port.birth) refl o;
@@ -457,6 +482,10 @@ module _ (u : World) (by : ThreadRow) (live : live_thread u by.number ≡ Some b
     opens_own = λ own at _. tokened NtOpenThreadToken (held_content own);
     opens_primary = λ _. tokened NtOpenProcessToken (process_content u by);
     asks_token = λ handle class t field at told _. o;
+    sets = λ target class handle pid port at found live _. set-passes (λ bs. Born (world_after u bs)) by class pid port.birth (nones (set_told by ∷ SetsDebug pid port.birth ∷ []) refl) (nones (set_told by ∷ SetsException pid port.birth ∷ []) refl);
+    handles = λ code handled _. o;
+    hears = λ code handled h is _. nones (raise_steps by code handled (Heard h) u) (enter-none (row_of h.queue h.port (event_message (client_of by) by.next_identifier code h.chance)) (world_after u (event_begun by code handled h)));
+    fails = λ code handled _. nones (Dooms by.process code ∷ []) refl;
     ends = λ call name own pid code ts doomed _. let bs = answered_end by name own pid code ts u in nones bs (every-more is_ending makes_none ending-none bs (steps-end u by name own pid code ts));
   }
     where
@@ -508,8 +537,8 @@ thread-line-born : (u : World) (tid : ℕ) (call : ScriptCall) (t : Option Threa
 thread-line-born u tid call None live ids o = o
 thread-line-born u tid call (Some by) live ids o = ready-born u by call (wait_of u tid) (subst (λ n. live_thread u n ≡ Some by) (sym (live-number u tid by live)) live) ids o
 
-pub line-born : (u : World) (line : ScriptLine) → has_ids line ≡ true → Born u → Born (served_step u line).world
-unfolding bare_steps
+pub line-born : (u : World) (line : ScriptLine) → has_ids line ≡ true → Born u → Born (own_served_step u line).world
+unfolding own_steps
 line-born u (boot pid tid name) ids o = directed_holds (λ bs. Born (world_after u bs)) word.Boot (boot_line u pid tid name) (boot-born u pid tid name ids o) (λ _. o)
 line-born u (token name content) ids o = directed_holds (λ bs. Born (world_after u bs)) word.Token (token_line u name content) (token-born u name content o) (λ _. o)
 line-born u (thread tid pid) ids o = directed_holds (λ bs. Born (world_after u bs)) word.Thread (thread_line u tid pid) (further-born u tid pid (first-true _ _ ids) o) (λ _. o)

@@ -1,4 +1,5 @@
 -- What counts for an object: for c's own ports in a view as in the world, and where rows that nothing names have gone.
+use Rattle.lpc_model.specs.Left.{HasLivingPorts}
 use Rattle.std.proofs.Common.{◌≡◌, ℕ, List, [], ◌∷◌, ◌++◌, Bool, true, false, cond, not, map, Option, Some, None, refl, ap, sym, subst, ◌∙◌, arith}
 use Rattle.std.specs.Prelude.{◌&&◌, ◌||◌, ◌==◌, ◌+◌, is_none, length, is_some}
 use Rattle.std.proofs.lemmas.Bool.{and_from, eqb-true, false_from_ne_true}
@@ -13,7 +14,7 @@ use Rattle.lpc_base.specs.declared.port_kind.PortKind.TheVariants.{Client, Conne
 use Rattle.lpc_model.specs.declared.entry.ObjectKind.{ObjectKind}
 use Rattle.lpc_model.specs.declared.entry.ObjectKind.TheVariants as kind
 use Rattle.lpc_model.specs.World.{Birth, HandleRow, HandleTable, MessageRow, ObjectName, PortKind, PortRow, ProcessRow, ViewRow, ViewTable, WaitRow, World, ThreadRow, Offer}
-use Rattle.lpc_model.specs.Found.{all_views, handle_count, is_client_port, is_connected_to, is_cut, is_life, lives_by, is_made_on, is_paired_to, is_port, is_request, is_sent_on, is_server_port, is_the, port_name, same_birth, same_kind, same_object, shows_section, all_registrations, registered_by, is_owned_by, offers_section, offer_of}
+use Rattle.lpc_model.specs.Found.{all_views, handle_count, is_client_port, is_connected_to, is_cut, is_life, lives_by, is_made_on, is_paired_to, is_port, is_asking, is_sent_on, is_server_port, is_the, port_name, same_birth, same_kind, same_object, shows_section, all_registrations, registered_by, is_owned_by, offers_section, offer_of, event_ports, event_ports_of, is_event}
 use Rattle.lpc_model.specs.Standing.{is_near}
 use Rattle.lpc_model.specs.Circle.{Group, is_fine_client, is_fine_port}
 use Rattle.lpc_isolation.proofs.Views.Alone.{HasFineRows}
@@ -23,10 +24,10 @@ use Rattle.std.proofs.lemmas.Bool.Decides.{nat_tests}
 use Rattle.lpc_model.proofs.Steps.Registrations.{every-each}
 use Rattle.lpc_isolation.proofs.Views.Basics.{owner-same}
 use Rattle.lpc_isolation.proofs.Views.Filters.{count-inside, first-inside, has-inside, shown, which-where}
-use Rattle.lpc_isolation.proofs.Rows.Fair.{Fair, all_of, is_fair_message, is_fair_pair, is_fair_port, is_fair_space, is_fair_view, is_fair_wait, is_fair_life, is_fair_process, is_home, is_fair_thread, together, is_fair_offer}
+use Rattle.lpc_isolation.proofs.Rows.Fair.{Fair, all_of, is_fair_message, is_fair_pair, is_fair_port, is_fair_space, is_fair_view, is_fair_wait, is_fair_life, is_fair_process, is_home, is_fair_thread, together, is_fair_offer, port-home, port-side, is_fair_raise, is_fair_hearer, are_together}
 use Rattle.lpc_isolation.proofs.Views.Callers.{c-wait}
 use Rattle.lpc_isolation.proofs.Views.Mine.{the-seen}
-use Rattle.lpc_isolation.proofs.Gone.Thin.{Alive, Closed, handle_closed, message_closed, port_alive, port_cut, table_closed, thin, wait_closed, alive_as, lasts, object_alive, port-live, process_alive, registered-thin, thread_alive, thread_closed, view_closed}
+use Rattle.lpc_isolation.proofs.Gone.Thin.{Alive, Closed, handle_closed, message_closed, port_alive, port_cut, table_closed, thin, wait_closed, alive_as, lasts, object_alive, port-live, process_alive, registered-thin, thread_alive, thread_closed, view_closed, events-thin}
 use Rattle.lpc_isolation.proofs.Closings.Ports.{member-in}
 use Rattle.lpc_isolation.proofs.Each.Closes.{handle_count-view}
 
@@ -107,8 +108,25 @@ sent-seen m c w b p c_in mine f n = has-inside (is_fair_message m c) (our_messag
         last : (a d e : Bool) → a ≡ false → (a || not d) ≡ true → (d || e) ≡ true → e ≡ true
         last a d e off one two = grind arith
 
+-- a wait that was made on a port of c's is in the view
+port-wait : (m : Group) (c : ℕ) (x : WaitRow) → m c ≡ true → (is_fair_wait m c x && is_fair_raise m x) ≡ true → (x.port.process == c) ≡ true → our_wait m x ≡ true
+port-wait m c x c_in both mine = at (is_event x) refl
+  where
+    fair : is_fair_wait m c x ≡ true
+    fair = first-true (is_fair_wait m c x) _ both
+
+    at : (e : Bool) → is_event x ≡ e → our_wait m x ≡ true
+    at true is =
+        let inside : m x.process ≡ true = sym (port-side m x (first-true _ _ fair)) ∙ ap m (eqb-true _ _ mine) ∙ c_in in
+        let queue : (not true || (not true || m x.queue.process)) ≡ true = rw (is, inside) at (second-true (is_fair_wait m c x) (is_fair_raise m x) both) in
+        and_from _ _ inside queue
+    at false off = c-wait m c x c_in fair (ap (λ n. n == c) (sym (port-home m x off (first-true _ _ fair))) ∙ mine)
+
+fair-waits : (m : Group) (c : ℕ) (w : World) → Fair m c w → every (λ x. is_fair_wait m c x && is_fair_raise m x) w.waits ≡ true
+fair-waits m c w f = every-both (is_fair_wait m c) (is_fair_raise m) (λ x. is_fair_wait m c x && is_fair_raise m x) (λ x one two. and_from _ _ one two) w.waits f.waits f.raised
+
 made-seen : (m : Group) (c : ℕ) (w : World) (b : Birth) (p : PortRow) → m c ≡ true → b.process ≡ c → p.connection ≡ Some b → Fair m c w → Near m c b p → has (is_made_to p) (view m w).waits ≡ has (is_made_to p) w.waits
-made-seen m c w b p c_in mine to f n = has-inside (is_fair_wait m c) (our_wait m) (is_made_to p) (λ x fair is. at x fair is) w.waits f.waits
+made-seen m c w b p c_in mine to f n = has-inside (λ x. is_fair_wait m c x && is_fair_raise m x) (our_wait m) (is_made_to p) (λ x both is. at x both is) w.waits (fair-waits m c w f)
   where
     near-in : (x : WaitRow) → is_near x p ≡ true → m x.queue.process ≡ true
     near-in x is = first (is_port x.queue p) refl
@@ -123,7 +141,7 @@ made-seen m c w b p c_in mine to f n = has-inside (is_fair_wait m c) (our_wait m
 
         second : (e : Bool) → is_port x.queue p ≡ false → is_connected_to x.queue p ≡ e → m x.queue.process ≡ true
         second true off here = let same : same_birth x.queue b ≡ true = rw to at here in of_birth m x.queue b same ∙ ap m mine ∙ c_in
-        second false off none = paired p.pair n.pair (third (is_port x.queue p) (is_connected_to x.queue p) (is_request x) (is_paired_to x.queue p) off none is)
+        second false off none = paired p.pair n.pair (third (is_port x.queue p) (is_connected_to x.queue p) (is_asking x) (is_paired_to x.queue p) off none is)
           where
             third : (a d e g : Bool) → a ≡ false → d ≡ false → (a || (d || (e && g))) ≡ true → g ≡ true
             third a d e g one two is = grind arith
@@ -132,18 +150,21 @@ made-seen m c w b p c_in mine to f n = has-inside (is_fair_wait m c) (our_wait m
         first true here = sym (of_birth m p.birth x.queue here) ∙ n.inside
         first false off = second (is_connected_to x.queue p) off refl
 
-    at : (x : WaitRow) → is_fair_wait m c x ≡ true → is_made_to p x ≡ true → our_wait m x ≡ true
-    at x fair is = by (is_near x p) refl
+    at : (x : WaitRow) → (is_fair_wait m c x && is_fair_raise m x) ≡ true → is_made_to p x ≡ true → our_wait m x ≡ true
+    at x both is = by (is_near x p) refl
       where
-        own : x.process ≡ p.birth.process
-        own = sym (eqb-true _ _ (first-true _ _ fair)) ∙ ap (λ (b : Birth). b.process) (birth-same x.port p.birth (first-true _ _ is))
+        on : x.port ≡ p.birth
+        on = birth-same x.port p.birth (first-true _ _ is)
+
+        side : m x.process ≡ m p.birth.process
+        side = sym (port-side m x (first-true _ _ (first-true (is_fair_wait m c x) _ both))) ∙ ap (λ (b : Birth). m b.process) on
 
         by : (e : Bool) → is_near x p ≡ e → our_wait m x ≡ true
-        by true here = and_from _ _ (ap m own ∙ n.inside) (near-in x here)
+        by true here = and_from _ _ (side ∙ n.inside) (near-in x here)
         by false off =
             let rest : (is_near x p || not (is_client_port p)) ≡ true = second-true (is_made_on p.birth x) _ is in
             let p_c : (p.birth.process == c) ≡ true = last (is_near x p) (is_client_port p) (p.birth.process == c) off rest n.own in
-            c-wait m c x c_in fair (ap (λ n. n == c) own ∙ p_c)
+            port-wait m c x c_in both (ap (λ (b : Birth). b.process == c) on ∙ p_c)
           where
             last : (a d e : Bool) → a ≡ false → (a || not d) ≡ true → (d || e) ≡ true → e ≡ true
             last a d e off one two = grind arith
@@ -171,6 +192,23 @@ registered-seen m b (t ∷ ts) inside fair = at (m t.process) refl (registered-s
     at : (e : Bool) → m t.process ≡ e → which (same_birth b) (each registered_by (which (our_thread m) ts)) ≡ which (same_birth b) (each registered_by ts) → which (same_birth b) (each registered_by (which (our_thread m) (t ∷ ts))) ≡ which (same_birth b) (each registered_by (t ∷ ts))
     at true is more = rw is (filter-append (same_birth b) (registered_by t) (each registered_by (which (our_thread m) ts)) ∙ ap (λ bs. which (same_birth b) (registered_by t) ++ bs) more ∙ sym (filter-append (same_birth b) (registered_by t) (each registered_by ts)))
     at false out more = rw out (more ∙ ap (λ bs. bs ++ which (same_birth b) (each registered_by ts)) (sym (thread-registered m b t inside out (first-true _ _ fair))) ∙ sym (filter-append (same_birth b) (registered_by t) (each registered_by ts)))
+
+-- and the ports that are told of exceptions
+none-heard : (m : Group) (b : Birth) (pid : ℕ) (bs : List Birth) → m b.process ≡ true → m pid ≡ false → every (λ (d : Birth). are_together m pid d.process) bs ≡ true → which (same_birth b) bs ≡ []
+none-heard m b pid [] inside out all = refl
+none-heard m b pid (d ∷ ds) inside out all = at (same_birth b d) refl (none-heard m b pid ds inside out (second-true _ _ all))
+  where
+    at : (e : Bool) → same_birth b d ≡ e → which (same_birth b) ds ≡ [] → which (same_birth b) (d ∷ ds) ≡ []
+    at true is rest = let k : m b.process ≡ m pid = of_birth m b d is ∙ sym (together m pid d.process (first-true _ _ all)) in absurd (cc)
+    at false off rest = rw off rest
+
+hearers-seen : (m : Group) (b : Birth) (ps : List ProcessRow) → m b.process ≡ true → every (is_fair_hearer m) ps ≡ true → which (same_birth b) (each event_ports_of (which (our_process m) ps)) ≡ which (same_birth b) (each event_ports_of ps)
+hearers-seen m b [] inside fair = refl
+hearers-seen m b (p ∷ ps) inside fair = at (m p.number) refl (hearers-seen m b ps inside (second-true _ _ fair))
+  where
+    at : (e : Bool) → m p.number ≡ e → which (same_birth b) (each event_ports_of (which (our_process m) ps)) ≡ which (same_birth b) (each event_ports_of ps) → which (same_birth b) (each event_ports_of (which (our_process m) (p ∷ ps))) ≡ which (same_birth b) (each event_ports_of (p ∷ ps))
+    at true is more = rw is (filter-append (same_birth b) (event_ports_of p) (each event_ports_of (which (our_process m) ps)) ∙ ap (λ bs. which (same_birth b) (event_ports_of p) ++ bs) more ∙ sym (filter-append (same_birth b) (event_ports_of p) (each event_ports_of ps)))
+    at false out more = rw out (more ∙ ap (λ bs. bs ++ which (same_birth b) (each event_ports_of ps)) (sym (none-heard m b p.number (event_ports_of p) inside out (first-true _ _ fair))) ∙ sym (filter-append (same_birth b) (event_ports_of p) (each event_ports_of ps)))
 
 has-seen : (p : Birth → Bool) (xs ys : List Birth) → which p xs ≡ which p ys → has p xs ≡ has p ys
 has-seen p xs ys same = ap is_some (sym (first-inside p p (λ x is. is) xs) ∙ ap (first p) same ∙ first-inside p p (λ x is. is) ys)
@@ -244,7 +282,7 @@ standing-seen m c w b p c_in mine f ok = at (is_connected_to b p) refl
         let n : Near m c b p = near m c b p c_in mine (first-true _ _ ok) (second-true (is_fair_port m c p) _ ok) here in
         let same : seen_port m p ≡ p = rw n.pair refl in
         ap (is_standing (view m w) b) same
-        ∙ rw (handle_count-view m c w (port_name p.birth) f.tables n.inside, sent-seen m c w b p c_in mine f n, made-seen m c w b p c_in mine (to-of here) f n, has-seen (same_birth p.birth) (all_registrations (view m w)) (all_registrations w) (registered-seen m p.birth w.threads n.inside f.registrations), has-owned m c w p.birth n.inside f) refl
+        ∙ rw (handle_count-view m c w (port_name p.birth) f.tables n.inside, sent-seen m c w b p c_in mine f n, made-seen m c w b p c_in mine (to-of here) f n, has-seen (same_birth p.birth) (all_registrations (view m w)) (all_registrations w) (registered-seen m p.birth w.threads n.inside f.registrations), has-owned m c w p.birth n.inside f, has-seen (same_birth p.birth) (event_ports (view m w)) (event_ports w) (hearers-seen m p.birth w.processes n.inside f.hearers)) refl
 
 -- what counts for c's port
 fair-pair-in : (m : Group) (c : ℕ) (b : Birth) (p : PortRow) → m c ≡ true → b.process ≡ c → is_fair_port m c p ≡ true → is_paired_to b p ≡ true → m p.birth.process ≡ true
@@ -270,10 +308,11 @@ ports-view m c w b c_in mine f fine =
     let ports : every (λ p. is_fair_port m c p && is_fine_port m c p) w.ports ≡ true = every-both (is_fair_port m c) (is_fine_port m c) _ (λ p a b. and_from _ _ a b) w.ports f.ports fine.1 in
     let standing : count (is_standing (view m w) b) (view m w).ports ≡ count (is_standing w b) w.ports = count-shown (λ p. is_fair_port m c p && is_fine_port m c p) (our_port m) (is_standing w b) (is_standing (view m w) b) (seen_port m) (λ p ok ours. standing-seen m c w b p c_in mine f ok) (λ p ok is. (near m c b p c_in mine (first-true _ _ ok) (second-true (is_fair_port m c p) _ ok) (first-true _ _ is)).inside) w.ports ports in
     let messages : count (is_sent_on b) (view m w).messages ≡ count (is_sent_on b) w.messages = ap length (which-where (is_fair_message m c) (our_message m) (is_sent_on b) (λ x fair is. sent-in m c b x c_in mine fair is) w.messages f.messages) in
-    let waits : count (is_made_on b) (view m w).waits ≡ count (is_made_on b) w.waits = ap length (which-where (is_fair_wait m c) (our_wait m) (is_made_on b) (λ x fair is. c-wait m c x c_in fair (ap (λ n. n == c) (sym (eqb-true _ _ (first-true _ _ fair)) ∙ ap (λ (b : Birth). b.process) (birth-same x.port b is) ∙ mine) ∙ same-number c)) w.waits f.waits) in
+    let waits : count (is_made_on b) (view m w).waits ≡ count (is_made_on b) w.waits = ap length (which-where (λ x. is_fair_wait m c x && is_fair_raise m x) (our_wait m) (is_made_on b) (λ x both is. port-wait m c x c_in both (ap (λ n. n == c) (ap (λ (b : Birth). b.process) (birth-same x.port b is) ∙ mine) ∙ same-number c)) w.waits (fair-waits m c w f)) in
     let registered : count (same_birth b) (all_registrations (view m w)) ≡ count (same_birth b) (all_registrations w) = ap length (registered-seen m b w.threads (ap m mine ∙ c_in) f.registrations) in
     let owned : count (is_owned_by b) (all_views (view m w)) ≡ count (is_owned_by b) (all_views w) = owns-view m c w b (ap m mine ∙ c_in) f in
-    rw (pairs, standing, messages, waits, registered, owned) refl
+    let heard : count (same_birth b) (event_ports (view m w)) ≡ count (same_birth b) (event_ports w) = ap length (hearers-seen m b w.processes (ap m mine ∙ c_in) f.hearers) in
+    rw (pairs, standing, messages, waits, registered, owned, heard) refl
 
 -- a member's process is counted for by its threads, and a member's thread by itself
 which-alike : {X : Type 0} (f g : X → Bool) → ((x : X) → f x ≡ g x) → (xs : List X) → which f xs ≡ which g xs
@@ -396,9 +435,10 @@ standing-live k u b p c cut is = at (k.ports p.birth) refl
         let sent : has (is_sent_to b p) u.messages ≡ false = none-of (message_closed k) (is_sent_to b p) (λ x closed. off-sent x dead closed) u.messages c.messages in
         let made : has (is_made_to p) u.waits ≡ false = none-of (wait_closed k) (is_made_to p) (λ x closed. off-made x dead closed) u.waits c.waits in
         let told : has (same_birth p.birth) (all_registrations u) ≡ false = none-of k.ports (same_birth p.birth) (λ d live. off-told d dead live) (all_registrations u) c.registrations in
+        let evented : has (same_birth p.birth) (event_ports u) ≡ false = none-of k.ports (same_birth p.birth) (λ d live. off-told d dead live) (event_ports u) (every-each k.ports event_ports_of u.processes ∙ c.events) in
         let owned : has (is_owned_by p.birth) (all_views u) ≡ false = none-of (view_closed k) (is_owned_by p.birth) (λ v closed. off-owned v dead closed) (all_views u) (every-each (view_closed k) (λ (t : ViewTable). t.rows) u.views ∙ c.views) in
         let gone : is_cut p ≡ true = or-second (k.ports p.birth) (is_cut p) dead cut in
-        let never : (is_connected_to b p && (false || not true)) ≡ true = rw (handles, sent, made, told, owned, gone) at is in
+        let never : (is_connected_to b p && (false || not true)) ≡ true = rw (handles, sent, made, told, owned, evented, gone) at is in
         absurd (never-is (is_connected_to b p) never)
       where
         never-is : (a : Bool) → (a && false) ≡ true → ⊥
@@ -412,15 +452,16 @@ paired-live k b p cut is = at p.pair refl is
     at None none is = absurd (cc)
     at (Some q) some is = let it : (k.ports p.birth || false) ≡ true = rw some at cut in grind arith
 
-ports-thin : (k : Alive) (u : World) (b : Birth) → Closed k u → standing_holders (thin k u) b ≡ standing_holders u b
-ports-thin k u b c =
-    let aside : List PortRow → ℕ = λ ports. count (is_standing u b) ports + (count (is_sent_on b) u.messages + (count (is_made_on b) u.waits + (count (same_birth b) (all_registrations u) + count (is_owned_by b) (all_views u)))) in
+ports-thin : (k : Alive) (u : World) (b : Birth) → HasLivingPorts u → Closed k u → standing_holders (thin k u) b ≡ standing_holders u b
+ports-thin k u b living c =
+    let aside : List PortRow → ℕ = λ ports. count (is_standing u b) ports + (count (is_sent_on b) u.messages + (count (is_made_on b) u.waits + (count (same_birth b) (all_registrations u) + (count (is_owned_by b) (all_views u) + count (same_birth b) (event_ports u))))) in
     let pairs : count (is_paired_to b) (which (port_alive k) u.ports) ≡ count (is_paired_to b) u.ports = ap length (which-where (port_cut k) (port_alive k) (is_paired_to b) (λ p cut is. paired-live k b p cut is) u.ports c.cuts) in
     let standing : count (is_standing u b) (which (port_alive k) u.ports) ≡ count (is_standing u b) u.ports = ap length (which-where (port_cut k) (port_alive k) (is_standing u b) (λ p cut is. standing-live k u b p c cut is) u.ports c.cuts) in
-    let counted : List Birth → ℕ = λ bs. count (is_paired_to b) (which (port_alive k) u.ports) + (count (λ p. is_connected_to b p && ((not (handle_count u (port_name p.birth) == 0) || (has (is_sent_to b p) u.messages || (has (is_made_to p) u.waits || (has (same_birth p.birth) bs || has (is_owned_by p.birth) (all_views u))))) || not (is_cut p))) (which (port_alive k) u.ports) + (count (is_sent_on b) u.messages + (count (is_made_on b) u.waits + (count (same_birth b) bs + count (is_owned_by b) (all_views u))))) in
-    ap counted (registered-thin k u c)
+    let counted : List Birth → List Birth → ℕ = λ bs es. count (is_paired_to b) (which (port_alive k) u.ports) + (count (λ p. is_connected_to b p && ((not (handle_count u (port_name p.birth) == 0) || (has (is_sent_to b p) u.messages || (has (is_made_to p) u.waits || (has (same_birth p.birth) bs || (has (is_owned_by p.birth) (all_views u) || has (same_birth p.birth) es))))) || not (is_cut p))) (which (port_alive k) u.ports) + (count (is_sent_on b) u.messages + (count (is_made_on b) u.waits + (count (same_birth b) bs + (count (is_owned_by b) (all_views u) + count (same_birth b) es))))) in
+    ap (λ bs. counted bs (event_ports (thin k u))) (registered-thin k u c)
+    ∙ ap (counted (all_registrations u)) (events-thin k u living c)
     ∙ ap (λ n. n + aside (which (port_alive k) u.ports)) pairs
-    ∙ ap (λ n. count (is_paired_to b) u.ports + (n + (count (is_sent_on b) u.messages + (count (is_made_on b) u.waits + (count (same_birth b) (all_registrations u) + count (is_owned_by b) (all_views u)))))) standing
+    ∙ ap (λ n. count (is_paired_to b) u.ports + (n + (count (is_sent_on b) u.messages + (count (is_made_on b) u.waits + (count (same_birth b) (all_registrations u) + (count (is_owned_by b) (all_views u) + count (same_birth b) (event_ports u))))))) standing
 
 lives-thin : (k : Alive) (u : World) (b : Birth) → k.processes b ≡ true → Closed k u → count (lives_by (thin k u) b) (thin k u).threads ≡ count (lives_by u b) u.threads
 lives-thin k u b live c =
@@ -428,12 +469,12 @@ lives-thin k u b live c =
     (λ t. ap (λ e. t.live && e) (has-inside (λ p. true) (process_alive k) (homes_in b t) (λ p any is. ap k.processes (birth-same p.birth b (first-true _ _ is)) ∙ live) u.processes (every-true u.processes))) (which (thread_alive k) u.threads)
     ∙ which-where (thread_closed k) (thread_alive k) (lives_by u b) (λ t closed is. lasts k t closed (first-true _ _ is)) u.threads c.threads)
 
-as-thin : (k : Alive) (u : World) (s : ObjectKind) (b : Birth) → alive_as k s b ≡ true → Closed k u → standing_as (thin k u) s b ≡ standing_as u s b
-as-thin k u kind.Port b live c = ports-thin k u b c
-as-thin k u kind.Section b live c = refl
-as-thin k u kind.Token b live c = refl
-as-thin k u kind.Process b live c = lives-thin k u b live c
-as-thin k u kind.Thread b live c = ap length (which-where (thread_closed k) (thread_alive k) (is_life b) (λ t closed is. lasts k t closed (first-true _ _ is)) u.threads c.threads)
+as-thin : (k : Alive) (u : World) (s : ObjectKind) (b : Birth) → alive_as k s b ≡ true → HasLivingPorts u → Closed k u → standing_as (thin k u) s b ≡ standing_as u s b
+as-thin k u kind.Port b live living c = ports-thin k u b living c
+as-thin k u kind.Section b live living c = refl
+as-thin k u kind.Token b live living c = refl
+as-thin k u kind.Process b live living c = lives-thin k u b live c
+as-thin k u kind.Thread b live living c = ap length (which-where (thread_closed k) (thread_alive k) (is_life b) (λ t closed is. lasts k t closed (first-true _ _ is)) u.threads c.threads)
 
-pub standing-thin : (k : Alive) (u : World) (o : ObjectName) → object_alive k o ≡ true → Closed k u → standing_count (thin k u) o ≡ standing_count u o
-standing-thin k u o live c = ap (λ n. handle_count u o + n) (as-thin k u o.kind o.birth live c)
+pub standing-thin : (k : Alive) (u : World) (o : ObjectName) → object_alive k o ≡ true → HasLivingPorts u → Closed k u → standing_count (thin k u) o ≡ standing_count u o
+standing-thin k u o live living c = ap (λ n. handle_count u o + n) (as-thin k u o.kind o.birth live living c)

@@ -1,12 +1,14 @@
 -- The ports that go are as fine as those that stay.
+use Rattle.lpc_isolation.proofs.Gone.Born.{Born}
+use Rattle.lpc_model.specs.Settle.{IsSettled}
 use Rattle.lpc_model.proofs.Steps.InTurn.{after-append}
 use Rattle.std.proofs.Common.{◌≡◌, ℕ, List, [], ◌∷◌, ◌++◌, Bool, true, false, map, refl, ◌∙◌, arith, subst}
 use Rattle.lpc_base.specs.Rows.{every, which, change}
 use Rattle.lpc_base.proofs.RowWords.{every-change, every-push}
 use Rattle.lpc_base.proofs.Bools.{first-true, second-true}
 use Rattle.lpc_model.specs.World.{Birth, PortRow, World, Security}
-use Rattle.lpc_model.specs.Found.{is_port}
-use Rattle.lpc_model.specs.Basics.{AddsProcess, Basic, Completes, Cuts, Frees, Joins, Makes, basic, completed, cut, is_end_of, joined, world_after, Secures, secured}
+use Rattle.lpc_model.specs.Found.{is_port, is_process}
+use Rattle.lpc_model.specs.Basics.{AddsProcess, Basic, Completes, Cuts, Frees, Joins, Makes, basic, completed, cut, is_end_of, joined, world_after, Secures, secured, SetsDebug, SetsException, LetsGo, Dooms, debugged, doomed, excepted, portless}
 use Rattle.lpc_model.specs.Circle.{Group, is_fine_port, is_fine_process}
 use Rattle.lpc_isolation.proofs.Views.Alone.{HasFineRows}
 use Rattle.lpc_isolation.proofs.Gone.Thin.{Behind}
@@ -37,6 +39,10 @@ basic-fine m c u (Secures b s) ok f = (f.0, every-change (is_fine_port m c) (is_
 basic-fine m c u (Frees o) ok f = absurd (cc)
 basic-fine m c u (Cuts b) ok f = (f.0, every-change (is_fine_port m c) (is_end_of b) cut (λ p is. is) u.ports f.1)
 basic-fine m c u (AddsProcess p) ok f = (every-push (is_fine_process m) u.processes p f.0 ok, f.1)
+basic-fine m c u (SetsDebug pid b) ok f = (every-change (is_fine_process m) (is_process pid) (debugged b) (λ p is. is) u.processes f.0, f.1)
+basic-fine m c u (SetsException pid b) ok f = (every-change (is_fine_process m) (is_process pid) (excepted b) (λ p is. is) u.processes f.0, f.1)
+basic-fine m c u (LetsGo pid) ok f = (every-change (is_fine_process m) (is_process pid) portless (λ p is. is) u.processes f.0, f.1)
+basic-fine m c u (Dooms pid code) ok f = (every-change (is_fine_process m) (is_process pid) (doomed code) (λ p is. is) u.processes f.0, f.1)
 basic-fine m c u b ok f = f
 
 -- what a change does not touch holds of the rows where it holds of the changed ones
@@ -62,6 +68,10 @@ kept-last p k (x ∷ xs) y all is = grind (arith, kept-last p k xs y)
 abbrev pub AreFine : Group → ℕ → List Basic → Type 0
 AreFine m c bs = every (makes_fine m c) bs ≡ true
 
+-- where nothing comes behind their steps, rows go from the world that they leave
+abbrev pub BehindRest : World → World → List Basic → Type 0
+BehindRest after u bs = ((Born u → IsSettled u → IsSettled (world_after u bs)) → Behind after (world_after u bs))
+
 -- of each call, in the world before the sweep
 abbrev pub FineAfter : Group → ℕ → World → World → List Basic → Type 0
-FineAfter m c after u bs = Behind after (world_after u bs) → AreFine m c bs
+FineAfter m c after u bs = BehindRest after u bs → AreFine m c bs

@@ -11,18 +11,18 @@ use Rattle.lpc_model.specs.declared.entry.ObjectKind.{ObjectKind}
 use Rattle.lpc_model.specs.declared.entry.ObjectKind.TheVariants as kind
 use Rattle.lpc_model.specs.declared.entry.Word.TheVariants as word
 use Rattle.lpc_model.specs.World.{Birth, Contents, Known, PortRow, ProcessRow, SectionRow, ThreadRow, Unknown, World, Offer, Token, TokenRow}
-use Rattle.lpc_model.specs.Found.{all_registrations, is_live, live_thread, same_birth, was_process, was_thread, offer_of}
+use Rattle.lpc_model.specs.Found.{all_registrations, is_live, live_thread, same_birth, was_process, was_thread, offer_of, event_ports_of}
 use Rattle.lpc_model.specs.Basics.{Basic, in_known}
 use Rattle.lpc_model.specs.Lines.{ScriptCall, boot, create_process, thread}
-use Rattle.lpc_model.specs.Machine.{bare_steps, boot_line, directive_birth, thread_line, thread_test, boot_steps, boot_token, directed}
+use Rattle.lpc_model.specs.Machine.{own_steps, boot_line, directive_birth, thread_line, thread_test, boot_steps, boot_token, directed}
 use Rattle.lpc_model.specs.Creation.{second_birth, unused_test}
 use Rattle.lpc_model.specs.Tests.{next_birth}
 use Rattle.lpc_model.specs.SoundWaits.{IsSoundWorld}
 use Rattle.lpc_model.proofs.Calls.Creating.{tested-further}
 use Rattle.lpc_model.proofs.Calls.Holding.{bind_holds, directed_holds, holds_ok}
-use Rattle.lpc_isolation.proofs.Gone.Served.{served_steps}
+use Rattle.lpc_isolation.proofs.Gone.Served.{own_served}
 use Rattle.lpc_isolation.proofs.Gone.Fresh.{next-new}
-use Rattle.lpc_isolation.proofs.Gone.Thin.{Alive, Closed, alive_as, all_alive, handle_closed, message_closed, content_alive, port_alive, port_closed, port_cut, process_alive, process_closed, section_alive, table_closed, thin, thread_alive, thread_closed, space_closed, view_closed, wait_closed, offer_alive, token_alive}
+use Rattle.lpc_isolation.proofs.Gone.Thin.{Alive, Closed, alive_as, all_alive, handle_closed, message_closed, content_alive, port_alive, port_closed, port_cut, process_alive, process_closed, section_alive, table_closed, thin, thread_alive, thread_closed, space_closed, view_closed, wait_closed, offer_alive, token_alive, hearer_closed}
 use Rattle.lpc_isolation.proofs.Gone.ThinCalls.{AreClosed}
 use Rattle.lpc_isolation.proofs.Calls.Laws.{Room, home-live, is_home}
 use Rattle.lpc_isolation.proofs.Gone.Born.{Born, content_rows, directed-processes, directed-threads, next-contents, next-process, next-sections, next-threads, next-tokens}
@@ -99,6 +99,7 @@ either-closed n k u new c = record {
   cuts = every-more (port_cut k) (port_cut (either n k)) (λ p is. grind arith) u.ports c.cuts;
   threads = every-more (thread_closed k) (thread_closed (either n k)) (thread-more n k) u.threads c.threads;
   processes = every-both (process_closed k) (λ p. not (n.processes p.birth) && not (n.homes p.number)) (process_closed (either n k)) (process-more n k) u.processes c.processes new.processes;
+  events = every-more (hearer_closed k) (hearer_closed (either n k)) (λ p is. every-more k.ports (either n k).ports (λ b live. or_left (k.ports b) (n.ports b) live) (event_ports_of p) is) u.processes c.events;
   views = every-more (space_closed k) (space_closed (either n k)) (λ t is. every-more (view_closed k) (view_closed (either n k)) (λ v live. and_from _ _ (or_left (k.sections v.section) (n.sections v.section) (first-true _ _ live)) (all-more n k v.owner (second-true (k.sections v.section) _ live))) t.rows is) u.views c.views;
 }
 
@@ -199,14 +200,14 @@ pub record Grows (k : Alive) (u : World) (bs : List Basic) : Type 0 where
 pub grown : (n k : Alive) (u : World) (bs : List Basic) → IsNew n u → Closed k u → AreClosed (either n k) bs → Grows k u bs
 grown n k u bs new c names = record { alive = either n k; same = sym (either-thin n k u new); closed = either-closed n k u new c; names = names }
 
-boot-names : (p t h : Bool) → p ≡ true → t ≡ true → h ≡ true → (p && ((t && ((t && h) && true)) && true)) ≡ true
+boot-names : (p t h : Bool) → p ≡ true → t ≡ true → h ≡ true → ((p && true) && ((t && ((t && h) && true)) && true)) ≡ true
 boot-names p t h one two three = grind arith
 
 thread-names : (t h : Bool) → t ≡ true → h ≡ true → ((t && ((t && h) && true)) && true) ≡ true
 thread-names t h one two = grind arith
 
-pub boot-grows : (k : Alive) (u : World) (pid tid : ℕ) (name : Option (List ℕ)) → Born u → Closed k u → Grows k u (served_steps (boot pid tid name) u)
-unfolding bare_steps boot_line
+pub boot-grows : (k : Alive) (u : World) (pid tid : ℕ) (name : Option (List ℕ)) → Born u → Closed k u → Grows k u (own_served (boot pid tid name) u)
+unfolding own_steps boot_line
 boot-grows k u pid tid name o c = by-token (boot_token u name)
   where
     at : (content : Token) (e f : Bool) → was_process u pid ≡ e → was_thread u tid ≡ f → Grows k u (directed word.Boot (unused_test u pid tid >>= (λ (v : Unit {0}). Ok (boot_steps pid tid content))))
@@ -222,14 +223,14 @@ boot-grows k u pid tid name o c = by-token (boot_token u name)
     by-token (Err s) = record { alive = k; same = refl; closed = c; names = refl }
     by-token (Ok content) = at content (was_process u pid) (was_thread u tid) refl refl
 
-pub thread-grows : (k : Alive) (u : World) (tid pid : ℕ) → Born u → Closed k u → Grows k u (served_steps (thread tid pid) u)
-unfolding bare_steps thread_line
+pub thread-grows : (k : Alive) (u : World) (tid pid : ℕ) → Born u → Closed k u → Grows k u (own_served (thread tid pid) u)
+unfolding own_steps thread_line
 thread-grows k u tid pid o c = at (was_thread u tid) refl
   where
     facts : (v : Unit {0}) → thread_test u tid pid ≡ Ok v → (is_live u pid ≡ true) × (was_thread u tid ≡ false)
     facts v is = holds_ok (λ _. (is_live u pid ≡ true) × (was_thread u tid ≡ false)) (thread_test u tid pid) v (tested-further u tid pid) is
 
-    at : (e : Bool) → was_thread u tid ≡ e → Grows k u (served_steps (thread tid pid) u)
+    at : (e : Bool) → was_thread u tid ≡ e → Grows k u (own_served (thread tid pid) u)
     at true used = record { alive = k; same = refl; closed = c; names = directed_holds (AreClosed k) word.Thread (thread_line u tid pid) (bind_holds (thread_test u tid pid) _ (AreClosed k) (λ v is. let off = (facts v is).1 in absurd (cc))) (λ _. refl) }
     at false unused =
         let t : Birth = directive_birth tid pid in

@@ -11,7 +11,7 @@ use Rattle.lpc_base.proofs.Births.{birth-same}
 use Rattle.lpc_model.specs.declared.entry.ObjectKind.{ObjectKind}
 use Rattle.lpc_model.specs.declared.entry.ObjectKind.TheVariants as kind
 use Rattle.lpc_model.specs.World.{Birth, MessageRow, ObjectName, PortRow, WaitRow, World, SectionRow}
-use Rattle.lpc_model.specs.Found.{handle_count, is_client_port, is_connected_to, is_cut, is_made_on, is_paired_to, is_port, is_sent_on, is_the, pair_of, pointer_count, port_name, port_row, same_birth, all_registrations, all_views, is_owned_by}
+use Rattle.lpc_model.specs.Found.{handle_count, is_client_port, is_connected_to, is_cut, is_made_on, is_paired_to, is_port, is_sent_on, is_the, pair_of, pointer_count, port_name, port_row, same_birth, all_registrations, all_views, is_owned_by, event_ports}
 use Rattle.lpc_model.specs.Sweep.{is_unheld}
 use Rattle.lpc_model.specs.Linked.{HasHeldPorts, IsLinked, is_mutual, names_nothing, HasHeldSections}
 use Rattle.lpc_model.specs.Standing.{NamesWhatStands, has_near_queue, is_near}
@@ -106,7 +106,7 @@ module _ (w : World) (h : Held w) (b : Birth) (p : PortRow) (here : port_row w p
       at false off = refl
 
   stands : is_unheld w (port_name p.birth) ≡ false → (is_aside w b p || not (is_cut p)) ≡ true
-  stands held = at (handle_count w (port_name p.birth) == 0) (has (is_sent_on p.birth) w.messages) (has (is_made_on p.birth) w.waits) (has (same_birth p.birth) (all_registrations w)) (has (is_owned_by p.birth) (all_views w)) (has (is_paired_to p.birth) w.ports) refl refl refl refl refl refl (held-by (unheld-parts w p.birth) held)
+  stands held = at (handle_count w (port_name p.birth) == 0) (has (is_sent_on p.birth) w.messages) (has (is_made_on p.birth) w.waits) (has (same_birth p.birth) (all_registrations w)) (has (is_owned_by p.birth) (all_views w)) (has (same_birth p.birth) (event_ports w)) (has (is_paired_to p.birth) w.ports) refl refl refl refl refl refl refl (held-by (unheld-parts w p.birth) held)
     where
       held-by : is_unheld w (port_name p.birth) ≡ not (is_held_aside w p.birth || is_held_by w.ports p.birth) → is_unheld w (port_name p.birth) ≡ false → (is_held_aside w p.birth || is_held_by w.ports p.birth) ≡ true
       held-by same off = turn (is_unheld w (port_name p.birth)) (is_held_aside w p.birth || is_held_by w.ports p.birth) same off
@@ -115,33 +115,39 @@ module _ (w : World) (h : Held w) (b : Birth) (p : PortRow) (here : port_row w p
           turn a true same off = refl
           turn a false same off = absurd (cc)
 
-      at : (n s t g v q : Bool) → (handle_count w (port_name p.birth) == 0) ≡ n → has (is_sent_on p.birth) w.messages ≡ s → has (is_made_on p.birth) w.waits ≡ t → has (same_birth p.birth) (all_registrations w) ≡ g → has (is_owned_by p.birth) (all_views w) ≡ v → has (is_paired_to p.birth) w.ports ≡ q
+      at : (n s t g v e q : Bool) → (handle_count w (port_name p.birth) == 0) ≡ n → has (is_sent_on p.birth) w.messages ≡ s → has (is_made_on p.birth) w.waits ≡ t → has (same_birth p.birth) (all_registrations w) ≡ g → has (is_owned_by p.birth) (all_views w) ≡ v → has (same_birth p.birth) (event_ports w) ≡ e → has (is_paired_to p.birth) w.ports ≡ q
           → (is_held_aside w p.birth || is_held_by w.ports p.birth) ≡ true → (is_aside w b p || not (is_cut p)) ≡ true
-      at false s t g v q none sent made told owned paired is = rw none refl
-      at true true t g v q none sent made told owned paired is = rw (none, sent-to sent) refl
-      at true false true g v q none sent made told owned paired is = rw (none, made-to made) (left (has (is_sent_to b p) w.messages) (is_cut p))
+      at false s t g v e q none sent made told owned heard paired is = rw none refl
+      at true true t g v e q none sent made told owned heard paired is = rw (none, sent-to sent) refl
+      at true false true g v e q none sent made told owned heard paired is = rw (none, made-to made) (left (has (is_sent_to b p) w.messages) (is_cut p))
         where
           left : (a d : Bool) → ((a || true) || not d) ≡ true
           left true d = refl
           left false d = refl
-      at true false false true v q none sent made told owned paired is = rw (none, told) (middle (has (is_sent_to b p) w.messages) (has (is_made_to p) w.waits) (is_cut p))
+      at true false false true v e q none sent made told owned heard paired is = rw (none, told) (middle (has (is_sent_to b p) w.messages) (has (is_made_to p) w.waits) (is_cut p))
         where
           middle : (a e d : Bool) → ((a || (e || true)) || not d) ≡ true
           middle true e d = refl
           middle false true d = refl
           middle false false d = refl
-      at true false false false true q none sent made told owned paired is = rw (none, told, owned) (last (has (is_sent_to b p) w.messages) (has (is_made_to p) w.waits) (is_cut p))
+      at true false false false true e q none sent made told owned heard paired is = rw (none, told, owned) (last (has (is_sent_to b p) w.messages) (has (is_made_to p) w.waits) (is_cut p))
         where
           last : (a e d : Bool) → ((a || (e || true)) || not d) ≡ true
           last true e d = refl
           last false true d = refl
           last false false d = refl
-      at true false false false false true none sent made told owned paired is = rw (pairs-back paired) (right (is_aside w b p))
+      at true false false false false true q none sent made told owned heard paired is = rw (none, told, owned, heard) (last (has (is_sent_to b p) w.messages) (has (is_made_to p) w.waits) (is_cut p))
+        where
+          last : (a e d : Bool) → ((a || (e || true)) || not d) ≡ true
+          last true e d = refl
+          last false true d = refl
+          last false false d = refl
+      at true false false false false false true none sent made told owned heard paired is = rw (pairs-back paired) (right (is_aside w b p))
         where
           right : (a : Bool) → (a || not false) ≡ true
           right true = refl
           right false = refl
-      at true false false false false false none sent made told owned paired is = let never : ((false || (false || (false || (false || false)))) || (false || false)) ≡ true = rw (none, sent, made, told, owned, paired, none-connected) at is in absurd (cc)
+      at true false false false false false false none sent made told owned heard paired is = let never : ((false || (false || (false || (false || (false || false))))) || (false || false)) ≡ true = rw (none, sent, made, told, owned, heard, paired, none-connected) at is in absurd (cc)
 
 -- each connected port stands
 which-same : {X : Type 0} (s t : X → Bool) (xs : List X) → every (λ x. not (s x) || t x) xs ≡ true → which (λ x. s x && t x) xs ≡ which s xs
@@ -161,7 +167,7 @@ pub held-counts : (w : World) (o : ObjectName) → Held w → standing_count w o
 held-counts w o h = at o.kind o.birth
   where
     at : (k : ObjectKind) (b : Birth) → standing_count w (record { kind = k; birth = b }) ≡ pointer_count w (record { kind = k; birth = b })
-    at kind.Port b = ap (λ n. handle_count w (port_name b) + (count (is_paired_to b) w.ports + (n + (count (is_sent_on b) w.messages + (count (is_made_on b) w.waits + (count (same_birth b) (all_registrations w) + count (is_owned_by b) (all_views w))))))) (ap length (which-same (is_connected_to b) (λ p. is_aside w b p || not (is_cut p)) w.ports (all-stand w b h)))
+    at kind.Port b = ap (λ n. handle_count w (port_name b) + (count (is_paired_to b) w.ports + (n + (count (is_sent_on b) w.messages + (count (is_made_on b) w.waits + (count (same_birth b) (all_registrations w) + (count (is_owned_by b) (all_views w) + count (same_birth b) (event_ports w)))))))) (ap length (which-same (is_connected_to b) (λ p. is_aside w b p || not (is_cut p)) w.ports (all-stand w b h)))
     at e b = refl
 
 -- each section stands

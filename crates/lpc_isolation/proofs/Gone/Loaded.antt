@@ -16,7 +16,7 @@ use Rattle.lpc_model.specs.Memory.{is_section_of}
 use Rattle.lpc_model.specs.Circle.{Group}
 use Rattle.lpc_model.proofs.Steps.Registrations.{every-each}
 use Rattle.lpc_model.proofs.Steps.Rows.{has-off}
-use Rattle.lpc_isolation.proofs.Gone.Counted.{standing-thin, standing-view}
+use Rattle.lpc_isolation.proofs.Gone.Counted.{standing-view}
 use Rattle.lpc_isolation.proofs.Gone.Served.{is_standing_section, standing_count, standing_load}
 use Rattle.lpc_isolation.proofs.Gone.Thin.{Alive, Closed, alive_as, handle_closed, section_alive, space_closed, table_closed, thin, view_closed, offer_alive, wait_closed}
 use Rattle.lpc_isolation.proofs.Rows.Fair.{Fair}
@@ -78,5 +78,5 @@ left p k f g same gone (x ∷ xs) = grind (arith, same x, gone x, left p k f g s
 
 pub load-thin : (k : Alive) (u : World) (pid : ℕ) → Closed k u → standing_load (thin k u) pid ≡ standing_load u pid
 load-thin k u pid c = ap total (left (is_section_of pid) (section_alive k) (is_standing_section (thin k u)) (is_standing_section u)
-    (λ s live. ap (λ n. not (n == 0)) (standing-thin k u (section_name s.birth) live c))
+    (λ s live. refl)
     (λ s dead. ap (λ n. not (n == 0)) (none-stands k u s.birth dead c)) u.sections)

@@ -10,7 +10,7 @@ use Rattle.lpc_model.specs.declared.entry.ObjectKind.{ObjectKind}
 use Rattle.lpc_model.specs.declared.entry.ObjectKind.TheVariants as kind
 use Rattle.lpc_model.specs.World.{ThreadRow, UsedThread, World, no_rows}
 use Rattle.lpc_model.specs.Found.{is_live_thread, is_thread, is_used_thread, live_thread}
-use Rattle.lpc_model.specs.Basics.{Basic, Accepts, Acts, AddsHandle, AddsProcess, AddsSection, AddsThread, AddsToken, Awaits, Binds, Completes, Cuts, Dies, DrawsIdentifier, DrawsOrdinal, DropsHandle, DropsOwned, DropsViewsOf, Empties, Enters, Frees, Joins, Makes, Maps, NamesToken, Receives, Registers, Secures, Takes, TakesConnect, Tells, Unbinds, Unmaps, Unregisters, Wakes, Withdraws, Writes, acting, basic, ended, past_identifier, past_ordinal, registering, unregistering, used, world_after}
+use Rattle.lpc_model.specs.Basics.{Basic, Accepts, Acts, AddsHandle, AddsProcess, AddsSection, AddsThread, AddsToken, Awaits, Binds, Completes, Cuts, Dies, DrawsIdentifier, DrawsOrdinal, DropsHandle, DropsOwned, Dooms, DropsViewsOf, Empties, Enters, Frees, Joins, Leaves, LetsGo, Makes, Maps, Marks, NamesToken, Receives, Registers, Secures, SetsDebug, SetsException, Takes, TakesConnect, Tells, Unbinds, Unmaps, Unregisters, Wakes, Withdraws, Writes, acting, basic, ended, past_identifier, past_ordinal, registering, unregistering, used, world_after}
 use Rattle.lpc_model.specs.Circle.{owner}
 use Rattle.lpc_isolation.proofs.Each.Creates.{kept-owner}
 
@@ -68,6 +68,12 @@ numbers-basic w (Secures b s) n = n
 numbers-basic w (Acts who own) n = every-change (is_numbered w.used_threads) (is_thread who) (acting own) (λ t is. is) w.threads n
 numbers-basic w (AddsToken t) n = n
 numbers-basic w (NamesToken named) n = n
+numbers-basic w (Marks who) n = n
+numbers-basic w (Leaves who) n = n
+numbers-basic w (SetsDebug pid b) n = n
+numbers-basic w (SetsException pid b) n = n
+numbers-basic w (LetsGo pid) n = n
+numbers-basic w (Dooms pid code) n = n
 
 pub numbers-after : (w : World) (bs : List Basic) → Numbers w → Numbers (world_after w bs)
 numbers-after w [] n = n
@@ -137,6 +143,12 @@ owner-basic w (Secures b s) tid pid is = is
 owner-basic w (Acts who own) tid pid is = is
 owner-basic w (AddsToken t) tid pid is = is
 owner-basic w (NamesToken n) tid pid is = is
+owner-basic w (Marks who) tid pid is = is
+owner-basic w (Leaves who) tid pid is = is
+owner-basic w (SetsDebug of_process b) tid pid is = is
+owner-basic w (SetsException of_process b) tid pid is = is
+owner-basic w (LetsGo of_process) tid pid is = is
+owner-basic w (Dooms of_process code) tid pid is = is
 
 pub owner-after : (w : World) (bs : List Basic) (tid pid : ℕ) → owner w tid ≡ Some pid → owner (world_after w bs) tid ≡ Some pid
 owner-after w [] tid pid is = is

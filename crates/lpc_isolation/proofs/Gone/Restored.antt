@@ -18,10 +18,11 @@ use Rattle.lpc_model.specs.declared.entry.Entry.TheVariants as entry
 use Rattle.lpc_model.specs.declared.entry.Word.TheVariants as word
 use Rattle.lpc_model.specs.World.{Impersonation, ThreadRow, World}
 use Rattle.lpc_model.specs.Found.{live_thread}
-use Rattle.lpc_model.specs.Basics.{Basic, entries_of, world_after}
+use Rattle.lpc_model.specs.Basics.{Basic, Tells, entries_of, world_after}
 use Rattle.lpc_model.specs.declared.line.Kind.{Kind}
 use Rattle.lpc_model.specs.Lines.{ResidentLine, ScriptLine, boot, dir, hosts, link, moves, of_resident, run, thread, token}
-use Rattle.lpc_model.specs.Machine.{bare_steps, hosting_status, resident_entry, step, steps}
+use Rattle.lpc_model.specs.Machine.{bare_steps, hosting_status, own_steps, resident_entry, step, steps}
+use Rattle.lpc_model.specs.Settle.{IsSettled}
 use Rattle.lpc_model.specs.Sweep.{sweep}
 use Rattle.lpc_model.proofs.Steps.InTurn.{entries-append}
 use Rattle.lpc_model.specs.Residents.{Resident, State, begun, begun_by, can_call, connected, heard, heard_by, heard_in_turn, is_on, line_done, new_resident, next_call, residents_behind, resolved, turn_done, turning, win32}
@@ -32,7 +33,10 @@ use Rattle.lpc_model.specs.declared.resident.Deed.{Deed}
 use Rattle.lpc_model.specs.declared.resident.Deed.TheVariants.{AnswersConnect, Closes, Completes, Receives, RepliesTo}
 use Rattle.lpc_model.specs.Run.{done_from, first_state, state_behind}
 use Rattle.lpc_model.specs.Circle.{Event, Gave, Group, Item, Nobody, Of, Ran, Told, Whose, as_said, events, full_inputs, given_in, is_input, is_seen, is_told_to, item_of, line_events, line_whose, owned, owner, told_event, thread_whose, gave_event}
-use Rattle.lpc_isolation.proofs.Gone.Swept.{given-append, sweep-gives}
+use Rattle.lpc_isolation.proofs.Endings.Settling.{given-append}
+use Rattle.lpc_isolation.proofs.Gone.Swept.{sweep-gives}
+use Rattle.lpc_isolation.proofs.Gone.Restful.{settled-rests}
+use Rattle.lpc_isolation.proofs.Rows.Firm.{Firm, firm_none, firm-step}
 use Rattle.lpc_isolation.proofs.Gone.Owned.{Numbers, live-has-owner, numbers-after, numbers_none, owner-after}
 
 -- Restoring
@@ -117,19 +121,23 @@ inputs-append m c xs ys = ap (map item_of) (filter-append (is_input m c) xs ys) 
 
 -- A line about a resident
 -- it tells one entry, and gives no token
-one-entry : (w : World) (tid : ℕ) (what : ResidentLine) (had : Bool) → (step w (of_resident tid what had)).entries ≡ resident_entry w tid what had ∷ []
-unfolding bare_steps
-one-entry w tid what had =
+alone-steps : (w : World) (tid : ℕ) (what : ResidentLine) (had : Bool) → IsSettled w → bare_steps (of_resident tid what had) w ≡ Tells (resident_entry w tid what had) ∷ []
+unfolding bare_steps own_steps
+alone-steps w tid what had rest = ap (λ bs. Tells (resident_entry w tid what had) ∷ bs) (settled-rests w rest)
+
+one-entry : (w : World) (tid : ℕ) (what : ResidentLine) (had : Bool) → IsSettled w → (step w (of_resident tid what had)).entries ≡ resident_entry w tid what had ∷ []
+one-entry w tid what had rest =
     let line = of_resident tid what had in
     entries-append (bare_steps line w) (sweep (world_after w (bare_steps line w)))
     ∙ ap (λ es. entries_of (bare_steps line w) ++ es) (sweep-tells (world_after w (bare_steps line w)))
     ∙ append-nil (entries_of (bare_steps line w))
+    ∙ ap entries_of (alone-steps w tid what had rest)
 
-no-gifts : (w : World) (tid : ℕ) (what : ResidentLine) (had : Bool) → given_in (steps (of_resident tid what had) w) ≡ []
-unfolding bare_steps
-no-gifts w tid what had =
+no-gifts : (w : World) (tid : ℕ) (what : ResidentLine) (had : Bool) → IsSettled w → given_in (steps (of_resident tid what had) w) ≡ []
+no-gifts w tid what had rest =
     let line = of_resident tid what had in
     given-append (bare_steps line w) (sweep (world_after w (bare_steps line w))) (sweep-gives (world_after w (bare_steps line w)))
+    ∙ ap given_in (alone-steps w tid what had rest)
 
 line-inputs : (m : Group) (c : ℕ) (w : World) (tid : ℕ) (what : ResidentLine) (had : Bool) → (let line = of_resident tid what had in
     full_inputs m c (line_events w line) ≡ cond (is_seen m (thread_whose w tid)) (Ran line ∷ full_inputs m c (behind_events w line)) (full_inputs m c (behind_events w line)))
@@ -168,18 +176,19 @@ told-status m c w v (Some pid) status = at (m pid) (pid == c)
     at false true = refl
     at false false = refl
 
-hosts-behind-inputs : (m : Group) (c : ℕ) (w : World) (tid : ℕ) (kind : Kind) (handle : ℕ) (had : Bool)
+hosts-behind-inputs : (m : Group) (c : ℕ) (w : World) (tid : ℕ) (kind : Kind) (handle : ℕ) (had : Bool) → IsSettled w
     → full_inputs m c (behind_events w (of_resident tid (hosts kind handle) had)) ≡ cond (is_seen m (thread_whose w tid)) (Told (entry.Directive word.Resident (hosting_status (live_thread w tid) had)) ∷ []) []
 unfolding resident_entry
-hosts-behind-inputs m c w tid kind handle had =
+hosts-behind-inputs m c w tid kind handle had rest =
     let line = of_resident tid (hosts kind handle) had in
-    ap (λ es. full_inputs m c (map (told_event (step w line).world (thread_whose w tid)) es ++ map (gave_event (thread_whose w tid)) (given_in (steps line w)))) (one-entry w tid (hosts kind handle) had)
-    ∙ ap (λ gs. full_inputs m c (told_event (step w line).world (thread_whose w tid) (entry.Directive word.Resident (hosting_status (live_thread w tid) had)) ∷ map (gave_event (thread_whose w tid)) gs)) (no-gifts w tid (hosts kind handle) had)
+    ap (λ es. full_inputs m c (map (told_event (step w line).world (thread_whose w tid)) es ++ map (gave_event (thread_whose w tid)) (given_in (steps line w)))) (one-entry w tid (hosts kind handle) had rest)
+    ∙ ap (λ gs. full_inputs m c (told_event (step w line).world (thread_whose w tid) (entry.Directive word.Resident (hosting_status (live_thread w tid) had)) ∷ map (gave_event (thread_whose w tid)) gs)) (no-gifts w tid (hosts kind handle) had rest)
     ∙ told-status m c w (step w line).world (owner w tid) (hosting_status (live_thread w tid) had)
 
 -- Residents that come
 -- the threads that have residents are those that the inputs tell, as far as the group sees them
 pub record Agrees (m : Group) (s : State (List History)) (threads : List ℕ) : Type 0 where
+  firm : Firm s.world
   numbers : Numbers s.world
   owned : (tid : ℕ) → has (is_on tid) s.residents ≡ true → is_some (owner s.world tid) ≡ true
   inside : (tid : ℕ) → is_in tid threads ≡ true → has (is_on tid) s.residents ≡ true
@@ -243,7 +252,7 @@ off : (b : Bool) → (b ≡ true → ⊥) → b ≡ false
 off true never = absurd (never refl)
 off false never = refl
 
-module _ (m : Group) (s : State (List History)) (threads : List ℕ) (bs : List Basic) (a : Agrees m s threads) where
+module _ (m : Group) (s : State (List History)) (threads : List ℕ) (bs : List Basic) (a : Agrees m s threads) (f : Firm (world_after s.world bs)) where
   stays-owned : (tid : ℕ) → is_some (owner s.world tid) ≡ true → is_some (owner (world_after s.world bs) tid) ≡ true
   stays-owned tid is = at (owner s.world tid) refl is
     where
@@ -265,6 +274,7 @@ module _ (m : Group) (s : State (List History)) (threads : List ℕ) (bs : List 
 
   agrees-still : (rs : List (Resident (List History))) → ((tid : ℕ) → has (is_on tid) rs ≡ has (is_on tid) s.residents) → Agrees m (record { world = world_after s.world bs; residents = rs }) threads
   agrees-still rs same = record {
+    firm = f;
     numbers = numbers-after s.world bs a.numbers;
     owned = λ tid is. stays-owned tid (a.owned tid (sym (same tid) ∙ is));
     inside = λ tid is. same tid ∙ a.inside tid is;
@@ -275,6 +285,7 @@ module _ (m : Group) (s : State (List History)) (threads : List ℕ) (bs : List 
   agrees-hosted : (rs : List (Resident (List History))) (who : ℕ) → ((tid : ℕ) → has (is_on tid) rs ≡ (has (is_on tid) s.residents || (who == tid))) → is_some (live_thread s.world who) ≡ true
       → Agrees m (record { world = world_after s.world bs; residents = rs }) (cond (is_seen m (thread_whose s.world who)) (who ∷ threads) threads)
   agrees-hosted rs who more live = record {
+    firm = f;
     numbers = numbers-after s.world bs a.numbers;
     owned = λ tid is. stays-owned tid (owned-one tid (who == tid) refl (sym (more tid) ∙ is));
     inside = λ tid is. more tid ∙ inside-one tid (is_seen m (thread_whose s.world who)) is;
@@ -379,11 +390,11 @@ succeeds_so live None had is = rw (← is) refl
 succeeds_so live (Some t) true is = rw (← is) refl
 succeeds_so live (Some t) false is = rw (← is) refl
 
-hosts-restores : (m : Group) (c : ℕ) (threads : List ℕ) (w : World) (tid : ℕ) (kind : Kind) (handle : ℕ) (had : Bool) (later : List (Option ScriptLine)) → (is_seen m (thread_whose w tid) ≡ true → is_in tid threads ≡ had)
+hosts-restores : (m : Group) (c : ℕ) (threads : List ℕ) (w : World) (tid : ℕ) (kind : Kind) (handle : ℕ) (had : Bool) (later : List (Option ScriptLine)) → IsSettled w → (is_seen m (thread_whose w tid) ≡ true → is_in tid threads ≡ had)
     → (let line = of_resident tid (hosts kind handle) had in
     let now = cond (is_seen m (thread_whose w tid) && status_success (hosting_status (live_thread w tid) had)) (tid ∷ threads) threads in
     Restores m c now (step w line).world later → Restores m c threads w (Some line ∷ later))
-hosts-restores m c threads w tid kind handle had later shown rest =
+hosts-restores m c threads w tid kind handle had later settled shown rest =
     ap (λ is. restore threads None (map as_said is)) parts
     ∙ at (is_seen m (thread_whose w tid)) refl
     ∙ sym parts
@@ -403,7 +414,7 @@ hosts-restores m c threads w tid kind handle had later shown rest =
     parts : full_inputs m c (events w (Some line ∷ later)) ≡ cond (is_seen m (thread_whose w tid)) (Ran line ∷ told (is_seen m (thread_whose w tid))) (told (is_seen m (thread_whose w tid))) ++ r
     parts =
         inputs-append m c (line_events w line) (events (step w line).world later)
-        ∙ ap (λ is. is ++ r) (line-inputs m c w tid (hosts kind handle) had ∙ ap (λ g. cond (is_seen m (thread_whose w tid)) (Ran line ∷ g) g) (hosts-behind-inputs m c w tid kind handle had))
+        ∙ ap (λ is. is ++ r) (line-inputs m c w tid (hosts kind handle) had ∙ ap (λ g. cond (is_seen m (thread_whose w tid)) (Ran line ∷ g) g) (hosts-behind-inputs m c w tid kind handle had settled))
 
     at : (b : Bool) → is_seen m (thread_whose w tid) ≡ b → restore threads None (map as_said (cond b (Ran line ∷ told b) (told b) ++ r)) ≡ cond b (Ran line ∷ told b) (told b) ++ r
     at true seen =
@@ -415,14 +426,14 @@ hosts-restores m c threads w tid kind handle had later shown rest =
 line-agrees : (m : Group) (s : State (List History)) (threads : List ℕ) (line : ScriptLine) → Agrees m s threads → is_plain (Ran line) ≡ true → line_done win32 s line ≡ line → residents_behind win32 s line (step s.world line).entries ≡ fold (heard win32) s.residents (step s.world line).entries
     → Agrees m (state_behind win32 s (Some line)) threads
 line-agrees m s threads line a plain same heard_is =
-    agrees-still m s threads (steps (line_done win32 s line) s.world) a _
+    agrees-still m s threads (steps (line_done win32 s line) s.world) a (firm-step s.world (line_done win32 s line) a.firm) _
     (λ tid. ap (λ l. has (is_on tid) (residents_behind win32 s line (step s.world l).entries)) same ∙ ap (has (is_on tid)) heard_is ∙ fold-has tid (heard win32) (heard-has tid) s.residents (step s.world line).entries)
 
 turned-agrees : (m : Group) (s : State (List History)) (threads : List ℕ) (tid : ℕ) (had : Bool) → Agrees m s threads → Agrees m (state_behind win32 s (Some (of_resident tid moves had))) threads
 turned-agrees m s threads who had a =
     let line = of_resident who moves had in
     let entries = (step s.world (line_done win32 s line)).entries in
-    agrees-still m s threads (steps (line_done win32 s line) s.world) a _
+    agrees-still m s threads (steps (line_done win32 s line) s.world) a (firm-step s.world (line_done win32 s line) a.firm) _
     (λ tid. fold-has tid (heard_in_turn win32) (turn-has tid) (turning win32 s line) entries ∙ turning-has tid who s (can_call s.world who))
 
 and-none : (b : Bool) → (b && false) ≡ false
@@ -462,10 +473,10 @@ hosted-agrees m s threads who kind handle had a = at (is_some (live_thread s.wor
         goes true comes =
             let lives : live ≡ true = first-true live (not there) comes in
             subst (λ b. Agrees m (record { world = behind; residents = rs ++ new_resident win32 who handle ∷ [] }) (cond b (who ∷ threads) threads)) (sym (ap (λ b. is_seen m (thread_whose s.world who) && b) (succeeds_so live (live_thread s.world who) there is ∙ comes) ∙ and-true (is_seen m (thread_whose s.world who))))
-            (agrees-hosted m s threads (steps (line_done win32 s line) s.world) a (rs ++ new_resident win32 who handle ∷ []) who (λ tid. has-more tid rs (new_resident win32 who handle) ∙ ap (λ b. b || (who == tid)) (kept tid)) (is ∙ lives))
+            (agrees-hosted m s threads (steps (line_done win32 s line) s.world) a (firm-step s.world (line_done win32 s line) a.firm) (rs ++ new_resident win32 who handle ∷ []) who (λ tid. has-more tid rs (new_resident win32 who handle) ∙ ap (λ b. b || (who == tid)) (kept tid)) (is ∙ lives))
         goes false comes =
             subst (λ b. Agrees m (record { world = behind; residents = rs }) (cond b (who ∷ threads) threads)) (sym (ap (λ b. is_seen m (thread_whose s.world who) && b) (succeeds_so live (live_thread s.world who) there is ∙ comes) ∙ and-none (is_seen m (thread_whose s.world who))))
-            (agrees-still m s threads (steps (line_done win32 s line) s.world) a rs kept)
+            (agrees-still m s threads (steps (line_done win32 s line) s.world) a (firm-step s.world (line_done win32 s line) a.firm) rs kept)
 
 -- Runs
 -- later lines restore whatever the state behind a line is
@@ -504,7 +515,7 @@ hosts-on : (m : Group) (c : ℕ) (s : State (List History)) (threads : List ℕ)
 hosts-on m c s threads tid kind handle had later a on =
     let line = of_resident tid (hosts kind handle) had in
     let there = has (is_on tid) s.residents in
-    hosts-restores m c threads s.world tid kind handle there (done_from win32 (state_behind win32 s (Some line)) later) (λ seen. a.same tid seen)
+    hosts-restores m c threads s.world tid kind handle there (done_from win32 (state_behind win32 s (Some line)) later) a.firm.settled (λ seen. a.same tid seen)
     (on (state_behind win32 s (Some line)) (cond (is_seen m (thread_whose s.world tid) && status_success (hosting_status (live_thread s.world tid) there)) (tid ∷ threads) threads) (hosted-agrees m s threads tid kind handle had a))
 
 line-on : (m : Group) (c : ℕ) (s : State (List History)) (threads : List ℕ) (line : ScriptLine) (later : List (Option ScriptLine)) → Agrees m s threads → Onwards m c later → Restores m c threads s.world (done_from win32 s (Some line ∷ later))
@@ -519,8 +530,8 @@ line-on m c s threads (of_resident tid (hosts kind handle) had) later a on = hos
 
 pub restores : (m : Group) (c : ℕ) (s : State (List History)) (threads : List ℕ) (lines : List (Option ScriptLine)) → Agrees m s threads → Restores m c threads s.world (done_from win32 s lines)
 restores m c s threads [] a = refl
-restores m c s threads (None ∷ later) a = restores m c (state_behind win32 s None) threads later (agrees-still m s threads [] a s.residents (λ tid. refl))
+restores m c s threads (None ∷ later) a = restores m c (state_behind win32 s None) threads later (agrees-still m s threads [] a a.firm s.residents (λ tid. refl))
 restores m c s threads (Some line ∷ later) a = line-on m c s threads line later a (λ t known agrees. restores m c t known later agrees)
 
 pub agrees_none : (m : Group) → Agrees m first_state []
-agrees_none m = record { numbers = numbers_none; owned = λ tid is. absurd (cc); inside = λ tid is. absurd (cc); same = λ tid seen. refl }
+agrees_none m = record { firm = firm_none; numbers = numbers_none; owned = λ tid is. absurd (cc); inside = λ tid is. absurd (cc); same = λ tid seen. refl }

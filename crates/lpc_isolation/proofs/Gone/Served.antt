@@ -1,4 +1,5 @@
 -- The machine whose rows never go: it counts for an object what counts for it once rows that nothing names have gone.
+use Rattle.lpc_model.specs.Settle.{settle}
 use Rattle.std.specs.List.{sum}
 use Rattle.lpc_base.specs.declared.limits.TheConstants.{SECTION_LIMIT}
 use Rattle.lpc_base.specs.Views.{whole_pages}
@@ -15,17 +16,17 @@ use Rattle.lpc_model.specs.declared.entry.ObjectKind.{ObjectKind}
 use Rattle.lpc_model.specs.declared.entry.ObjectKind.TheVariants as kind
 use Rattle.lpc_model.specs.Then.{◌>>=◌}
 use Rattle.lpc_model.specs.World.{Birth, HandleRow, MessageRow, ObjectName, PortRow, ThreadRow, WaitRow, World, SectionRow}
-use Rattle.lpc_model.specs.Found.{handle_count, is_client_port, is_connected_to, is_cut, is_made_on, is_paired_to, holders, is_queued, is_sent_on, live_thread, port_name, wait_of, same_birth, all_registrations, section_name, free_handle, all_views, is_owned_by}
-use Rattle.lpc_model.specs.Basics.{Basic, Steps, Tells}
+use Rattle.lpc_model.specs.Found.{handle_count, is_client_port, is_connected_to, is_cut, is_made_on, is_paired_to, holders, is_queued, is_sent_on, live_thread, port_name, wait_of, same_birth, all_registrations, section_name, free_handle, all_views, is_owned_by, event_ports}
+use Rattle.lpc_model.specs.Basics.{Basic, Steps, Tells, ◌▹◌}
 use Rattle.lpc_model.specs.Fields.{object_fields}
 use Rattle.lpc_model.specs.Standing.{is_near}
 use Rattle.lpc_model.specs.Tests.{own_handle, handles_test}
-use Rattle.lpc_model.specs.Lines.{of_resident, ScriptCall, ScriptLine, boot, dir, link, query_object, run, thread, create_section, token}
-use Rattle.lpc_model.specs.Machine.{Stepped, bare_steps, landed, name_of_call, service_of, settled}
+use Rattle.lpc_model.specs.Lines.{ScriptCall, ScriptLine, boot, dir, link, query_object, run, thread, create_section, token, of_resident}
+use Rattle.lpc_model.specs.Machine.{Stepped, own_steps, landed, name_of_call, service_of, settled}
 
 -- What counts for an object
 -- A handle to a client or server port; a message that was sent on it, which is a client port's in the queue of its connection
--- port; a wait that was made on it, which is a client port's on a queue near it; that a live thread registered it; or a view that it owns.
+-- port; a wait that was made on it, which is a client port's on a queue near it; that a live thread registered it; a view that it owns; or a process that has it for its exceptions.
 abbrev pub is_sent_to : Birth → PortRow → MessageRow → Bool
 is_sent_to b p x = is_sent_on p.birth x && (is_queued b x || not (is_client_port p))
 
@@ -35,7 +36,8 @@ is_made_to p x = is_made_on p.birth x && (is_near x p || not (is_client_port p))
 abbrev pub is_aside : World → Birth → PortRow → Bool
 is_aside v b p =
     not (handle_count v (port_name p.birth) == 0)
-    || (has (is_sent_to b p) v.messages || (has (is_made_to p) v.waits || (has (same_birth p.birth) (all_registrations v) || has (is_owned_by p.birth) (all_views v))))
+    || (has (is_sent_to b p) v.messages || (has (is_made_to p) v.waits || (has (same_birth p.birth) (all_registrations v)
+    || (has (is_owned_by p.birth) (all_views v) || has (same_birth p.birth) (event_ports v)))))
 
 -- a port connected to this one, for which such a row or its other end counts
 abbrev pub is_standing : World → Birth → PortRow → Bool
@@ -45,7 +47,8 @@ is_standing v b p = is_connected_to b p && (is_aside v b p || not (is_cut p))
 abbrev pub standing_holders : World → Birth → ℕ
 standing_holders v b =
     count (is_paired_to b) v.ports + (count (is_standing v b) v.ports + (count (is_sent_on b) v.messages
-    + (count (is_made_on b) v.waits + (count (same_birth b) (all_registrations v) + count (is_owned_by b) (all_views v)))))
+    + (count (is_made_on b) v.waits + (count (same_birth b) (all_registrations v) + (count (is_owned_by b) (all_views v)
+    + count (same_birth b) (event_ports v))))))
 
 abbrev pub standing_as : World → ObjectKind → Birth → ℕ
 standing_as v kind.Port b = standing_holders v b
@@ -102,14 +105,21 @@ abbrev pub served_thread : ℕ → ScriptCall → Option ThreadRow → Steps
 served_thread tid call None w = Tells (NoThread tid) ∷ []
 served_thread tid call (Some by) w = served_ready by call (wait_of w tid) w
 
+abbrev pub own_served : ScriptLine → Steps
+own_served (boot pid tid name) w = own_steps (boot pid tid name) w
+own_served (token name content) w = own_steps (token name content) w
+own_served (thread tid pid) w = own_steps (thread tid pid) w
+own_served (dir path) w = own_steps (dir path) w
+own_served (link path target) w = own_steps (link path target) w
+own_served (of_resident tid what had) w = own_steps (of_resident tid what had) w
+own_served (run tid call) w = served_thread tid call (live_thread w tid) w
+
+abbrev pub own_served_step : World → ScriptLine → Stepped
+own_served_step w line = landed w (own_served line w)
+
+-- and then the world settles
 abbrev pub served_steps : ScriptLine → Steps
-served_steps (boot pid tid name) w = bare_steps (boot pid tid name) w
-served_steps (token name content) w = bare_steps (token name content) w
-served_steps (thread tid pid) w = bare_steps (thread tid pid) w
-served_steps (dir path) w = bare_steps (dir path) w
-served_steps (link path target) w = bare_steps (link path target) w
-served_steps (of_resident tid what had) w = bare_steps (of_resident tid what had) w
-served_steps (run tid call) w = served_thread tid call (live_thread w tid) w
+served_steps line = own_served line ▹ settle
 
 abbrev pub served_step : World → ScriptLine → Stepped
 served_step w line = landed w (served_steps line w)

@@ -1,6 +1,11 @@
 -- No run tells when rows go: the machine that sweeps at the end of each line tells what one does whose rows never go.
+use Rattle.lpc_base.proofs.RowWords.{every-append}
+use Rattle.lpc_model.proofs.Settling.Settled.{IsReady}
+use Rattle.lpc_model.specs.Settle.{settle}
+use Rattle.lpc_isolation.proofs.Gone.Settles.{settle-born, settle-closed, settle-sent, settle-thin}
+use Rattle.lpc_model.specs.Left.{HasLivingPorts}
 use Rattle.lpc_model.specs.Memory.{nt_create_section}
-use Rattle.lpc_isolation.proofs.Gone.ServedLines.{served-firm}
+use Rattle.lpc_isolation.proofs.Gone.ServedLines.{served-firm, served-ready}
 use Rattle.lpc_isolation.proofs.Gone.Born.{Born, line-born}
 use Rattle.lpc_isolation.proofs.Gone.Grown.{Grows, IsNew, boot-grows, either, either-closed, grown, next-births, next_births, room-of, thread-grows}
 use Rattle.lpc_isolation.proofs.Calls.Laws.{Room}
@@ -16,9 +21,9 @@ use Rattle.lpc_model.specs.Found.{handle_count, live_thread, wait_of, named_toke
 use Rattle.lpc_model.specs.Basics.{Basic, Tells, entries_of, world_after}
 use Rattle.lpc_model.specs.Tests.{own_handle}
 use Rattle.lpc_model.specs.Named.{free_name, spelled_name}
-use Rattle.lpc_model.specs.Lines.{of_resident, ResidentLine, hosts, moves, ScriptCall, ScriptLine, boot, dir, link, query_object, run, thread, create_section, token}
-use Rattle.lpc_model.specs.Machine.{resident_entry, idle_entry, hosting_status, bare_steps, boot_line, dir_line, link_line, name_of_call, ready_steps, service_of, settled, step, thread_line, thread_steps, thread_test, unused_test, boot_token, token_line}
-use Rattle.lpc_isolation.proofs.Gone.Served.{served, served_ready, served_step, served_steps, served_thread}
+use Rattle.lpc_model.specs.Lines.{ScriptCall, ScriptLine, boot, dir, link, query_object, run, thread, create_section, token, of_resident, ResidentLine, hosts, moves}
+use Rattle.lpc_model.specs.Machine.{bare_steps, boot_line, dir_line, link_line, name_of_call, ready_steps, service_of, settled, step, thread_line, thread_steps, thread_test, unused_test, boot_token, token_line, own_steps, resident_entry, idle_entry, hosting_status}
+use Rattle.lpc_isolation.proofs.Gone.Served.{served, served_ready, served_step, served_steps, served_thread, own_served}
 use Rattle.lpc_model.specs.Sweep.{sweep}
 use Rattle.lpc_model.specs.SoundWaits.{IsSoundWorld}
 use Rattle.lpc_model.specs.Linked.{HasHeldPorts, HasHeldSections}
@@ -30,7 +35,7 @@ use Rattle.lpc_model.specs.declared.entry.Entry.TheVariants.{Answer, Directive}
 use Rattle.lpc_model.proofs.Linked.Lines.{held_step}
 use Rattle.lpc_model.proofs.Calls.Usable.{live-number}
 use Rattle.lpc_isolation.proofs.Views.Seen.{bind-same}
-use Rattle.lpc_isolation.proofs.Rows.Sent.{Sent, are_sent, is_sent_home, run-sent}
+use Rattle.lpc_isolation.proofs.Rows.Sent.{Sent, are_sent, is_sent_home, run-sent, append-sent}
 use Rattle.lpc_isolation.proofs.Gone.Held.{Held, held-counts, held-load}
 use Rattle.lpc_model.proofs.Calls.Holding.{bind_holds, directed_holds, settled_holds}
 use Rattle.lpc_model.proofs.Held.FreedPort.{sweep-tells}
@@ -41,17 +46,17 @@ use Rattle.lpc_isolation.proofs.Rows.Firm.{Firm, firm-line, firm-step}
 use Rattle.lpc_model.specs.Refusal.{refuse_if}
 
 -- Lines
-ready-thin : (k : Alive) (u : World) (by : ThreadRow) (call : ScriptCall) (o : Option WaitRow) → live_thread u by.number ≡ Some by → IsSoundWorld u → Closed k u → served_ready by call o (thin k u) ≡ served_ready by call o u
-ready-thin k u by call (Some x) live s c = refl
-ready-thin k u by call None live s c = ap (settled by (name_of_call call)) ((lawful call).alike k u by live s c)
+ready-thin : (k : Alive) (u : World) (by : ThreadRow) (call : ScriptCall) (o : Option WaitRow) → live_thread u by.number ≡ Some by → IsSoundWorld u → HasLivingPorts u → Closed k u → served_ready by call o (thin k u) ≡ served_ready by call o u
+ready-thin k u by call (Some x) live s p c = refl
+ready-thin k u by call None live s p c = ap (settled by (name_of_call call)) ((lawful call).alike k u by live s p c)
 
 -- a thread that is found by its number
 own-live : (u : World) (tid : ℕ) (by : ThreadRow) → live_thread u tid ≡ Some by → live_thread u by.number ≡ Some by
 own-live u tid by live = subst (λ n. live_thread u n ≡ Some by) (sym (live-number u tid by live)) live
 
-thread-thin : (k : Alive) (u : World) (tid : ℕ) (call : ScriptCall) (o : Option ThreadRow) → live_thread u tid ≡ o → IsSoundWorld u → Closed k u → served_thread tid call o (thin k u) ≡ served_thread tid call o u
-thread-thin k u tid call None live s c = refl
-thread-thin k u tid call (Some by) live s c = ready-thin k u by call (wait_of u tid) (own-live u tid by live) s c
+thread-thin : (k : Alive) (u : World) (tid : ℕ) (call : ScriptCall) (o : Option ThreadRow) → live_thread u tid ≡ o → IsSoundWorld u → HasLivingPorts u → Closed k u → served_thread tid call o (thin k u) ≡ served_thread tid call o u
+thread-thin k u tid call None live s p c = refl
+thread-thin k u tid call (Some by) live s p c = ready-thin k u by call (wait_of u tid) (own-live u tid by live) s p c
 
 -- what is told of a resident
 resident-thin : (k : Alive) (u : World) (tid : ℕ) (what : ResidentLine) (had : Bool) → Closed k u → resident_entry (thin k u) tid what had ≡ resident_entry u tid what had
@@ -59,16 +64,16 @@ unfolding resident_entry
 resident-thin k u tid (hosts kind handle) had c = ap (λ o. Directive word.Resident (hosting_status o had)) (live-thin k u tid c)
 resident-thin k u tid moves had c = ap (λ o. idle_entry tid o had) (live-thin k u tid c)
 
-pub line-thin : (k : Alive) (u : World) (line : ScriptLine) → IsSoundWorld u → Closed k u → served_steps line (thin k u) ≡ served_steps line u
-unfolding bare_steps boot_line token_line thread_line dir_line link_line
-line-thin k u (thread tid pid) s c = rw (is_live-thin k u pid c, threads-thin k u pid c) refl
-line-thin k u (run tid call) s c = ap (λ o. served_thread tid call o (thin k u)) (live-thin k u tid c) ∙ thread-thin k u tid call (live_thread u tid) refl s c
-line-thin k u (boot pid tid None) s c = refl
-line-thin k u (boot pid tid (Some name)) s c = refl
-line-thin k u (token name content) s c = refl
-line-thin k u (dir path) s c = refl
-line-thin k u (link path target) s c = refl
-line-thin k u (of_resident tid what had) s c = ap (λ e. Tells e ∷ []) (resident-thin k u tid what had c)
+pub line-thin : (k : Alive) (u : World) (line : ScriptLine) → IsSoundWorld u → HasLivingPorts u → Closed k u → own_served line (thin k u) ≡ own_served line u
+unfolding own_steps boot_line token_line thread_line dir_line link_line
+line-thin k u (thread tid pid) s p c = rw (is_live-thin k u pid c, threads-thin k u pid c) refl
+line-thin k u (run tid call) s p c = ap (λ o. served_thread tid call o (thin k u)) (live-thin k u tid c) ∙ thread-thin k u tid call (live_thread u tid) refl s p c
+line-thin k u (boot pid tid None) s p c = refl
+line-thin k u (boot pid tid (Some name)) s p c = refl
+line-thin k u (token name content) s p c = refl
+line-thin k u (dir path) s p c = refl
+line-thin k u (link path target) s p c = refl
+line-thin k u (of_resident tid what had) s p c = ap (λ e. Tells e ∷ []) (resident-thin k u tid what had c)
 
 ready-closed : (k : Alive) (u : World) (by : ThreadRow) (call : ScriptCall) (o : Option WaitRow) → live_thread u by.number ≡ Some by → IsSoundWorld u → Closed k u → Room k u by call → AreClosed k (served_ready by call o u)
 ready-closed k u by call (Some x) live s c new = refl
@@ -86,8 +91,8 @@ run-ready k u tid call (Some by) live s b c =
 same-ready : (k : Alive) (u : World) (bs : List Basic) → Closed k u → AreClosed k bs → Grows k u bs
 same-ready k u bs c names = record { alive = k; same = refl; closed = c; names = names }
 
-line-ready : (k : Alive) (u : World) (line : ScriptLine) → IsSoundWorld u → Born u → Closed k u → Grows k u (served_steps line u)
-unfolding bare_steps token_line dir_line link_line
+line-ready : (k : Alive) (u : World) (line : ScriptLine) → IsSoundWorld u → Born u → Closed k u → Grows k u (own_served line u)
+unfolding own_steps token_line dir_line link_line
 line-ready k u (boot pid tid name) s b c = boot-grows k u pid tid name b c
 line-ready k u (token name content) s b c = same-ready k u _ c (directed_holds (AreClosed k) word.Token (token_line u name content) (bind_holds (refuse_if (is_some (named_token u name)) OBJECT_NAME_COLLISION) _ (AreClosed k) (λ _ _. refl)) (λ _. refl))
 line-ready k u (thread tid pid) s b c = thread-grows k u tid pid b c
@@ -119,8 +124,8 @@ thread-held w tid call (Some by) h = at (wait_of w tid)
     at (Some x) = refl
     at None = ap (settled by (name_of_call call)) (call-held w by call h)
 
-line-held : (w : World) (line : ScriptLine) → Held w → bare_steps line w ≡ served_steps line w
-unfolding bare_steps
+line-held : (w : World) (line : ScriptLine) → Held w → own_steps line w ≡ own_served line w
+unfolding own_steps
 line-held w (run tid call) h = thread-held w tid call (live_thread w tid) h
 line-held w b h = refl
 
@@ -136,8 +141,8 @@ thread-sends u tid call (Some by) live s = at (wait_of u tid)
     at (Some x) = refl
     at None = settled_holds (λ bs. are_sent u bs ≡ true) by (name_of_call call) (served u by call) ((lawful call).sent u by s own) (λ _ _. refl)
 
-line-sends : (u : World) (line : ScriptLine) → IsSoundWorld u → are_sent u (served_steps line u) ≡ true
-unfolding bare_steps boot_line token_line thread_line dir_line link_line
+line-sends : (u : World) (line : ScriptLine) → IsSoundWorld u → are_sent u (own_served line u) ≡ true
+unfolding own_steps boot_line token_line thread_line dir_line link_line
 line-sends u (boot pid tid name) s = directed_holds (λ bs. are_sent u bs ≡ true) word.Boot (boot_line u pid tid name) (bind_holds (boot_token u name) _ (λ bs. are_sent u bs ≡ true) (λ _ _. bind_holds (unused_test u pid tid) _ (λ bs. are_sent u bs ≡ true) (λ _ _. refl))) (λ _. refl)
 line-sends u (token name content) s = directed_holds (λ bs. are_sent u bs ≡ true) word.Token (token_line u name content) (bind_holds (refuse_if (is_some (named_token u name)) OBJECT_NAME_COLLISION) _ (λ bs. are_sent u bs ≡ true) (λ _ _. refl)) (λ _. refl)
 line-sends u (thread tid pid) s = directed_holds (λ bs. are_sent u bs ≡ true) word.Thread (thread_line u tid pid) (bind_holds (thread_test u tid pid) _ (λ bs. are_sent u bs ≡ true) (λ _ _. refl)) (λ _. refl)
@@ -166,15 +171,16 @@ pub record InStep (w u : World) (line : ScriptLine) : Type 0 where
   pub sides : Sides (step w line).world (served_step u line).world
 
 pub line-behind : (w u : World) (line : ScriptLine) → has_ids line ≡ true → Sides w u → InStep w u line
+unfolding bare_steps
 line-behind w u line ids t = record {
   same = same;
   sides = record {
     firm = firm-step w line t.firm;
-    ports = (held_step w line t.firm.sound t.firm.linked).ports;
-    sections = (held_step w line t.firm.sound t.firm.linked).sections;
+    ports = (held_step w line t.firm.sound (firm-line w line t.firm).ports t.firm.linked).ports;
+    sections = (held_step w line t.firm.sound (firm-line w line t.firm).ports t.firm.linked).sections;
     bare = served-firm u line t.bare;
-    sent = run-sent u (served_steps line u) (line-sends u line t.bare.sound) t.sent;
-    born = line-born u line ids t.born;
+    sent = run-sent u (served_steps line u) (append-sent u (own_served line u) (settle v) (line-sends u line t.bare.sound) (settle-sent v)) t.sent;
+    born = subst Born (sym (after-append u (own_served line u) (settle v))) (settle-born v (line-born u line ids t.born));
     behind = swept;
   };
 }
@@ -182,28 +188,54 @@ line-behind w u line ids t = record {
     r : Behind w u
     r = t.behind
 
-    ready : Grows r.alive u (served_steps line u)
-    ready = line-ready r.alive u line t.bare.sound t.born r.closed
+    -- by its own steps
+    own : Grows r.alive u (own_served line u)
+    own = line-ready r.alive u line t.bare.sound t.born r.closed
 
-    here : w ≡ thin ready.alive u
-    here = r.same ∙ ready.same
+    here : w ≡ thin own.alive u
+    here = r.same ∙ own.same
 
     held : Held w
     held = record { linked = t.firm.linked; ports = t.ports; sections = t.sections; names = t.firm.names; sent = subst Sent (sym r.same) (sent-thin r.alive u r.closed t.sent) }
 
+    ports : HasLivingPorts u
+    ports = let lived = t.bare.lived in lived.ports
+
+    own-same : own_steps line w ≡ own_served line u
+    own-same = line-held w line held ∙ ap (own_served line) here ∙ line-thin own.alive u line t.bare.sound ports own.closed
+
+    -- and when it settles
+    v : World
+    v = world_after u (own_served line u)
+
+    ready : IsReady v
+    ready = served-ready u line t.bare
+
+    closed : Closed own.alive v
+    closed = closed-run own.alive u (own_served line u) own.names own.closed
+
+    after : world_after w (own_steps line w) ≡ thin own.alive v
+    after = ap (world_after w) own-same ∙ ap (λ x. world_after x (own_served line u)) here ∙ sym (thin-run own.alive u (own_served line u) own.names)
+
     same : bare_steps line w ≡ served_steps line u
-    same = line-held w line held ∙ ap (served_steps line) here ∙ line-thin ready.alive u line t.bare.sound ready.closed
+    same = ap (λ bs. bs ++ settle (world_after w (own_steps line w))) own-same ∙ ap (λ x. own_served line u ++ settle x) after ∙ ap (λ bs. own_served line u ++ bs) (settle-thin own.alive v ready closed)
+
+    names : AreClosed own.alive (served_steps line u)
+    names = every-append _ (own_served line u) (settle v) own.names (settle-closed own.alive v ready closed)
 
     bare : Behind (world_after w (bare_steps line w)) (served_step u line).world
     bare = record {
-      alive = ready.alive;
-      same = ap (λ bs. world_after w bs) same ∙ ap (λ v. world_after v (served_steps line u)) here ∙ sym (thin-run ready.alive u (served_steps line u) ready.names);
-      closed = closed-run ready.alive u (served_steps line u) ready.names ready.closed;
+      alive = own.alive;
+      same = ap (λ bs. world_after w bs) same ∙ ap (λ x. world_after x (served_steps line u)) here ∙ sym (thin-run own.alive u (served_steps line u) names);
+      closed = closed-run own.alive u (served_steps line u) names own.closed;
     }
 
+    living : HasLivingPorts (served_step u line).world
+    living = let f = served-firm u line t.bare in let lived = f.lived in lived.ports
+
     swept : Behind (step w line).world (served_step u line).world
-    swept = subst (λ v. Behind v (served_step u line).world) (sym (after-append w (bare_steps line w) (sweep (world_after w (bare_steps line w)))))
-        (let f = firm-line w line t.firm in behind-sweep (world_after w (bare_steps line w)) (served_step u line).world f.sound f.linked bare)
+    swept = subst (λ x. Behind x (served_step u line).world) (sym (after-append w (bare_steps line w) (sweep (world_after w (bare_steps line w)))))
+        (let f = firm-line w line t.firm in behind-sweep (world_after w (bare_steps line w)) (served_step u line).world living f.sound f.linked bare)
 
 append-none : (es : List Entry) → es ++ [] ≡ es
 append-none [] = refl

@@ -1,38 +1,46 @@
 -- The law over the machine that sweeps, from the law over the one whose rows never go.
+use Rattle.lpc_model.proofs.Steps.InTurn.{after-append}
+use Rattle.lpc_model.specs.Settle.{IsSettled, settle}
+use Rattle.lpc_isolation.proofs.Endings.Settling.{given-append}
+use Rattle.lpc_isolation.proofs.Gone.Settles.{settle-fine}
+use Rattle.lpc_isolation.proofs.Gone.Restful.{settled-rests}
+use Rattle.lpc_isolation.proofs.Gone.ThinCalls.{row-thin}
+use Rattle.lpc_model.specs.Linked.{passes_or_none}
+use Rattle.lpc_model.specs.Left.{HasLivingPorts, is_portless}
 use Rattle.lpc_isolation.proofs.Each.Described.{described-thin}
 use Rattle.lpc_isolation.proofs.Calls.Services.{lawful}
 use Rattle.lpc_isolation.proofs.Gone.Fine.{AreFine, FineAfter, run-fine}
 use Rattle.std.proofs.Common.{◌≡◌, ℕ, List, [], ◌∷◌, ◌++◌, Bool, true, false, cond, not, map, Option, Some, None, refl, ap, sym, subst, ◌∙◌, arith}
 use Rattle.std.specs.Prelude.{◌||◌, ◌==◌, is_some}
-use Rattle.std.proofs.lemmas.Bool.{or_left, or_right}
+use Rattle.std.proofs.lemmas.Bool.{or_left, or_right, and_from}
 use Rattle.std.proofs.lemmas.Bool.Decides.{nat_tests}
-use Rattle.lpc_base.specs.Rows.{has, passes, which}
+use Rattle.lpc_base.specs.Rows.{has, passes, which, every}
 use Rattle.lpc_base.proofs.Bools.{first-true, second-true}
 use Rattle.lpc_model.specs.declared.entry.Entry.{Entry}
 use Rattle.lpc_model.specs.declared.entry.Entry.TheVariants as entry
 use Rattle.lpc_model.specs.declared.entry.Word.TheVariants as word
-use Rattle.lpc_model.specs.World.{Birth, ThreadRow, WaitRow, World, no_rows, ObjectName}
-use Rattle.lpc_model.specs.Found.{live_thread, wait_of, named_token}
+use Rattle.lpc_model.specs.World.{Birth, ThreadRow, WaitRow, World, no_rows, ObjectName, ProcessRow}
+use Rattle.lpc_model.specs.Found.{live_thread, wait_of, named_token, event_ports_of, port_row}
 use Rattle.lpc_model.specs.Named.{free_name, spelled_name}
 use Rattle.lpc_model.specs.Lines.{of_resident, ScriptCall, ScriptLine, accept_connect_port, boot, complete_connect_port, connect_port, create_port, dir, link, listen_port, reply_port, reply_wait_receive_port, request_port, request_wait_reply_port, run, thread, read_request_data, token}
 use Rattle.lpc_model.specs.Grammar.{has_ids}
-use Rattle.lpc_isolation.proofs.Gone.Born.{born_none}
+use Rattle.lpc_isolation.proofs.Gone.Born.{born_none, Born}
 use Rattle.lpc_isolation.proofs.Rows.Ids.{script-says}
 use Rattle.lpc_isolation.proofs.Plays.Play.{are_ok}
 use Rattle.lpc_model.specs.Basics.{Basic, world_after, Frees}
 use Rattle.lpc_model.specs.Sweep.{sweep, free_unheld, unheld}
-use Rattle.lpc_model.specs.Machine.{bare_steps, boot_line, dir_line, link_line, name_of_call, step, steps, thread_line, thread_test, unused_test, boot_token, token_line}
-use Rattle.lpc_isolation.proofs.Gone.Served.{served, served_ready, served_step, served_steps, served_thread}
+use Rattle.lpc_model.specs.Machine.{bare_steps, boot_line, dir_line, link_line, name_of_call, step, steps, thread_line, thread_test, unused_test, boot_token, token_line, own_steps}
+use Rattle.lpc_isolation.proofs.Gone.Served.{served, served_ready, served_step, served_steps, served_thread, own_served}
 use Rattle.lpc_model.specs.Run.{Along, said_in, world_behind}
-use Rattle.lpc_model.specs.Circle.{events_of, Event, Everyone, Group, HasInnerViews, IsCircleIn, IsFineAt, IsFineWorld, Nobody, Of, Ran, Told, Whose, entry_whose, events, full_inputs, is_fine_call, is_fine_line, is_item, is_outer, is_outer_at, is_seen, is_write_of, item_of, full_items, line_events, line_whose, members, outsider_sees, owner, told_event, IsInnerAt, ReadsInner, gave_event, given_in, gave}
-use Rattle.lpc_isolation.proofs.Views.Alone.{HasFineRows, alone, WritesOuter}
+use Rattle.lpc_model.specs.Circle.{Event, Everyone, Group, HasInnerViews, IsCircleIn, IsFineAt, IsFineWorld, Nobody, Of, Ran, Told, Whose, entry_whose, events, is_fine_call, is_fine_line, is_item, is_outer, is_outer_at, is_seen, is_write_of, item_of, line_events, line_whose, members, outsider_sees, owner, told_event, IsInnerAt, ReadsInner, gave_event, given_in, is_fine_event_port, is_fine_raiser, is_told_inside, events_of, full_inputs, full_items}
+use Rattle.lpc_isolation.proofs.Views.Alone.{HasFineRows, alone, WritesOuter, HasFineRaisers}
 use Rattle.lpc_isolation.proofs.Gone.Bare.{BareIsolation, IsApartAt, IsBareCircle, bare_events, bare_line_events, HasViewsApart}
 use Rattle.lpc_model.proofs.Calls.Holding.{bind_holds, directed_holds, settled_holds}
 use Rattle.lpc_model.proofs.Calls.Usable.{live-number}
 use Rattle.lpc_isolation.proofs.Plays.BareLaw.{bare-isolation}
-use Rattle.lpc_isolation.proofs.Gone.Thin.{Alive, Behind, thin, Closed, live-thin}
+use Rattle.lpc_isolation.proofs.Gone.Thin.{Alive, Behind, thin, Closed, live-thin, hearer_closed, hearer_gone, hearers-gone, portless-none, process_alive}
 use Rattle.lpc_isolation.proofs.Gone.Sweeps.{InStep, Sides, entries-same, line-behind}
-use Rattle.lpc_isolation.proofs.Rows.Firm.{firm_none}
+use Rattle.lpc_isolation.proofs.Rows.Firm.{firm_none, Firm}
 use Rattle.lpc_model.specs.Refusal.{refuse_if}
 use Rattle.lpc_base.specs.declared.status.TheConstants.{OBJECT_NAME_COLLISION}
 
@@ -74,10 +82,6 @@ sweep-gives w =
     let v = world_after w (free_unheld w) in
     frees-give (unheld w) (free_unheld v) ∙ (ap given_in (sym (append-nil (free_unheld v))) ∙ frees-give (unheld v) [])
 
-pub given-append : (bs cs : List Basic) → given_in cs ≡ [] → given_in (bs ++ cs) ≡ given_in bs
-given-append [] cs none = none
-given-append (b ∷ bs) cs none = ap (λ gs. gave b ++ gs) (given-append bs cs none)
-
 given-same : (w u : World) (line : ScriptLine) → InStep w u line → given_in (steps line w) ≡ given_in (served_steps line u)
 given-same w u line a = given-append (bare_steps line w) (sweep (world_after w (bare_steps line w))) (sweep-gives (world_after w (bare_steps line w))) ∙ ap given_in a.same
 
@@ -109,8 +113,8 @@ thread-fine : (m : Group) (c : ℕ) (after u : World) (tid : ℕ) (call : Script
 thread-fine m c after u tid call None live f = λ _. refl
 thread-fine m c after u tid call (Some by) live f = ready-fine m c after u by call (wait_of u tid) (ap (wait_of u) (live-number u tid by live)) f
 
-line-fine : (m : Group) (c : ℕ) (after u : World) (line : ScriptLine) → HasFineRows m c after → FineAfter m c after u (served_steps line u)
-unfolding bare_steps boot_line token_line thread_line dir_line link_line
+line-fine : (m : Group) (c : ℕ) (after u : World) (line : ScriptLine) → HasFineRows m c after → FineAfter m c after u (own_served line u)
+unfolding own_steps boot_line token_line thread_line dir_line link_line
 line-fine m c after u (boot pid tid name) f = λ _. directed_holds (AreFine m c) word.Boot (boot_line u pid tid name) (bind_holds (boot_token u name) _ (AreFine m c) (λ _ _. bind_holds (unused_test u pid tid) _ (AreFine m c) (λ _ _. refl))) (λ _. refl)
 line-fine m c after u (token name content) f = λ _. directed_holds (AreFine m c) word.Token (token_line u name content) (bind_holds (refuse_if (is_some (named_token u name)) OBJECT_NAME_COLLISION) _ (AreFine m c) (λ _ _. refl)) (λ _. refl)
 line-fine m c after u (thread tid pid) f = λ _. directed_holds (AreFine m c) word.Thread (thread_line u tid pid) (bind_holds (thread_test u tid pid) _ (AreFine m c) (λ _ _. refl)) (λ _. refl)
@@ -161,8 +165,46 @@ shown-first m w [] b is = is
 shown-first m w (None ∷ later) b is = shown-first m w later b is
 shown-first m w (Some line ∷ later) b is = or_left (is_outer_at m w line b) _ (or_left (has (outsider_sees m b) w.views) _ is)
 
-views-bare : (m : Group) (c : ℕ) (outer : Birth → Bool) (w u : World) (lines : List (Option ScriptLine)) → Behind w u → Covers m outer w lines → Along (IsInnerAt c outer) w lines → HasInnerViews c outer (world_behind w lines) → HasViewsApart m c outer u
-views-bare m c outer w u lines r covers along last = record {
+-- and where members' exceptions are told: a process that has gone has no port that is told of exceptions
+raisers-bare : (m : Group) (k : Alive) (u : World) → HasLivingPorts u → Closed k u → HasFineRaisers m (thin k u) → HasFineRaisers m u
+raisers-bare m k u living c all = rows u.processes (hearers-gone k u c living) c.events all
+  where
+    ports : (bs : List Birth) → every k.ports bs ≡ true → every (is_fine_event_port m (thin k u)) bs ≡ true → every (is_fine_event_port m u) bs ≡ true
+    ports [] live fine = refl
+    ports (b ∷ bs) live fine =
+        let same : port_row (thin k u) b ≡ port_row u b = row-thin k u b (first-true _ _ live) in
+        and_from _ _ (subst (λ o. passes_or_none o (is_told_inside m) ≡ true) same (first-true _ _ fine)) (ports bs (second-true _ _ live) (second-true _ _ fine))
+
+    one : (p : ProcessRow) → is_fine_raiser m (thin k u) p ≡ true → hearer_closed k p ≡ true → is_fine_raiser m u p ≡ true
+    one p fine live = at (m p.number) fine
+      where
+        at : (e : Bool) → (not e || every (is_fine_event_port m (thin k u)) (event_ports_of p)) ≡ true → (not e || every (is_fine_event_port m u) (event_ports_of p)) ≡ true
+        at true fine = ports (event_ports_of p) live fine
+        at false fine = refl
+
+    none : (p : ProcessRow) → is_portless p ≡ true → is_fine_raiser m u p ≡ true
+    none p is = at (m p.number)
+      where
+        at : (e : Bool) → (not e || every (is_fine_event_port m u) (event_ports_of p)) ≡ true
+        at true = portless-none (is_fine_event_port m u) p is
+        at false = refl
+
+    rows : (ps : List ProcessRow) → every (hearer_gone k) ps ≡ true → every (hearer_closed k) ps ≡ true → every (is_fine_raiser m (thin k u)) (which (process_alive k) ps) ≡ true → every (is_fine_raiser m u) ps ≡ true
+    rows [] gone closed fine = refl
+    rows (p ∷ ps) gone closed fine = at (k.processes p.birth) refl (rows ps (second-true _ _ gone) (second-true _ _ closed))
+      where
+        at : (e : Bool) → k.processes p.birth ≡ e → (every (is_fine_raiser m (thin k u)) (which (process_alive k) ps) ≡ true → every (is_fine_raiser m u) ps ≡ true) → every (is_fine_raiser m u) (p ∷ ps) ≡ true
+        at true alive rest =
+            let here : every (is_fine_raiser m (thin k u)) (p ∷ which (process_alive k) ps) ≡ true = rw alive at fine in
+            and_from _ _ (one p (first-true _ _ here) (first-true _ _ closed)) (rest (second-true _ _ here))
+        at false dead rest =
+            let off : (false || is_portless p) ≡ true = rw dead at (first-true (hearer_gone k p) _ gone) in
+            let there : every (is_fine_raiser m (thin k u)) (which (process_alive k) ps) ≡ true = rw dead at fine in
+            and_from _ _ (none p off) (rest there)
+
+views-bare : (m : Group) (c : ℕ) (outer : Birth → Bool) (w u : World) (lines : List (Option ScriptLine)) → Behind w u → HasLivingPorts u → HasFineRaisers m w → Covers m outer w lines → Along (IsInnerAt c outer) w lines → HasInnerViews c outer (world_behind w lines) → HasViewsApart m c outer u
+views-bare m c outer w u lines r living raisers covers along last = record {
+  raisers = raisers-bare m r.alive u living r.closed (subst (HasFineRaisers m) r.same raisers);
   inner = subst (HasInnerViews c outer) r.same (first-inner c outer w lines along last);
   shows = λ b is. covers b (shown-first m w lines b (ap (λ v. has (outsider_sees m b) v.views) r.same ∙ is));
 }
@@ -200,18 +242,31 @@ line-apart m c outer w u line later r a covers reads = record {
   reads = line-reads c outer r.alive u line r.closed (subst (λ v. ReadsInner c outer v line) r.same reads);
 }
 
+-- and so are the rows that settling leaves
+fine-behind : (m : Group) (c : ℕ) (after u : World) (line : ScriptLine) → HasFineRows m c after → Firm u → Born u → Behind after (served_step u line).world → HasFineRows m c u → HasFineRows m c (served_step u line).world
+fine-behind m c after u line next firm born swept fine =
+    let v : World = world_after u (own_served line u) in
+    let own : HasFineRows m c v = run-fine m c u (own_served line u) (line-fine m c after u line next rest) fine in
+    subst (HasFineRows m c) (sym (after-append u (own_served line u) (settle v))) (run-fine m c v (settle v) (settle-fine m c v) own)
+  where
+    rest : (Born u → IsSettled u → IsSettled (world_after u (own_served line u))) → Behind after (world_after u (own_served line u))
+    rest keeps =
+        let v : World = world_after u (own_served line u) in
+        let none : settle v ≡ [] = settled-rests v (keeps born firm.settled) in
+        subst (Behind after) (after-append u (own_served line u) (settle v) ∙ ap (world_after v) none) swept
+
 circle-same : (m : Group) (c : ℕ) (outer : Birth → Bool) (w u : World) (lines : List (Option ScriptLine)) → are_ok has_ids lines ≡ true → Sides w u → HasFineRows m c u → Along (IsFineAt m c) w lines → IsFineWorld m c (world_behind w lines)
     → Covers m outer w lines → Along (IsInnerAt c outer) w lines → HasInnerViews c outer (world_behind w lines) → IsBareCircle m c outer u lines
 unfolding world_behind
-circle-same m c outer w u [] ids t fine along last covers inner final = (fine, views-bare m c outer w u [] t.behind covers inner final)
+circle-same m c outer w u [] ids t fine along last covers inner final = (fine, views-bare m c outer w u [] t.behind t.bare.lived.ports last.raisers covers inner final)
 circle-same m c outer w u (None ∷ later) ids t fine along last covers inner final = circle-same m c outer w u later ids t fine along last covers inner final
 circle-same m c outer w u (Some line ∷ later) ids t fine along last covers inner final =
     let r = t.behind in
     let a = line-behind w u line (first-true _ _ ids) t in
     let next : HasFineRows m c (step w line).world = first-fine m c (step w line).world later along.1 last in
-    let after : HasFineRows m c (served_step u line).world = run-fine m c u (served_steps line u) (line-fine m c (step w line).world u line next a.sides.behind) fine in (
+    let after : HasFineRows m c (served_step u line).world = fine-behind m c (step w line).world u line next t.bare t.born a.sides.behind fine in (
       fine,
-      views-bare m c outer w u (Some line ∷ later) r covers inner final,
+      views-bare m c outer w u (Some line ∷ later) r t.bare.lived.ports along.0.0.raisers covers inner final,
       sym (line-inside m c r.alive u line) ∙ sym (ap (λ v. is_fine_line m c v line) r.same) ∙ along.0.1,
       line-apart m c outer w u line later r a covers inner.0.1,
       circle-same m c outer (step w line).world (served_step u line).world later (second-true _ _ ids) a.sides after along.1 last (λ b is. covers b (or_right (is_outer_at m w line b) _ is)) inner.1 final,
@@ -219,7 +274,7 @@ circle-same m c outer w u (Some line ∷ later) ids t fine along last covers inn
 
 -- The law
 behind_none : Behind no_rows no_rows
-behind_none = record { alive = record { ports = λ b. true; sections = λ b. true; tokens = λ b. true; processes = λ b. true; threads = λ b. true; homes = λ n. true }; same = refl; closed = record { tables = refl; ports = refl; messages = refl; waits = refl; registrations = refl; cuts = refl; threads = refl; processes = refl; views = refl } }
+behind_none = record { alive = record { ports = λ b. true; sections = λ b. true; tokens = λ b. true; processes = λ b. true; threads = λ b. true; homes = λ n. true }; same = refl; closed = record { tables = refl; ports = refl; messages = refl; waits = refl; registrations = refl; cuts = refl; threads = refl; processes = refl; views = refl; events = refl } }
 
 sides_none : Sides no_rows no_rows
 sides_none = record { firm = firm_none; ports = refl; sections = refl; bare = firm_none; sent = refl; born = born_none; behind = behind_none }

@@ -1,6 +1,7 @@
 -- A world without some rows that no other row names: what each basic step and the sweep do to it.
+use Rattle.lpc_model.specs.Left.{HasLivingPorts, is_living_process, is_portless}
 use Rattle.std.proofs.Common.{◌≡◌, ◌≤◌, ℕ, List, [], ◌∷◌, ◌++◌, Bool, true, false, not, map, Option, Some, None, refl, ap, sym, subst, ◌∙◌, arith}
-use Rattle.std.specs.Prelude.{◌&&◌, ◌||◌, ◌+◌, ◌==◌, nat_lt, is_some}
+use Rattle.std.specs.Prelude.{◌&&◌, ◌||◌, ◌+◌, ◌==◌, nat_lt, is_some, is_none}
 use Rattle.std.proofs.lemmas.Bool.{and_from, eqb-true, not-true, or_left}
 use Rattle.lpc_base.specs.Rows.{change, count, each, every, has, which, without, first}
 use Rattle.lpc_base.proofs.RowWords.{every-back, every-change, every-front, every-more, every-push, every-which, every-without, first-passes}
@@ -9,9 +10,9 @@ use Rattle.lpc_base.proofs.Bools.{apart-second, first-true, same-number, second-
 use Rattle.lpc_base.proofs.Births.{birth-same, births-apart}
 use Rattle.lpc_model.specs.declared.entry.ObjectKind.{ObjectKind}
 use Rattle.lpc_model.specs.declared.entry.ObjectKind.TheVariants as kind
-use Rattle.lpc_model.specs.World.{Birth, ContentRow, Contents, HandleRow, HandleTable, Known, MessageRow, ObjectName, PortRow, ProcessRow, SectionRow, ThreadRow, Unknown, ViewRow, ViewTable, WaitRow, World, Offer, Acceptance, WaitKind, Request, Connect, Accepted, Receive, Listen, TokenRow}
-use Rattle.lpc_model.specs.Found.{all_handles, all_views, handle_count, has_value, is_connected_to, is_content, is_cut, is_life, is_made_on, is_own_of, is_paired_to, is_port, is_queued, is_section, is_sent_on, is_table, is_the, is_thread, lies_at, is_space, holders, lives_by, port_name, process_name, same_birth, same_kind, same_object, section_name, shows_section, thread_name, waits_as, waits_at, all_registrations, registered_by, live_thread, live_threads, is_live, is_live_thread, lives_in, is_owned_by, offer_of, offers_section, is_token, token_name}
-use Rattle.lpc_model.specs.Basics.{Accepts, AddsHandle, AddsProcess, AddsSection, AddsThread, Awaits, Basic, Binds, Completes, Cuts, DrawsIdentifier, DrawsOrdinal, DropsHandle, DropsViewsOf, Empties, Enters, Frees, Joins, Makes, Maps, Receives, Takes, TakesConnect, Tells, Unbinds, Unmaps, Wakes, Withdraws, Writes, accepted, basic, completed, cut, freed, in_known, is_end_of, joined, no_handles, no_views, past_identifier, past_ordinal, received, with_handle, with_view, without_handle, without_view, without_views, world_after, written, zeros, Dies, Registers, Unregisters, ended, registering, unregistering, DropsOwned, without_owned, Acts, AddsToken, NamesToken, Secures, acting, secured}
+use Rattle.lpc_model.specs.World.{Birth, ContentRow, Contents, HandleRow, HandleTable, Known, MessageRow, ObjectName, PortRow, ProcessRow, SectionRow, ThreadRow, Unknown, ViewRow, ViewTable, WaitRow, World, Offer, Acceptance, WaitKind, Request, Connect, Accepted, Receive, Listen, TokenRow, Event}
+use Rattle.lpc_model.specs.Found.{all_handles, all_views, handle_count, has_value, is_connected_to, is_content, is_cut, is_life, is_made_on, is_own_of, is_paired_to, is_port, is_queued, is_section, is_sent_on, is_table, is_the, is_thread, lies_at, is_space, holders, lives_by, port_name, process_name, same_birth, same_kind, same_object, section_name, shows_section, thread_name, waits_as, waits_at, all_registrations, registered_by, live_thread, live_threads, is_live, is_live_thread, lives_in, is_owned_by, offer_of, offers_section, is_token, token_name, event_ports, event_ports_of, is_process, listed}
+use Rattle.lpc_model.specs.Basics.{Accepts, AddsHandle, AddsProcess, AddsSection, AddsThread, Awaits, Basic, Binds, Completes, Cuts, DrawsIdentifier, DrawsOrdinal, DropsHandle, DropsViewsOf, Empties, Enters, Frees, Joins, Makes, Maps, Receives, Takes, TakesConnect, Tells, Unbinds, Unmaps, Wakes, Withdraws, Writes, accepted, basic, completed, cut, freed, in_known, is_end_of, joined, no_handles, no_views, past_identifier, past_ordinal, received, with_handle, with_view, without_handle, without_view, without_views, world_after, written, zeros, Dies, Registers, Unregisters, ended, registering, unregistering, DropsOwned, without_owned, Acts, AddsToken, NamesToken, Secures, acting, secured, Dooms, Leaves, LetsGo, Marks, SetsDebug, SetsException, debugged, doomed, excepted, portless}
 use Rattle.lpc_model.specs.Sweep.{free_unheld, is_unheld, sweep, unheld}
 use Rattle.lpc_model.specs.SoundWaits.{IsSoundWorld}
 use Rattle.lpc_model.specs.Linked.{IsLinked}
@@ -130,6 +131,10 @@ process_closed k p = not (k.homes p.number) || k.processes p.birth
 abbrev pub port_cut : Alive → PortRow → Bool
 port_cut k p = k.ports p.birth || is_cut p
 
+-- ports that are told of exceptions
+abbrev pub hearer_closed : Alive → ProcessRow → Bool
+hearer_closed k p = every k.ports (event_ports_of p)
+
 -- what the rows that stand name, stands, and so do what live threads registered, and the threads and processes that live
 pub record Closed (k : Alive) (u : World) : Type 0 where
   pub tables : every (table_closed k) u.handles ≡ true
@@ -141,6 +146,7 @@ pub record Closed (k : Alive) (u : World) : Type 0 where
   pub threads : every (thread_closed k) u.threads ≡ true
   pub processes : every (process_closed k) u.processes ≡ true
   pub views : every (space_closed k) u.views ≡ true
+  pub events : every (hearer_closed k) u.processes ≡ true
 
 -- a step that names what is alive alone
 abbrev pub is_closed : Alive → Basic → Bool
@@ -161,7 +167,7 @@ is_closed k (DrawsOrdinal who) = true
 is_closed k (Dies who status) = true
 is_closed k (Registers who b) = k.ports b
 is_closed k (Unregisters who b) = true
-is_closed k (AddsProcess p) = k.processes p.birth
+is_closed k (AddsProcess p) = k.processes p.birth && hearer_closed k p
 is_closed k (AddsThread t) = k.threads t.birth && (thread_closed k t && every k.ports (registered_by t))
 is_closed k (Completes b) = true
 is_closed k (Withdraws who) = true
@@ -180,6 +186,12 @@ is_closed k (Secures b s) = true
 is_closed k (Acts who own) = true
 is_closed k (AddsToken t) = k.tokens t.birth
 is_closed k (NamesToken n) = true
+is_closed k (Marks who) = true
+is_closed k (Leaves who) = true
+is_closed k (SetsDebug pid b) = k.ports b
+is_closed k (SetsException pid b) = k.ports b
+is_closed k (LetsGo pid) = true
+is_closed k (Dooms pid code) = true
 
 -- Lists
 which-map : {X : Type 0} (k : X → Bool) (f : X → X) → ((x : X) → k (f x) ≡ k x) → (xs : List X) → which k (map f xs) ≡ map f (which k xs)
@@ -227,13 +239,17 @@ thin-basic k u (DrawsOrdinal who) ok = rw (kept-change (thread_alive k) (is_thre
 thin-basic k u (Dies who status) ok = rw (kept-change (thread_alive k) (is_thread who) ended (λ t. refl) u.threads) refl
 thin-basic k u (Registers who b) ok = rw (kept-change (thread_alive k) (is_thread who) (registering b) (λ t. refl) u.threads) refl
 thin-basic k u (Unregisters who b) ok = rw (kept-change (thread_alive k) (is_thread who) (unregistering b) (λ t. refl) u.threads) refl
-thin-basic k u (AddsProcess p) ok = rw (kept-push (process_alive k) u.processes p ok) refl
+thin-basic k u (AddsProcess p) ok = rw (kept-push (process_alive k) u.processes p (first-true _ _ ok)) refl
 thin-basic k u (AddsThread t) ok = rw (kept-push (thread_alive k) u.threads t (first-true _ _ ok)) refl
 thin-basic k u (Secures b s) ok = rw (kept-change (port_alive k) (is_port b) (secured s) (λ p. refl) u.ports) refl
 thin-basic k u (Acts who own) ok = rw (kept-change (thread_alive k) (is_thread who) (acting own) (λ t. refl) u.threads) refl
 thin-basic k u (AddsToken t) ok = rw (kept-push (token_alive k) u.tokens t ok) refl
 thin-basic k u (AddsSection s) ok = rw (kept-push (section_alive k) u.sections s ok, added-alive k s u.contents ok) refl
 thin-basic k u (Writes b place new) ok = rw (written-alive k b place new u.contents) refl
+thin-basic k u (SetsDebug pid b) ok = rw (kept-change (process_alive k) (is_process pid) (debugged b) (λ p. refl) u.processes) refl
+thin-basic k u (SetsException pid b) ok = rw (kept-change (process_alive k) (is_process pid) (excepted b) (λ p. refl) u.processes) refl
+thin-basic k u (LetsGo pid) ok = rw (kept-change (process_alive k) (is_process pid) portless (λ p. refl) u.processes) refl
+thin-basic k u (Dooms pid code) ok = rw (kept-change (process_alive k) (is_process pid) (doomed code) (λ p. refl) u.processes) refl
 thin-basic k u b ok = refl
 
 put-closed : (k : Alive) (h : HandleRow) (t : HandleTable) → handle_closed k h ≡ true → table_closed k t ≡ true → table_closed k (with_handle h t) ≡ true
@@ -267,42 +283,60 @@ accepted-closed k a x Receive is live = rw is (rw is at live)
 accepted-closed k a x Listen is live = rw is (rw is at live)
 accepted-closed k a x (Connect b offer) is live = rw is (and_from _ _ (first-true _ _ live) refl)
 accepted-closed k a x (Accepted b d) is live = rw is (rw is at live)
+accepted-closed k a x (Event r) is live = rw is (rw is at live)
+
+-- a process gets a port that is told of its exceptions
+debugged-closed : (k : Alive) (b : Birth) → k.ports b ≡ true → (p : ProcessRow) → hearer_closed k p ≡ true → hearer_closed k (debugged b p) ≡ true
+debugged-closed k b ok p all = and_from _ _ ok (every-back k.ports (listed p.debug_port) (listed p.exception_port) all)
+
+excepted-closed : (k : Alive) (b : Birth) → k.ports b ≡ true → (p : ProcessRow) → hearer_closed k p ≡ true → hearer_closed k (excepted b p) ≡ true
+excepted-closed k b ok p all = at p.debug_port (every-front k.ports (listed p.debug_port) (listed p.exception_port) all)
+  where
+    at : (o : Option Birth) → every k.ports (listed o) ≡ true → every k.ports (listed o ++ b ∷ []) ≡ true
+    at None all = and_from _ _ ok refl
+    at (Some d) all = and_from _ _ (first-true _ _ all) (and_from _ _ ok refl)
 
 pub keeps-closed : (k : Alive) (u : World) (b : Basic) → is_closed k b ≡ true → Closed k u → Closed k (basic u b)
-keeps-closed k u (Awaits x) ok c = record { tables = c.tables; ports = c.ports; messages = c.messages; waits = every-push (wait_closed k) u.waits x c.waits ok; registrations = c.registrations; cuts = c.cuts; threads = c.threads; processes = c.processes; views = c.views }
-keeps-closed k u (Enters x) ok c = record { tables = c.tables; ports = c.ports; messages = every-push (message_closed k) u.messages x c.messages ok; waits = c.waits; registrations = c.registrations; cuts = c.cuts; threads = c.threads; processes = c.processes; views = c.views }
-keeps-closed k u (Makes p) ok c = record { tables = c.tables; ports = every-push (port_closed k) u.ports p c.ports (second-true _ _ ok); messages = c.messages; waits = c.waits; registrations = c.registrations; cuts = every-push (port_cut k) u.ports p c.cuts (or_left (k.ports p.birth) (is_cut p) (first-true _ _ ok)); threads = c.threads; processes = c.processes; views = c.views }
-keeps-closed k u (Joins client server context) ok c = record { tables = c.tables; ports = every-mapped (port_closed k) (joined client server context) (joined-closed k client server context (first-true _ _ ok) (second-true _ _ ok)) u.ports c.ports; messages = c.messages; waits = c.waits; registrations = c.registrations; cuts = every-mapped (port_cut k) (joined client server context) (joined-cut k client server context (first-true _ _ ok) (second-true _ _ ok)) u.ports c.cuts; threads = c.threads; processes = c.processes; views = c.views }
-keeps-closed k u (Binds path node) ok c = record { tables = c.tables; ports = c.ports; messages = c.messages; waits = c.waits; registrations = c.registrations; cuts = c.cuts; threads = c.threads; processes = c.processes; views = c.views }
-keeps-closed k u (AddsHandle pid h) ok c = record { tables = every-change (table_closed k) (is_table pid) (with_handle h) (λ t all. put-closed k h t ok all) u.handles c.tables; ports = c.ports; messages = c.messages; waits = c.waits; registrations = c.registrations; cuts = c.cuts; threads = c.threads; processes = c.processes; views = c.views }
-keeps-closed k u (Empties q) ok c = record { tables = c.tables; ports = c.ports; messages = every-without (message_closed k) (is_queued q) u.messages c.messages; waits = c.waits; registrations = c.registrations; cuts = c.cuts; threads = c.threads; processes = c.processes; views = c.views }
-keeps-closed k u (Cuts b) ok c = record { tables = c.tables; ports = every-change (port_closed k) (is_end_of b) cut (λ p is. grind arith) u.ports c.ports; messages = c.messages; waits = c.waits; registrations = c.registrations; cuts = every-change (port_cut k) (is_end_of b) cut (λ p is. grind arith) u.ports c.cuts; threads = c.threads; processes = c.processes; views = c.views }
-keeps-closed k u (Unbinds b) ok c = record { tables = c.tables; ports = c.ports; messages = c.messages; waits = c.waits; registrations = c.registrations; cuts = c.cuts; threads = c.threads; processes = c.processes; views = c.views }
-keeps-closed k u (DropsHandle pid value) ok c = record { tables = every-change (table_closed k) (is_table pid) (without_handle value) (λ t all. every-without_first (handle_closed k) (has_value value) t.rows all) u.handles c.tables; ports = c.ports; messages = c.messages; waits = c.waits; registrations = c.registrations; cuts = c.cuts; threads = c.threads; processes = c.processes; views = c.views }
-keeps-closed k u (AddsSection s) ok c = record { tables = c.tables; ports = c.ports; messages = c.messages; waits = c.waits; registrations = c.registrations; cuts = c.cuts; threads = c.threads; processes = c.processes; views = c.views }
-keeps-closed k u (Writes b place new) ok c = record { tables = c.tables; ports = c.ports; messages = c.messages; waits = c.waits; registrations = c.registrations; cuts = c.cuts; threads = c.threads; processes = c.processes; views = c.views }
-keeps-closed k u (NamesToken n) ok c = record { tables = c.tables; ports = c.ports; messages = c.messages; waits = c.waits; registrations = c.registrations; cuts = c.cuts; threads = c.threads; processes = c.processes; views = c.views }
-keeps-closed k u (AddsToken t) ok c = record { tables = c.tables; ports = c.ports; messages = c.messages; waits = c.waits; registrations = c.registrations; cuts = c.cuts; threads = c.threads; processes = c.processes; views = c.views }
-keeps-closed k u (Maps pid v) ok c = record { tables = c.tables; ports = c.ports; messages = c.messages; waits = c.waits; registrations = c.registrations; cuts = c.cuts; threads = c.threads; processes = c.processes; views = every-change (space_closed k) (is_space pid) (with_view v) (λ t all. every-push (view_closed k) t.rows v all ok) u.views c.views }
-keeps-closed k u (Unmaps pid base) ok c = record { tables = c.tables; ports = c.ports; messages = c.messages; waits = c.waits; registrations = c.registrations; cuts = c.cuts; threads = c.threads; processes = c.processes; views = every-change (space_closed k) (is_space pid) (without_view base) (λ t all. every-without (view_closed k) (lies_at base) t.rows all) u.views c.views }
-keeps-closed k u (DropsViewsOf pid) ok c = record { tables = c.tables; ports = c.ports; messages = c.messages; waits = c.waits; registrations = c.registrations; cuts = c.cuts; threads = c.threads; processes = c.processes; views = every-change (space_closed k) (is_space pid) without_views (λ t all. refl) u.views c.views }
-keeps-closed k u (AddsProcess p) ok c = record { tables = every-push (table_closed k) u.handles (no_handles p.number) c.tables refl; ports = c.ports; messages = c.messages; waits = c.waits; registrations = c.registrations; cuts = c.cuts; threads = c.threads; processes = every-push (process_closed k) u.processes p c.processes (or-last (not (k.homes p.number)) ok); views = every-push (space_closed k) u.views (no_views p.number) c.views refl }
-keeps-closed k u (AddsThread t) ok c = record { tables = c.tables; ports = c.ports; messages = c.messages; waits = c.waits; registrations = all-pushed k.ports u.threads t (second-true (thread_closed k t) _ (second-true (k.threads t.birth) _ ok)) c.registrations; cuts = c.cuts; threads = every-push (thread_closed k) u.threads t c.threads (first-true _ _ (second-true (k.threads t.birth) _ ok)); processes = c.processes; views = c.views }
-keeps-closed k u (Wakes who call status fields) ok c = record { tables = c.tables; ports = c.ports; messages = c.messages; waits = every-without (wait_closed k) (waits_as who) u.waits c.waits; registrations = c.registrations; cuts = c.cuts; threads = c.threads; processes = c.processes; views = c.views }
-keeps-closed k u (Receives who q) ok c = record { tables = c.tables; ports = c.ports; messages = c.messages; waits = every-change (wait_closed k) (waits_at who q) received (λ x is. is) u.waits c.waits; registrations = c.registrations; cuts = c.cuts; threads = c.threads; processes = c.processes; views = c.views }
-keeps-closed k u (Accepts who reply) ok c = record { tables = c.tables; ports = c.ports; messages = c.messages; waits = every-change (wait_closed k) (waits_as who) (accepted reply) (λ x is. accepted-closed k reply x x.kind refl is) u.waits c.waits; registrations = c.registrations; cuts = c.cuts; threads = c.threads; processes = c.processes; views = c.views }
-keeps-closed k u (Takes q) ok c = record { tables = c.tables; ports = c.ports; messages = every-without_first (message_closed k) _ u.messages c.messages; waits = c.waits; registrations = c.registrations; cuts = c.cuts; threads = c.threads; processes = c.processes; views = c.views }
-keeps-closed k u (TakesConnect q) ok c = record { tables = c.tables; ports = c.ports; messages = every-without_first (message_closed k) _ u.messages c.messages; waits = c.waits; registrations = c.registrations; cuts = c.cuts; threads = c.threads; processes = c.processes; views = c.views }
-keeps-closed k u (Withdraws who) ok c = record { tables = c.tables; ports = c.ports; messages = every-without (message_closed k) (is_own_of who) u.messages c.messages; waits = c.waits; registrations = c.registrations; cuts = c.cuts; threads = c.threads; processes = c.processes; views = c.views }
-keeps-closed k u (Completes b) ok c = record { tables = c.tables; ports = every-change (port_closed k) (is_port b) completed (λ p is. is) u.ports c.ports; messages = c.messages; waits = c.waits; registrations = c.registrations; cuts = every-change (port_cut k) (is_port b) completed (λ p is. is) u.ports c.cuts; threads = c.threads; processes = c.processes; views = c.views }
-keeps-closed k u (Secures b s) ok c = record { tables = c.tables; ports = every-change (port_closed k) (is_port b) (secured s) (λ p is. is) u.ports c.ports; messages = c.messages; waits = c.waits; registrations = c.registrations; cuts = every-change (port_cut k) (is_port b) (secured s) (λ p is. is) u.ports c.cuts; threads = c.threads; processes = c.processes; views = c.views }
-keeps-closed k u (DrawsIdentifier who) ok c = record { tables = c.tables; ports = c.ports; messages = c.messages; waits = c.waits; registrations = all-changed k.ports (is_thread who) past_identifier (λ t is. is) u.threads c.registrations; cuts = c.cuts; threads = every-change (thread_closed k) (is_thread who) past_identifier (λ t is. is) u.threads c.threads; processes = c.processes; views = c.views }
-keeps-closed k u (DrawsOrdinal who) ok c = record { tables = c.tables; ports = c.ports; messages = c.messages; waits = c.waits; registrations = all-changed k.ports (is_thread who) past_ordinal (λ t is. is) u.threads c.registrations; cuts = c.cuts; threads = every-change (thread_closed k) (is_thread who) past_ordinal (λ t is. is) u.threads c.threads; processes = c.processes; views = c.views }
-keeps-closed k u (Acts who own) ok c = record { tables = c.tables; ports = c.ports; messages = c.messages; waits = c.waits; registrations = all-changed k.ports (is_thread who) (acting own) (λ t is. is) u.threads c.registrations; cuts = c.cuts; threads = every-change (thread_closed k) (is_thread who) (acting own) (λ t is. is) u.threads c.threads; processes = c.processes; views = c.views }
-keeps-closed k u (Dies who status) ok c = record { tables = c.tables; ports = c.ports; messages = c.messages; waits = every-without (wait_closed k) (waits_as who) u.waits c.waits; registrations = all-changed k.ports (is_thread who) ended (λ t is. refl) u.threads c.registrations; cuts = c.cuts; threads = every-change (thread_closed k) (is_thread who) ended (λ t is. refl) u.threads c.threads; processes = c.processes; views = c.views }
-keeps-closed k u (Registers who b) ok c = record { tables = c.tables; ports = c.ports; messages = c.messages; waits = c.waits; registrations = all-changed k.ports (is_thread who) (registering b) (registering-all k.ports b ok) u.threads c.registrations; cuts = c.cuts; threads = every-change (thread_closed k) (is_thread who) (registering b) (λ t is. is) u.threads c.threads; processes = c.processes; views = c.views }
-keeps-closed k u (Unregisters who b) ok c = record { tables = c.tables; ports = c.ports; messages = c.messages; waits = c.waits; registrations = all-changed k.ports (is_thread who) (unregistering b) (unregistering-all k.ports b) u.threads c.registrations; cuts = c.cuts; threads = every-change (thread_closed k) (is_thread who) (unregistering b) (λ t is. is) u.threads c.threads; processes = c.processes; views = c.views }
-keeps-closed k u (DropsOwned b) ok c = record { tables = c.tables; ports = c.ports; messages = c.messages; waits = c.waits; registrations = c.registrations; cuts = c.cuts; threads = c.threads; processes = c.processes; views = every-mapped (space_closed k) (without_owned b) (λ t all. every-without (view_closed k) (is_owned_by b) t.rows all) u.views c.views }
+keeps-closed k u (Awaits x) ok c = record { tables = c.tables; ports = c.ports; messages = c.messages; waits = every-push (wait_closed k) u.waits x c.waits ok; registrations = c.registrations; cuts = c.cuts; threads = c.threads; processes = c.processes; views = c.views; events = c.events }
+keeps-closed k u (Enters x) ok c = record { tables = c.tables; ports = c.ports; messages = every-push (message_closed k) u.messages x c.messages ok; waits = c.waits; registrations = c.registrations; cuts = c.cuts; threads = c.threads; processes = c.processes; views = c.views; events = c.events }
+keeps-closed k u (Makes p) ok c = record { tables = c.tables; ports = every-push (port_closed k) u.ports p c.ports (second-true _ _ ok); messages = c.messages; waits = c.waits; registrations = c.registrations; cuts = every-push (port_cut k) u.ports p c.cuts (or_left (k.ports p.birth) (is_cut p) (first-true _ _ ok)); threads = c.threads; processes = c.processes; views = c.views; events = c.events }
+keeps-closed k u (Joins client server context) ok c = record { tables = c.tables; ports = every-mapped (port_closed k) (joined client server context) (joined-closed k client server context (first-true _ _ ok) (second-true _ _ ok)) u.ports c.ports; messages = c.messages; waits = c.waits; registrations = c.registrations; cuts = every-mapped (port_cut k) (joined client server context) (joined-cut k client server context (first-true _ _ ok) (second-true _ _ ok)) u.ports c.cuts; threads = c.threads; processes = c.processes; views = c.views; events = c.events }
+keeps-closed k u (Binds path node) ok c = record { tables = c.tables; ports = c.ports; messages = c.messages; waits = c.waits; registrations = c.registrations; cuts = c.cuts; threads = c.threads; processes = c.processes; views = c.views; events = c.events }
+keeps-closed k u (AddsHandle pid h) ok c = record { tables = every-change (table_closed k) (is_table pid) (with_handle h) (λ t all. put-closed k h t ok all) u.handles c.tables; ports = c.ports; messages = c.messages; waits = c.waits; registrations = c.registrations; cuts = c.cuts; threads = c.threads; processes = c.processes; views = c.views; events = c.events }
+keeps-closed k u (Empties q) ok c = record { tables = c.tables; ports = c.ports; messages = every-without (message_closed k) (is_queued q) u.messages c.messages; waits = c.waits; registrations = c.registrations; cuts = c.cuts; threads = c.threads; processes = c.processes; views = c.views; events = c.events }
+keeps-closed k u (Cuts b) ok c = record { tables = c.tables; ports = every-change (port_closed k) (is_end_of b) cut (λ p is. grind arith) u.ports c.ports; messages = c.messages; waits = c.waits; registrations = c.registrations; cuts = every-change (port_cut k) (is_end_of b) cut (λ p is. grind arith) u.ports c.cuts; threads = c.threads; processes = c.processes; views = c.views; events = c.events }
+keeps-closed k u (Unbinds b) ok c = record { tables = c.tables; ports = c.ports; messages = c.messages; waits = c.waits; registrations = c.registrations; cuts = c.cuts; threads = c.threads; processes = c.processes; views = c.views; events = c.events }
+keeps-closed k u (DropsHandle pid value) ok c = record { tables = every-change (table_closed k) (is_table pid) (without_handle value) (λ t all. every-without_first (handle_closed k) (has_value value) t.rows all) u.handles c.tables; ports = c.ports; messages = c.messages; waits = c.waits; registrations = c.registrations; cuts = c.cuts; threads = c.threads; processes = c.processes; views = c.views; events = c.events }
+keeps-closed k u (AddsSection s) ok c = record { tables = c.tables; ports = c.ports; messages = c.messages; waits = c.waits; registrations = c.registrations; cuts = c.cuts; threads = c.threads; processes = c.processes; views = c.views; events = c.events }
+keeps-closed k u (Writes b place new) ok c = record { tables = c.tables; ports = c.ports; messages = c.messages; waits = c.waits; registrations = c.registrations; cuts = c.cuts; threads = c.threads; processes = c.processes; views = c.views; events = c.events }
+keeps-closed k u (NamesToken n) ok c = record { tables = c.tables; ports = c.ports; messages = c.messages; waits = c.waits; registrations = c.registrations; cuts = c.cuts; threads = c.threads; processes = c.processes; views = c.views; events = c.events }
+keeps-closed k u (AddsToken t) ok c = record { tables = c.tables; ports = c.ports; messages = c.messages; waits = c.waits; registrations = c.registrations; cuts = c.cuts; threads = c.threads; processes = c.processes; views = c.views; events = c.events }
+keeps-closed k u (Maps pid v) ok c = record { tables = c.tables; ports = c.ports; messages = c.messages; waits = c.waits; registrations = c.registrations; cuts = c.cuts; threads = c.threads; processes = c.processes; views = every-change (space_closed k) (is_space pid) (with_view v) (λ t all. every-push (view_closed k) t.rows v all ok) u.views c.views; events = c.events }
+keeps-closed k u (Unmaps pid base) ok c = record { tables = c.tables; ports = c.ports; messages = c.messages; waits = c.waits; registrations = c.registrations; cuts = c.cuts; threads = c.threads; processes = c.processes; views = every-change (space_closed k) (is_space pid) (without_view base) (λ t all. every-without (view_closed k) (lies_at base) t.rows all) u.views c.views; events = c.events }
+keeps-closed k u (DropsViewsOf pid) ok c = record { tables = c.tables; ports = c.ports; messages = c.messages; waits = c.waits; registrations = c.registrations; cuts = c.cuts; threads = c.threads; processes = c.processes; views = every-change (space_closed k) (is_space pid) without_views (λ t all. refl) u.views c.views; events = c.events }
+keeps-closed k u (AddsProcess p) ok c = record { tables = every-push (table_closed k) u.handles (no_handles p.number) c.tables refl; ports = c.ports; messages = c.messages; waits = c.waits; registrations = c.registrations; cuts = c.cuts; threads = c.threads; processes = every-push (process_closed k) u.processes p c.processes (or-last (not (k.homes p.number)) (first-true _ _ ok)); views = every-push (space_closed k) u.views (no_views p.number) c.views refl; events = every-push (hearer_closed k) u.processes p c.events (second-true (k.processes p.birth) _ ok) }
+keeps-closed k u (AddsThread t) ok c = record { tables = c.tables; ports = c.ports; messages = c.messages; waits = c.waits; registrations = all-pushed k.ports u.threads t (second-true (thread_closed k t) _ (second-true (k.threads t.birth) _ ok)) c.registrations; cuts = c.cuts; threads = every-push (thread_closed k) u.threads t c.threads (first-true _ _ (second-true (k.threads t.birth) _ ok)); processes = c.processes; views = c.views; events = c.events }
+keeps-closed k u (Wakes who call status fields) ok c = record { tables = c.tables; ports = c.ports; messages = c.messages; waits = every-without (wait_closed k) (waits_as who) u.waits c.waits; registrations = c.registrations; cuts = c.cuts; threads = c.threads; processes = c.processes; views = c.views; events = c.events }
+keeps-closed k u (Receives who q) ok c = record { tables = c.tables; ports = c.ports; messages = c.messages; waits = every-change (wait_closed k) (waits_at who q) received (λ x is. is) u.waits c.waits; registrations = c.registrations; cuts = c.cuts; threads = c.threads; processes = c.processes; views = c.views; events = c.events }
+keeps-closed k u (Accepts who reply) ok c = record { tables = c.tables; ports = c.ports; messages = c.messages; waits = every-change (wait_closed k) (waits_as who) (accepted reply) (λ x is. accepted-closed k reply x x.kind refl is) u.waits c.waits; registrations = c.registrations; cuts = c.cuts; threads = c.threads; processes = c.processes; views = c.views; events = c.events }
+keeps-closed k u (Takes q) ok c = record { tables = c.tables; ports = c.ports; messages = every-without_first (message_closed k) _ u.messages c.messages; waits = c.waits; registrations = c.registrations; cuts = c.cuts; threads = c.threads; processes = c.processes; views = c.views; events = c.events }
+keeps-closed k u (TakesConnect q) ok c = record { tables = c.tables; ports = c.ports; messages = every-without_first (message_closed k) _ u.messages c.messages; waits = c.waits; registrations = c.registrations; cuts = c.cuts; threads = c.threads; processes = c.processes; views = c.views; events = c.events }
+keeps-closed k u (Withdraws who) ok c = record { tables = c.tables; ports = c.ports; messages = every-without (message_closed k) (is_own_of who) u.messages c.messages; waits = c.waits; registrations = c.registrations; cuts = c.cuts; threads = c.threads; processes = c.processes; views = c.views; events = c.events }
+keeps-closed k u (Completes b) ok c = record { tables = c.tables; ports = every-change (port_closed k) (is_port b) completed (λ p is. is) u.ports c.ports; messages = c.messages; waits = c.waits; registrations = c.registrations; cuts = every-change (port_cut k) (is_port b) completed (λ p is. is) u.ports c.cuts; threads = c.threads; processes = c.processes; views = c.views; events = c.events }
+keeps-closed k u (Secures b s) ok c = record { tables = c.tables; ports = every-change (port_closed k) (is_port b) (secured s) (λ p is. is) u.ports c.ports; messages = c.messages; waits = c.waits; registrations = c.registrations; cuts = every-change (port_cut k) (is_port b) (secured s) (λ p is. is) u.ports c.cuts; threads = c.threads; processes = c.processes; views = c.views; events = c.events }
+keeps-closed k u (DrawsIdentifier who) ok c = record { tables = c.tables; ports = c.ports; messages = c.messages; waits = c.waits; registrations = all-changed k.ports (is_thread who) past_identifier (λ t is. is) u.threads c.registrations; cuts = c.cuts; threads = every-change (thread_closed k) (is_thread who) past_identifier (λ t is. is) u.threads c.threads; processes = c.processes; views = c.views; events = c.events }
+keeps-closed k u (DrawsOrdinal who) ok c = record { tables = c.tables; ports = c.ports; messages = c.messages; waits = c.waits; registrations = all-changed k.ports (is_thread who) past_ordinal (λ t is. is) u.threads c.registrations; cuts = c.cuts; threads = every-change (thread_closed k) (is_thread who) past_ordinal (λ t is. is) u.threads c.threads; processes = c.processes; views = c.views; events = c.events }
+keeps-closed k u (Acts who own) ok c = record { tables = c.tables; ports = c.ports; messages = c.messages; waits = c.waits; registrations = all-changed k.ports (is_thread who) (acting own) (λ t is. is) u.threads c.registrations; cuts = c.cuts; threads = every-change (thread_closed k) (is_thread who) (acting own) (λ t is. is) u.threads c.threads; processes = c.processes; views = c.views; events = c.events }
+keeps-closed k u (Dies who status) ok c = record { tables = c.tables; ports = c.ports; messages = c.messages; waits = every-without (wait_closed k) (waits_as who) u.waits c.waits; registrations = all-changed k.ports (is_thread who) ended (λ t is. refl) u.threads c.registrations; cuts = c.cuts; threads = every-change (thread_closed k) (is_thread who) ended (λ t is. refl) u.threads c.threads; processes = c.processes; views = c.views; events = c.events }
+keeps-closed k u (Registers who b) ok c = record { tables = c.tables; ports = c.ports; messages = c.messages; waits = c.waits; registrations = all-changed k.ports (is_thread who) (registering b) (registering-all k.ports b ok) u.threads c.registrations; cuts = c.cuts; threads = every-change (thread_closed k) (is_thread who) (registering b) (λ t is. is) u.threads c.threads; processes = c.processes; views = c.views; events = c.events }
+keeps-closed k u (Unregisters who b) ok c = record { tables = c.tables; ports = c.ports; messages = c.messages; waits = c.waits; registrations = all-changed k.ports (is_thread who) (unregistering b) (unregistering-all k.ports b) u.threads c.registrations; cuts = c.cuts; threads = every-change (thread_closed k) (is_thread who) (unregistering b) (λ t is. is) u.threads c.threads; processes = c.processes; views = c.views; events = c.events }
+keeps-closed k u (DropsOwned b) ok c = record { tables = c.tables; ports = c.ports; messages = c.messages; waits = c.waits; registrations = c.registrations; cuts = c.cuts; threads = c.threads; processes = c.processes; views = every-mapped (space_closed k) (without_owned b) (λ t all. every-without (view_closed k) (is_owned_by b) t.rows all) u.views c.views; events = c.events }
+keeps-closed k u (Marks who) ok c = record { tables = c.tables; ports = c.ports; messages = c.messages; registrations = c.registrations; cuts = c.cuts; threads = c.threads; views = c.views; waits = c.waits; processes = c.processes; events = c.events }
+keeps-closed k u (Leaves who) ok c = record { tables = c.tables; ports = c.ports; messages = c.messages; registrations = c.registrations; cuts = c.cuts; threads = c.threads; views = c.views; waits = every-without (wait_closed k) (waits_as who) u.waits c.waits; processes = c.processes; events = c.events }
+keeps-closed k u (SetsDebug pid b) ok c = record { tables = c.tables; ports = c.ports; messages = c.messages; registrations = c.registrations; cuts = c.cuts; threads = c.threads; views = c.views; waits = c.waits; processes = every-change (process_closed k) (is_process pid) (debugged b) (λ p is. is) u.processes c.processes; events = every-change (hearer_closed k) (is_process pid) (debugged b) (debugged-closed k b ok) u.processes c.events }
+keeps-closed k u (SetsException pid b) ok c = record { tables = c.tables; ports = c.ports; messages = c.messages; registrations = c.registrations; cuts = c.cuts; threads = c.threads; views = c.views; waits = c.waits; processes = every-change (process_closed k) (is_process pid) (excepted b) (λ p is. is) u.processes c.processes; events = every-change (hearer_closed k) (is_process pid) (excepted b) (excepted-closed k b ok) u.processes c.events }
+keeps-closed k u (LetsGo pid) ok c = record { tables = c.tables; ports = c.ports; messages = c.messages; registrations = c.registrations; cuts = c.cuts; threads = c.threads; views = c.views; waits = c.waits; processes = every-change (process_closed k) (is_process pid) portless (λ p is. is) u.processes c.processes; events = every-change (hearer_closed k) (is_process pid) portless (λ p is. refl) u.processes c.events }
+keeps-closed k u (Dooms pid code) ok c = record { tables = c.tables; ports = c.ports; messages = c.messages; registrations = c.registrations; cuts = c.cuts; threads = c.threads; views = c.views; waits = c.waits; processes = every-change (process_closed k) (is_process pid) (doomed code) (λ p is. is) u.processes c.processes; events = every-change (hearer_closed k) (is_process pid) (doomed code) (λ p is. is) u.processes c.events }
 keeps-closed k u (Tells e) ok c = c
 keeps-closed k u (Frees o) ok c = absurd (cc)
 
@@ -382,6 +416,7 @@ record Unnamed (b : Birth) (w : World) : Type 0 where
   waits : every (λ x. not (is_made_on b x)) w.waits ≡ true
   registrations : every (λ c. not (same_birth b c)) (all_registrations w) ≡ true
   views : every (λ t. every (λ v. not (is_owned_by b v)) t.rows) w.views ≡ true
+  events : every (λ p. every (λ c. not (same_birth b c)) (event_ports_of p)) w.processes ≡ true
 
 unnamed-of : (w : World) (b : Birth) → is_unheld w (port_name b) ≡ true → Unnamed b w
 unnamed-of w b none =
@@ -392,20 +427,23 @@ unnamed-of w b none =
     let waits = count (is_made_on b) w.waits in
     let registered = count (same_birth b) (all_registrations w) in
     let owned = count (is_owned_by b) (all_views w) in
-    let all = is-zero (handles + (pairs + (connections + (messages + (waits + (registered + owned)))))) none in
-    let two = sum-second handles (pairs + (connections + (messages + (waits + (registered + owned))))) all in
-    let three = sum-second pairs (connections + (messages + (waits + (registered + owned)))) two in
-    let four = sum-second connections (messages + (waits + (registered + owned))) three in
-    let five = sum-second messages (waits + (registered + owned)) four in
-    let six = sum-second waits (registered + owned) five in
+    let told = count (same_birth b) (event_ports w) in
+    let all = is-zero (handles + (pairs + (connections + (messages + (waits + (registered + (owned + told))))))) none in
+    let two = sum-second handles (pairs + (connections + (messages + (waits + (registered + (owned + told)))))) all in
+    let three = sum-second pairs (connections + (messages + (waits + (registered + (owned + told))))) two in
+    let four = sum-second connections (messages + (waits + (registered + (owned + told)))) three in
+    let five = sum-second messages (waits + (registered + (owned + told))) four in
+    let six = sum-second waits (registered + (owned + told)) five in
+    let seven = sum-second registered (owned + told) six in
     record {
-      handles = every-each (λ h. not (same_object h.object (port_name b))) (λ t. t.rows) w.handles (none-pass (λ h. same_object h.object (port_name b)) (all_handles w) (sum-first handles (pairs + (connections + (messages + (waits + (registered + owned))))) all));
-      pairs = none-pass (is_paired_to b) w.ports (sum-first pairs (connections + (messages + (waits + (registered + owned)))) two);
-      connections = none-pass (is_connected_to b) w.ports (sum-first connections (messages + (waits + (registered + owned))) three);
-      messages = none-pass (is_sent_on b) w.messages (sum-first messages (waits + (registered + owned)) four);
-      waits = none-pass (is_made_on b) w.waits (sum-first waits (registered + owned) five);
-      registrations = none-pass (same_birth b) (all_registrations w) (sum-first registered owned six);
-      views = every-each (λ v. not (is_owned_by b v)) (λ (t : ViewTable). t.rows) w.views (none-pass (is_owned_by b) (all_views w) (sum-second registered owned six));
+      handles = every-each (λ h. not (same_object h.object (port_name b))) (λ t. t.rows) w.handles (none-pass (λ h. same_object h.object (port_name b)) (all_handles w) (sum-first handles (pairs + (connections + (messages + (waits + (registered + (owned + told)))))) all));
+      pairs = none-pass (is_paired_to b) w.ports (sum-first pairs (connections + (messages + (waits + (registered + (owned + told))))) two);
+      connections = none-pass (is_connected_to b) w.ports (sum-first connections (messages + (waits + (registered + (owned + told)))) three);
+      messages = none-pass (is_sent_on b) w.messages (sum-first messages (waits + (registered + (owned + told))) four);
+      waits = none-pass (is_made_on b) w.waits (sum-first waits (registered + (owned + told)) five);
+      registrations = none-pass (same_birth b) (all_registrations w) (sum-first registered (owned + told) six);
+      views = every-each (λ v. not (is_owned_by b v)) (λ (t : ViewTable). t.rows) w.views (none-pass (is_owned_by b) (all_views w) (sum-first owned told seven));
+      events = every-each (λ c. not (same_birth b c)) event_ports_of w.processes (none-pass (same_birth b) (event_ports w) (sum-second owned told seven));
     }
 
 -- a handle to another object
@@ -469,8 +507,77 @@ cut-but : (k : Alive) (b : Birth) (ps : List PortRow) → every (is_lonely b) (w
 cut-but k b [] lonely cuts = refl
 cut-but k b (p ∷ ps) lonely cuts = grind (arith, cut-but k b ps)
 
-pub frees-one : (k : Alive) (u : World) (b : Birth) → is_unheld (thin k u) (port_name b) ≡ true → every (is_lonely b) (thin k u).ports ≡ true → Closed k u → Closed (but b k) u
-frees-one k u b none lonely c =
+-- a process that lives stands
+pub live-home : (k : Alive) (u : World) (n : ℕ) → Closed k u → is_live u n ≡ true → k.homes n ≡ true
+live-home k u n c live = at (first (lives_in n) u.threads) refl live
+  where
+    at : (o : Option ThreadRow) → first (lives_in n) u.threads ≡ o → is_some o ≡ true → k.homes n ≡ true
+    at None none is = absurd (cc)
+    at (Some t) some is =
+        let passed : lives_in n t ≡ true = first-passes (lives_in n) u.threads t some in
+        let home : k.homes t.process ≡ true = last t.live (k.threads t.birth) (k.homes t.process) (second-true (t.process == n) t.live passed) (every-first (thread_closed k) (lives_in n) u.threads t c.threads some) in
+        subst (λ i. k.homes i ≡ true) (eqb-true t.process n (first-true _ _ passed)) home
+      where
+        last : (l a h : Bool) → l ≡ true → (not l || (a && h)) ≡ true → h ≡ true
+        last l a h is it = grind arith
+
+-- so one that has gone has no port that is told of exceptions
+abbrev pub hearer_gone : Alive → ProcessRow → Bool
+hearer_gone k p = k.processes p.birth || is_portless p
+
+pub hearers-gone : (k : Alive) (u : World) → Closed k u → HasLivingPorts u → every (hearer_gone k) u.processes ≡ true
+hearers-gone k u c living = every-both (process_closed k) (is_living_process u) (hearer_gone k) (λ p closed lives. at p (is_live u p.number) refl closed lives) u.processes c.processes living
+  where
+    at : (p : ProcessRow) (e : Bool) → is_live u p.number ≡ e → process_closed k p ≡ true → is_living_process u p ≡ true → hearer_gone k p ≡ true
+    at p true live closed lives = let home : k.homes p.number ≡ true = live-home k u p.number c live in let alive : (not true || k.processes p.birth) ≡ true = subst (λ h. (not h || k.processes p.birth) ≡ true) home closed in rw alive refl
+    at p false dead closed lives = let none : (false || is_portless p) ≡ true = subst (λ h. (h || is_portless p) ≡ true) dead lives in or-last (k.processes p.birth) none
+
+-- and none is lost with it
+pub events-thin : (k : Alive) (u : World) → HasLivingPorts u → Closed k u → event_ports (thin k u) ≡ event_ports u
+events-thin k u living c = rows u.processes (hearers-gone k u c living)
+  where
+    none : (p : ProcessRow) → is_portless p ≡ true → event_ports_of p ≡ []
+    none p is = at p.debug_port p.exception_port is
+      where
+        at : (a b : Option Birth) → (is_none a && is_none b) ≡ true → listed a ++ listed b ≡ []
+        at None None is = refl
+        at None (Some b) is = absurd (cc)
+        at (Some a) b is = absurd (cc)
+
+    rows : (ps : List ProcessRow) → every (hearer_gone k) ps ≡ true → each event_ports_of (which (process_alive k) ps) ≡ each event_ports_of ps
+    rows [] gone = refl
+    rows (p ∷ ps) gone = at (k.processes p.birth) refl (rows ps (second-true _ _ gone))
+      where
+        at : (e : Bool) → k.processes p.birth ≡ e → each event_ports_of (which (process_alive k) ps) ≡ each event_ports_of ps → each event_ports_of (which (process_alive k) (p ∷ ps)) ≡ event_ports_of p ++ each event_ports_of ps
+        at true alive rest = rw alive (ap (λ bs. event_ports_of p ++ bs) rest)
+        at false dead rest =
+            let off : (false || is_portless p) ≡ true = rw dead at (first-true (hearer_gone k p) _ gone) in
+            rw dead (rest ∙ ap (λ bs. bs ++ each event_ports_of ps) (sym (none p off)))
+
+pub portless-none : (f : Birth → Bool) (p : ProcessRow) → is_portless p ≡ true → every f (event_ports_of p) ≡ true
+portless-none f p is = at p.debug_port p.exception_port is
+  where
+    at : (a b : Option Birth) → (is_none a && is_none b) ≡ true → every f (listed a ++ listed b) ≡ true
+    at None None is = refl
+    at None (Some b) is = absurd (cc)
+    at (Some a) b is = absurd (cc)
+
+events-off : (k : Alive) (b : Birth) (ps : List ProcessRow) → every (hearer_gone k) ps ≡ true → every (λ p. every (λ c. not (same_birth b c)) (event_ports_of p)) (which (process_alive k) ps) ≡ true → every (hearer_closed k) ps ≡ true → every (hearer_closed (but b k)) ps ≡ true
+events-off k b [] gone off all = refl
+events-off k b (p ∷ ps) gone off all = at (k.processes p.birth) refl off (events-off k b ps (second-true _ _ gone))
+  where
+    at : (e : Bool) → k.processes p.birth ≡ e → every (λ p. every (λ c. not (same_birth b c)) (event_ports_of p)) (which (process_alive k) (p ∷ ps)) ≡ true
+        → (every (λ p. every (λ c. not (same_birth b c)) (event_ports_of p)) (which (process_alive k) ps) ≡ true → every (hearer_closed k) ps ≡ true → every (hearer_closed (but b k)) ps ≡ true) → every (hearer_closed (but b k)) (p ∷ ps) ≡ true
+    at true alive off rest =
+        let here : every (λ p. every (λ c. not (same_birth b c)) (event_ports_of p)) (p ∷ which (process_alive k) ps) ≡ true = rw alive at off in
+        and_from _ _ (every-both k.ports (λ c. not (same_birth b c)) (but_birth b k.ports) (λ d live other. and_from _ _ live (rw (births-apart b d (not-true (same_birth b d) other)) refl)) (event_ports_of p) (first-true _ _ all) (first-true _ _ here)) (rest (second-true _ _ here) (second-true _ _ all))
+    at false dead off rest =
+        let none : (false || is_portless p) ≡ true = rw dead at (first-true (hearer_gone k p) _ gone) in
+        let there : every (λ p. every (λ c. not (same_birth b c)) (event_ports_of p)) (which (process_alive k) ps) ≡ true = rw dead at off in
+        and_from _ _ (portless-none (but_birth b k.ports) p none) (rest there (second-true _ _ all))
+
+pub frees-one : (k : Alive) (u : World) (b : Birth) → HasLivingPorts u → is_unheld (thin k u) (port_name b) ≡ true → every (is_lonely b) (thin k u).ports ≡ true → Closed k u → Closed (but b k) u
+frees-one k u b living none lonely c =
     let n = unnamed-of (thin k u) b none in
     record {
       tables = tables-off k (but b k) (port_name b) u (port-apart k b) n.handles c.tables;
@@ -483,6 +590,7 @@ frees-one k u b none lonely c =
       processes = c.processes;
       views = every-both (space_closed k) (λ t. every (λ v. not (is_owned_by b v)) t.rows) (space_closed (but b k))
           (λ t closed apart. every-both (view_closed k) (λ v. not (is_owned_by b v)) (view_closed (but b k)) (λ v live off. and_from _ _ (first-true _ _ live) (named-off k b v.owner (second-true (k.sections v.section) _ live) off)) t.rows closed apart) u.views c.views n.views;
+      events = events-off k b u.processes (hearers-gone k u c living) n.events c.events;
     }
 
 -- what holds of each row by a number that lives, holds of each row by its own
@@ -531,6 +639,7 @@ frees-process k u b none c =
       waits = c.waits;
       registrations = c.registrations;
       cuts = c.cuts;
+      events = c.events;
       views = c.views;
       threads = every-both (thread_closed k) (λ t. not t.live || is_live u t.process) (thread_closed (but_process u b k)) (λ t closed lives. grind arith) u.threads c.threads (living-in u.threads);
       processes = every-both (process_closed k) (λ p. not (is_live u p.number) || (not (process_alive k p) || not (same_birth p.birth b && (p.number == p.number)))) (process_closed (but_process u b k))
@@ -552,6 +661,7 @@ frees-thread k u b none c =
       waits = c.waits;
       registrations = c.registrations;
       cuts = c.cuts;
+      events = c.events;
       views = c.views;
       threads = every-both (thread_closed k) (λ t. not (thread_alive k t) || not (is_life b t)) (thread_closed (but_thread b k)) (λ t closed apart. goes t.live (k.threads t.birth) (k.homes t.process) (same_birth t.birth b) closed apart) u.threads c.threads
           (none-which (thread_alive k) (is_life b) u.threads (has-off (is_life b) v.threads (none-pass (is_life b) v.threads few)));
@@ -574,6 +684,7 @@ frees-section k u b none c =
       waits = every-both (wait_closed k) (λ x. not (offers_section b x)) (wait_closed (but_section b k)) (λ x live off. and_from _ _ (first-true _ _ live) (offer-left x (offer_of x) refl (second-true (k.ports x.port) _ live) off)) u.waits c.waits unoffered;
       registrations = c.registrations;
       cuts = c.cuts;
+      events = c.events;
       threads = c.threads;
       processes = c.processes;
       views = every-both (space_closed k) (λ t. every (λ x. not (shows_section b x)) t.rows) (space_closed (but_section b k))
@@ -596,6 +707,7 @@ frees-token k u b none c = record {
   waits = c.waits;
   registrations = c.registrations;
   cuts = c.cuts;
+  events = c.events;
   threads = c.threads;
   processes = c.processes;
   views = c.views;
@@ -612,14 +724,14 @@ lonely-at w b l none = every-more (λ p. not (is_unheld w (port_name p.birth)) |
     at p true its is = let unheld : is_unheld w (port_name p.birth) ≡ true = subst (λ b. is_unheld w (port_name b) ≡ true) (sym (birth-same p.birth b its)) none in let off : (not true || is_cut p) ≡ true = subst (λ e. (not e || is_cut p) ≡ true) unheld is in rw off (grind arith)
     at p false off is = rw off refl
 
-behind-one : (w u : World) (o : ObjectName) → IsLinked w → is_unheld w o ≡ true → Behind w u → Behind (basic w (Frees o)) u
-behind-one w u o l none r = at o.kind o.birth (subst (λ v. IsLinked v) r.same l) (subst (λ v. is_unheld v o ≡ true) r.same none)
+behind-one : (w u : World) (o : ObjectName) → HasLivingPorts u → IsLinked w → is_unheld w o ≡ true → Behind w u → Behind (basic w (Frees o)) u
+behind-one w u o living l none r = at o.kind o.birth (subst (λ v. IsLinked v) r.same l) (subst (λ v. is_unheld v o ≡ true) r.same none)
   where
     at : (s : ObjectKind) (b : Birth) → IsLinked (thin r.alive u) → is_unheld (thin r.alive u) (record { kind = s; birth = b }) ≡ true → Behind (freed w s b) u
     at kind.Port b linked off = record {
       alive = but b r.alive;
       same = ap (λ v. freed v kind.Port b) r.same ∙ ap (λ ps. record (thin r.alive u) { ports = ps }) (sym (which-but (port_alive r.alive) (is_port b) u.ports));
-      closed = frees-one r.alive u b off (lonely-at (thin r.alive u) b linked off) r.closed;
+      closed = frees-one r.alive u b living off (lonely-at (thin r.alive u) b linked off) r.closed;
     }
     at kind.Section b linked off = record {
       alive = but_section b r.alive;
@@ -644,11 +756,11 @@ behind-one w u o l none r = at o.kind o.birth (subst (λ v. IsLinked v) r.same l
       closed = frees-thread r.alive u b off r.closed;
     }
 
-behind-all : (w u : World) (os : List ObjectName) → IsSoundWorld w → IsLinked w → every (is_unheld w) os ≡ true → Behind w u → Behind (world_after w (map Frees os)) u
-behind-all w u [] s l all r = r
-behind-all w u (o ∷ os) s l all r =
+behind-all : (w u : World) (os : List ObjectName) → HasLivingPorts u → IsSoundWorld w → IsLinked w → every (is_unheld w) os ≡ true → Behind w u → Behind (world_after w (map Frees os)) u
+behind-all w u [] living s l all r = r
+behind-all w u (o ∷ os) living s l all r =
     let none : is_unheld w o ≡ true = first-true _ _ all in
-    behind-all (basic w (Frees o)) u os (freed-sound w o none s) (gone-linked w o none s l) (every-more (is_unheld w) (is_unheld (basic w (Frees o))) (less-held w o) os (second-true _ _ all)) (behind-one w u o l none r)
+    behind-all (basic w (Frees o)) u os living (freed-sound w o none s) (gone-linked w o none s l) (every-more (is_unheld w) (is_unheld (basic w (Frees o))) (less-held w o) os (second-true _ _ all)) (behind-one w u o living l none r)
 
 -- a pass leaves a sound world whose ports are linked
 pass-kept : (w : World) (os : List ObjectName) → IsSoundWorld w → IsLinked w → every (is_unheld w) os ≡ true → IsSoundWorld (world_after w (map Frees os)) × IsLinked (world_after w (map Frees os))
@@ -657,13 +769,13 @@ pass-kept w (o ∷ os) s l all =
     let none : is_unheld w o ≡ true = first-true _ _ all in
     pass-kept (basic w (Frees o)) os (freed-sound w o none s) (gone-linked w o none s l) (every-more (is_unheld w) (is_unheld (basic w (Frees o))) (less-held w o) os (second-true _ _ all))
 
-behind-unheld : (w u : World) → IsSoundWorld w → IsLinked w → Behind w u → Behind (world_after w (free_unheld w)) u
-behind-unheld w u s l r = behind-all w u (unheld w) s l (which-all (is_unheld w) _) r
+behind-unheld : (w u : World) → HasLivingPorts u → IsSoundWorld w → IsLinked w → Behind w u → Behind (world_after w (free_unheld w)) u
+behind-unheld w u living s l r = behind-all w u (unheld w) living s l (which-all (is_unheld w) _) r
 
 -- rows that nothing names go: a world is behind as before
-pub behind-sweep : (w u : World) → IsSoundWorld w → IsLinked w → Behind w u → Behind (world_after w (sweep w)) u
+pub behind-sweep : (w u : World) → HasLivingPorts u → IsSoundWorld w → IsLinked w → Behind w u → Behind (world_after w (sweep w)) u
 unfolding sweep
-behind-sweep w u s l r =
+behind-sweep w u living s l r =
     let v : World = world_after w (free_unheld w) in
     let next = pass-kept w (unheld w) s l (which-all (is_unheld w) _) in
-    subst (λ x. Behind x u) (sym (after-append w (free_unheld w) (free_unheld v))) (behind-unheld v u next.0 next.1 (behind-unheld w u s l r))
+    subst (λ x. Behind x u) (sym (after-append w (free_unheld w) (free_unheld v))) (behind-unheld v u living next.0 next.1 (behind-unheld w u living s l r))

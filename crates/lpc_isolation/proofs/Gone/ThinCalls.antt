@@ -12,7 +12,7 @@ use Rattle.lpc_model.specs.declared.entry.ObjectKind.TheVariants as kind
 use Rattle.lpc_model.specs.declared.message.Message.{Message}
 use Rattle.lpc_model.specs.Message.{asks, message_test}
 use Rattle.lpc_model.specs.Refusal.{found_or, refuse_if}
-use Rattle.lpc_model.specs.World.{Accepted, Birth, Connect, HandleTable, Listen, MessageRow, PortRow, Receive, Request, ThreadRow, WaitKind, WaitRow, World, SectionRow, Offer, ViewRow, Dacl, Qos, ProcessRow}
+use Rattle.lpc_model.specs.World.{Accepted, Birth, Connect, HandleTable, Listen, MessageRow, PortRow, Receive, Request, ThreadRow, WaitKind, WaitRow, World, SectionRow, Offer, ViewRow, Dacl, Qos, ProcessRow, Event}
 use Rattle.lpc_model.specs.Found.{fits, fitted, handle_at, handles_of, has_value, is_port, is_table, port_row, rows_in, same_kind, is_section, section_row, offer_of, token_of, token_in, is_process, is_live_thread, live_thread}
 use Rattle.lpc_model.specs.Basics.{Basic, world_after}
 use Rattle.lpc_model.specs.Entering.{enter, given_steps, shown, takes, woken}
@@ -111,6 +111,8 @@ AreClosed k bs = every (is_closed k) bs ≡ true
 given-closed : (k : Alive) (x : MessageRow) (y : WaitRow) (sort : WaitKind) (asked : Bool) → y.kind ≡ sort → asks x.message ≡ asked → AreClosed k (given_steps y x ++ woken SUCCESS (shown y x) y ∷ [])
 given-closed k x y (Request a) true is asked = rw (is, asked) refl
 given-closed k x y (Request a) false is asked = rw (is, asked) refl
+given-closed k x y (Event e) true is asked = rw (is, asked) refl
+given-closed k x y (Event e) false is asked = rw (is, asked) refl
 given-closed k x y Receive true is asked = rw (is, asked) refl
 given-closed k x y Receive false is asked = rw (is, asked) refl
 given-closed k x y Listen true is asked = rw (is, asked) refl
@@ -140,9 +142,9 @@ given-same f g same (Some x) = rw (same x) refl
 wanted-thin : (k : Alive) (u : World) (by : ThreadRow) (view : Option ViewWord) → Closed k u → if_given (wanted_test (thin k u) by) view ≡ if_given (wanted_test u by) view
 wanted-thin k u by view c = given-same (wanted_test (thin k u) by) (wanted_test u by) (λ word. rw (section-thin k u by SECTION_MAP_WRITE word.handle c) refl) view
 
--- the process of a live thread stands, so its token is found
-home-token : (k : Alive) (u : World) (pid : ℕ) → k.homes pid ≡ true → Closed k u → token_of (thin k u) pid ≡ token_of u pid
-home-token k u pid home c = ap token_in (first-agree (process_closed k) (process_alive k) (is_process pid) (is_process pid) (λ p closed. at p closed (p.number == pid) refl) u.processes c.processes)
+-- the process of a live thread stands, so its row is found, and its token
+pub home-row : (k : Alive) (u : World) (pid : ℕ) → k.homes pid ≡ true → Closed k u → first (is_process pid) (thin k u).processes ≡ first (is_process pid) u.processes
+home-row k u pid home c = first-agree (process_closed k) (process_alive k) (is_process pid) (is_process pid) (λ p closed. at p closed (p.number == pid) refl) u.processes c.processes
   where
     held : (e a : Bool) → e ≡ true → (not e || a) ≡ true → a ≡ true
     held e a is ok = grind arith
@@ -151,13 +153,19 @@ home-token k u pid home c = ap token_in (first-agree (process_closed k) (process
     at p closed true is = let alive : k.processes p.birth ≡ true = held (k.homes p.number) (k.processes p.birth) (ap k.homes (eqb-true p.number pid is) ∙ home) closed in rw (alive, is) refl
     at p closed false is = grind arith
 
-pub token-thin : (k : Alive) (u : World) (by : ThreadRow) → live_thread u by.number ≡ Some by → Closed k u → token_of (thin k u) by.process ≡ token_of u by.process
-token-thin k u by live c =
+home-token : (k : Alive) (u : World) (pid : ℕ) → k.homes pid ≡ true → Closed k u → token_of (thin k u) pid ≡ token_of u pid
+home-token k u pid home c = ap token_in (home-row k u pid home c)
+
+pub caller-home : (k : Alive) (u : World) (by : ThreadRow) → live_thread u by.number ≡ Some by → Closed k u → k.homes by.process ≡ true
+caller-home k u by live c =
     let passed : is_live_thread by.number by ≡ true = first-passes (is_live_thread by.number) u.threads by live in
-    home-token k u by.process (last by.live (k.threads by.birth) (k.homes by.process) (second-true (by.number == by.number) by.live passed) (every-first (thread_closed k) (is_live_thread by.number) u.threads by c.threads live)) c
+    last by.live (k.threads by.birth) (k.homes by.process) (second-true (by.number == by.number) by.live passed) (every-first (thread_closed k) (is_live_thread by.number) u.threads by c.threads live)
   where
     last : (l a h : Bool) → l ≡ true → (not l || (a && h)) ≡ true → h ≡ true
     last l a h is it = grind arith
+
+pub token-thin : (k : Alive) (u : World) (by : ThreadRow) → live_thread u by.number ≡ Some by → Closed k u → token_of (thin k u) by.process ≡ token_of u by.process
+token-thin k u by live c = home-token k u by.process (caller-home k u by live c) c
 
 pub connect-thin : (k : Alive) (u : World) (by : ThreadRow) (name : List ℕ) (quality : Qos) (view : Option ViewWord) (bytes : List ℕ) → live_thread u by.number ≡ Some by → ((q : Birth) → named_port u name ≡ Ok q → k.ports q ≡ true) → Closed k u → nt_connect_port (thin k u) by name quality view bytes ≡ nt_connect_port u by name quality view bytes
 unfolding nt_connect_port

@@ -1,8 +1,11 @@
 -- What is remembered of outsiders' connects stays right by what calls send, take and tell.
+use Rattle.lpc_model.specs.Raise.{Hearing, event_begun, event_wait, raise_told}
+use Rattle.lpc_isolation.proofs.Each.Raises.{event_row, event-sort}
+use Rattle.lpc_model.proofs.Sound.Reply.{reply-cases, fits-asking}
 use Rattle.std.proofs.Common.{◌≡◌, ◌≤◌, ℕ, List, [], ◌∷◌, ◌++◌, Bool, true, false, cond, not, Option, Some, None, refl, ap, sym, subst, ◌∙◌, arith}
 use Rattle.std.specs.Prelude.{◌&&◌, ◌||◌, ◌==◌, Ok}
-use Rattle.std.proofs.lemmas.Bool.{and_from, eqb-true}
-use Rattle.lpc_base.specs.Rows.{count, every, first, given, passes, which}
+use Rattle.std.proofs.lemmas.Bool.{and_from}
+use Rattle.lpc_base.specs.Rows.{count, every, first, given, passes, which, without}
 use Rattle.lpc_base.proofs.RowWords.{every-append, every-more, every-push, every-which, every-without, first-passes}
 use Rattle.lpc_base.proofs.RowMaps.{every-first, every-none}
 use Rattle.lpc_base.proofs.Bools.{first-true, same-number, second-true}
@@ -13,7 +16,7 @@ use Rattle.lpc_model.specs.declared.entry.Entry.TheVariants as entry
 use Rattle.lpc_model.specs.declared.message.Message.{Message}
 use Rattle.lpc_model.specs.Message.{asks}
 use Rattle.lpc_model.specs.World.{Birth, Listen, MessageRow, PortRow, Receive, ThreadRow, WaitKind, WaitRow, World, Offer, ViewRow}
-use Rattle.lpc_model.specs.Found.{fits, is_accepted, is_offered, is_request, same_birth, wait_of, waits_as}
+use Rattle.lpc_model.specs.Found.{fits, is_accepted, is_offered, is_asking, same_birth, wait_of, waits_as}
 use Rattle.lpc_model.specs.Basics.{Awaits, Basic, entries_of, world_after}
 use Rattle.lpc_model.specs.Entering.{enter, given_steps, row_of, shown, take_connect_steps, take_steps, takes, woken}
 use Rattle.lpc_model.specs.Connect.{connect_wait, connection_request, listen_steps}
@@ -22,7 +25,7 @@ use Rattle.lpc_model.proofs.Steps.Rows.{lone}
 use Rattle.lpc_model.specs.Circle.{Group, Whose, owner}
 use Rattle.lpc_isolation.proofs.Views.Filters.{first-kept, first-push_off}
 use Rattle.lpc_isolation.proofs.Views.View.{our_wait, view}
-use Rattle.lpc_isolation.proofs.Rows.Fair.{is_fair_message, is_fair_wait, is_sent}
+use Rattle.lpc_isolation.proofs.Rows.Fair.{is_fair_message, is_fair_wait, is_sent, together}
 use Rattle.lpc_isolation.proofs.Each.Enter.{taker-process}
 use Rattle.lpc_isolation.proofs.Views.Apart.{Owned, given-entries, is_owned, owned-by}
 use Rattle.lpc_isolation.proofs.Plays.Play.{is_told_input, told_inputs}
@@ -35,7 +38,7 @@ use Rattle.lpc_isolation.proofs.Memory.Knows.{AllKnown, are_known, is_told, run-
 use Rattle.lpc_isolation.proofs.Memory.Receptions.{Fits, asker-by, asker-on, enter-known, is_by, is_on, known-append, note-known, take-known, take_connect-known, told-inside, told-noted, told-outside}
 
 -- A wait that isn't for messages
-not-taker : (x : WaitRow) (sort : WaitKind) → x.kind ≡ sort → (is_accepted x || (is_offered x || is_request x)) ≡ true → takes_any x ≡ false
+not-taker : (x : WaitRow) (sort : WaitKind) → x.kind ≡ sort → (is_accepted x || (is_offered x || is_asking x)) ≡ true → takes_any x ≡ false
 not-taker x Receive is on = let off : false ≡ true = rw is at on in absurd (cc)
 not-taker x Listen is on = let off : false ≡ true = rw is at on in absurd (cc)
 not-taker x b is on = rw is refl
@@ -44,7 +47,7 @@ pub none-takes : (k t f : WaitRow → Bool) (xs : List WaitRow) → every (λ y.
 none-takes k t f [] all = refl
 none-takes k t f (x ∷ xs) all = grind (arith, none-takes k t f xs)
 
-pub wake-silent : (m : Group) (w : World) (test : WaitRow → Bool) (x : WaitRow) → ((tid : ℕ) → count (waits_as tid) w.waits ≤ 1) → first test w.waits ≡ Some x → (is_accepted x || (is_offered x || is_request x)) ≡ true → not (passes (wait_of (view m w) x.thread) takes_any) ≡ true
+pub wake-silent : (m : Group) (w : World) (test : WaitRow → Bool) (x : WaitRow) → ((tid : ℕ) → count (waits_as tid) w.waits ≤ 1) → first test w.waits ≡ Some x → (is_accepted x || (is_offered x || is_asking x)) ≡ true → not (passes (wait_of (view m w) x.thread) takes_any) ≡ true
 wake-silent m w test x once found on =
     let off : not (takes_any x) ≡ true = rw (not-taker x x.kind refl on) refl in
     none-takes (our_wait m) (waits_as x.thread) takes_any w.waits (lone (waits_as x.thread) (λ y. not (takes_any y)) test w.waits x (once x.thread) found (same-number x.thread) off)
@@ -58,7 +61,10 @@ pub answer-silent : (m : Group) (c : ℕ) (u w : World) (by : ThreadRow) (p : Po
 answer-silent m c u w by p b x k at =
     let found = answered-fit w p b x at in
     let fit = first-passes (fits w p.birth b) w.waits x found in
-    wake-silent m w (fits w p.birth b) x k.once found (grind arith)
+    wake-silent m w (fits w p.birth b) x k.once found (asks-on (is_accepted x) (is_offered x) (is_asking x) (fits-asking w p.birth b x fit))
+  where
+    asks-on : (a o e : Bool) → e ≡ true → (a || (o || e)) ≡ true
+    asks-on a o e is = grind arith
 
 -- A message that is sent
 -- a thread that waits for nothing has no wait
@@ -104,6 +110,16 @@ connect-sent m c u w by q offer own bytes k = record {
   sort = refl;
   own = every-push (is_by by.number by.process) w.waits (connect_wait by q offer (connection_request by offer bytes)) (idle-by w by.number by.process k.idle) (rw (same-number by.process) (grind arith));
   on = λ asked. every-push (is_on by.number q) w.waits (connect_wait by q offer (connection_request by offer bytes)) (idle-on w by.number q k.idle) (rw (birth-self q) (grind arith));
+}
+
+pub event-sent : (m : Group) (c : ℕ) (u w : World) (by : ThreadRow) (code : ℕ) (handled : Bool) (h : Hearing) → Caller m c u w by → Sent w by (raise_told by ∷ event_begun by code handled h) (event_row by code h)
+event-sent m c u w by code handled h k = record {
+  begins = λ m memo. refl;
+  takers = first-push_off (takes (event_row by code h)) w.waits (event_wait by code handled h) refl;
+  sender = refl;
+  sort = event-sort by code h;
+  own = every-push (is_by by.number by.process) w.waits (event_wait by code handled h) (idle-by w by.number by.process k.idle) (rw (same-number by.process) (grind arith));
+  on = λ asked. every-push (is_on by.number h.queue) w.waits (event_wait by code handled h) (idle-on w by.number h.queue k.idle) (rw (birth-self h.queue) (grind arith));
 }
 
 -- by an outsider: what is remembered once the line's wakes are told
@@ -218,8 +234,8 @@ fits-c m c u w by memo test y k owned at mine =
     let fair : is_fair_message m c y ≡ true = every-first (is_fair_message m c) test w.messages y k.fair.messages at in
     let q_c : (y.queue.process == c) ≡ true = ap (λ p. p == c) mine ∙ same-number c in
     let s_in : m y.sender.process ≡ true = grind arith in
-    let client : y.message.header.client.process ≡ y.sender.process = eqb-true _ _ (first-true _ _ fair) in
-    fits-inside m memo w y owned (every-first (is_sent w.used_threads) test w.messages y k.fair.senders at) (ap m client ∙ s_in)
+    let client : m y.message.header.client.process ≡ m y.sender.process = together m _ _ (first-true _ _ fair) in
+    fits-inside m memo w y owned (every-first (is_sent w.used_threads) test w.messages y k.fair.senders at) (client ∙ s_in)
 
 -- another member notes it
 pub record Noted (m : Group) (w : World) (y : MessageRow) (memo : List Heard) : Type 0 where
@@ -267,7 +283,11 @@ pub no-reply : IsReply []
 no-reply m memo w = (refl, λ y fits. fits)
 
 pub one-reply : (x : WaitRow) (b : Message) → IsReply (reply x b ∷ [])
-one-reply x b m memo w = (refl, λ y fits asked. every-without (is_told m memo (sender_of y)) (waits_as x.thread) w.waits (fits asked))
+one-reply x b m memo w =
+    let ended : (y : MessageRow) → Fits m memo w y → asks y.message ≡ true → every (is_told m memo (sender_of y)) (without (waits_as x.thread) w.waits) ≡ true = λ y fits asked. every-without (is_told m memo (sender_of y)) (waits_as x.thread) w.waits (fits asked) in (
+      reply-cases (λ r. are_known m memo w (r ∷ []) ≡ true) x b refl refl (λ _. refl),
+      λ y fits. reply-cases (λ r. Fits m memo (world_after w (r ∷ [])) y) x b (ended y fits) (ended y fits) (λ _. fits),
+    )
 
 pub received-known : (m : Group) (w : World) (by : ThreadRow) (p : PortRow) (q : Birth) (memo : List Heard) (rs : List Basic) (o : Option MessageRow) → IsReply rs → ((y : MessageRow) → o ≡ Some y → Fits m memo w y) → are_known m memo w (receive_steps by p q rs o) ≡ true
 received-known m w by p q memo rs None r fits = known-append m memo w rs (Awaits (receive_wait by p.birth q) ∷ []) (r m memo w).0 refl

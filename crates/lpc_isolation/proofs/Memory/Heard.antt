@@ -8,7 +8,7 @@ use Rattle.lpc_base.proofs.RowWords.{every-append, every-more}
 use Rattle.lpc_base.proofs.Bools.{first-true, second-true}
 use Rattle.lpc_base.specs.declared.status.Status.{Status}
 use Rattle.lpc_message.specs.Layout.{header_of}
-use Rattle.lpc_message.specs.declared.kind.TheConstants.{CLIENT_DIED, CONNECTION_REQUEST, DATAGRAM, PORT_CLOSED, REQUEST}
+use Rattle.lpc_message.specs.declared.kind.TheConstants.{CLIENT_DIED, CONNECTION_REQUEST, DATAGRAM, DEBUG_EVENT, EXCEPTION, PORT_CLOSED, REQUEST}
 use Rattle.lpc_message.specs.declared.message.Header.{Header}
 use Rattle.lpc_model.specs.declared.entry.Entry.{Entry}
 use Rattle.lpc_model.specs.declared.entry.Entry.TheVariants as entry
@@ -46,7 +46,7 @@ note b who q memo = cond b (record { thread = who; queue = q } ∷ memo) memo
 
 -- what an entry shows of a message that is taken from a queue: an outsider's that asks is remembered
 abbrev pub asks_as : ℕ → Bool
-asks_as kind = (kind == REQUEST) || (kind == CONNECTION_REQUEST)
+asks_as kind = (kind == REQUEST) || ((kind == CONNECTION_REQUEST) || ((kind == EXCEPTION) || (kind == DEBUG_EVENT)))
 
 abbrev pub shown_header : List Field → Header
 shown_header fields = header_of (shown_bytes fields)
@@ -135,7 +135,7 @@ pub record Reads (y : MessageRow) : Type 0 where
   pub process : (header_of (bytes_of y.message)).client.process ≡ y.message.header.client.process
   pub thread : (header_of (bytes_of y.message)).client.thread ≡ y.message.header.client.thread
 
-sort-few : (k : ℕ) → (((k == REQUEST) || (k == CONNECTION_REQUEST)) || ((k == DATAGRAM) || ((k == PORT_CLOSED) || (k == CLIENT_DIED)))) ≡ true → nat_le k 65535 ≡ true
+sort-few : (k : ℕ) → (((k == REQUEST) || ((k == CONNECTION_REQUEST) || ((k == EXCEPTION) || (k == DEBUG_EVENT)))) || ((k == DATAGRAM) || ((k == PORT_CLOSED) || (k == CLIENT_DIED)))) ≡ true → nat_le k 65535 ≡ true
 sort-few k is = grind (arith, nat_tests)
 
 pub reads-of : (us : List UsedThread) (y : MessageRow) → every of_number us ≡ true → is_sent us y ≡ true → is_sort y ≡ true → Reads y

@@ -12,9 +12,9 @@ use Rattle.lpc_base.specs.declared.status.TheConstants.{REPLY_MESSAGE_MISMATCH}
 use Rattle.lpc_model.specs.declared.message.Message.{Message}
 use Rattle.lpc_model.specs.Message.{message_test}
 use Rattle.lpc_model.specs.Refusal.{found_or}
-use Rattle.lpc_model.specs.World.{Accepted, Birth, Connect, Listen, Receive, Request, ThreadRow, WaitKind, WaitRow, World, Acceptance}
+use Rattle.lpc_model.specs.World.{Accepted, Birth, Connect, Listen, Receive, Request, ThreadRow, WaitKind, WaitRow, World, Acceptance, Event}
 use Rattle.lpc_model.specs.Found.{is_offered, is_the, no_birth, waits_as, waits_at}
-use Rattle.lpc_model.specs.Basics.{Accepts, Awaits, Basic, Frees, Receives, Wakes, accepted, basic, received, world_after, Dies}
+use Rattle.lpc_model.specs.Basics.{Accepts, Awaits, Basic, Frees, Receives, Wakes, accepted, basic, received, world_after, Dies, Leaves}
 use Rattle.lpc_model.specs.Tests.{client_test}
 use Rattle.lpc_model.specs.Connect.{ConnectAnswer, answer_test, names_connect}
 use Rattle.lpc_model.proofs.Calls.Holding.{Holds, bind_holds, found_ok}
@@ -47,6 +47,7 @@ are_known m memo w (b ∷ bs) = keeps_known m memo w b && are_known m memo (basi
 
 accepted-known : (m : Group) (memo : List Heard) (reply : Acceptance) (x : WaitRow) (sort : WaitKind) → x.kind ≡ sort → is_known m memo x ≡ true → is_known m memo (accepted reply x) ≡ true
 accepted-known m memo reply x (Request a) is known = rw is refl
+accepted-known m memo reply x (Event e) is known = rw is refl
 accepted-known m memo reply x Receive is known = rw is refl
 accepted-known m memo reply x Listen is known = rw is refl
 accepted-known m memo reply x (Connect a offer) is known = rw is refl
@@ -58,6 +59,7 @@ basic-known m memo w (Receives who q) ok all = every-changed (is_known m memo) (
 basic-known m memo w (Wakes who call status fields) ok all = every-without (is_known m memo) (waits_as who) w.waits all
 basic-known m memo w (Accepts who reply) ok all = every-change (is_known m memo) (waits_as who) (accepted reply) (λ x is. accepted-known m memo reply x x.kind refl is) w.waits all
 basic-known m memo w (Frees o) ok all = absurd (cc)
+basic-known m memo w (Leaves who) ok all = every-without (is_known m memo) (waits_as who) w.waits all
 basic-known m memo w (Dies who status) ok all = every-without (is_known m memo) (waits_as who) w.waits all
 basic-known m memo w b ok all = all
 

@@ -12,8 +12,8 @@ use Rattle.lpc_model.specs.declared.entry.Word.TheVariants as word
 use Rattle.lpc_model.specs.World.{Birth, Contents, ThreadRow, ViewRow, ViewTable, WaitRow, World}
 use Rattle.lpc_model.specs.Found.{holds_range, is_live_thread, is_space, live_thread, views_in, views_of, wait_of, named_token}
 use Rattle.lpc_model.specs.Basics.{Basic, world_after}
-use Rattle.lpc_model.specs.Lines.{of_resident, ScriptCall, ScriptLine, boot, dir, link, read_request_data, run, thread, token}
-use Rattle.lpc_model.specs.Machine.{bare_steps, boot_line, dir_line, link_line, thread_line, thread_test, unused_test, name_of_call, boot_token, token_line}
+use Rattle.lpc_model.specs.Lines.{ScriptCall, ScriptLine, boot, dir, link, read_request_data, run, thread, token, of_resident}
+use Rattle.lpc_model.specs.Machine.{own_steps, boot_line, dir_line, link_line, thread_line, thread_test, unused_test, name_of_call, boot_token, token_line}
 use Rattle.lpc_model.specs.Named.{free_name, spelled_name}
 use Rattle.lpc_model.specs.Ranges.{asked_test, described_test}
 use Rattle.lpc_model.proofs.Calls.Holding.{bind_holds, directed_holds, holds_ok, settled_holds}
@@ -21,7 +21,7 @@ use Rattle.lpc_model.specs.Circle.{Group, ReadsInner, is_fine_line, names_no_out
 use Rattle.lpc_isolation.proofs.Calls.Lines.{busy, called, nobody}
 use Rattle.lpc_isolation.proofs.Each.Instances.{caller}
 use Rattle.lpc_isolation.proofs.Each.Described.{IsDescribed, c-client_in, described-is}
-use Rattle.lpc_isolation.proofs.Gone.Served.{served, served_step, served_steps}
+use Rattle.lpc_isolation.proofs.Gone.Served.{served, own_served_step, own_served}
 use Rattle.lpc_isolation.proofs.Owed.Mapped.{ShowsKnown, has-space, is_known_space, is_known_view, calls-known, is_known_step, run-known}
 use Rattle.lpc_isolation.proofs.Plays.Stands.{State, Stood, line-call, ready-at}
 use Rattle.lpc_isolation.proofs.Rows.Fair.{Fair, implies}
@@ -45,21 +45,21 @@ module _ (m : Group) (c : ℕ) (outer : Birth → Bool) (w : World) (s : State) 
   abbrev Maps : List Basic → Type 0
   Maps bs = ShowsOuter m outer (world_after w bs) → AreKnown m outer bs
 
-  run_steps-known : (tid : ℕ) (call : ScriptCall) → ShowsOuter m outer (served_step w (run tid call)).world → AreKnown m outer (served_steps (run tid call) w)
+  run_steps-known : (tid : ℕ) (call : ScriptCall) → ShowsOuter m outer (own_served_step w (run tid call)).world → AreKnown m outer (own_served (run tid call) w)
   run_steps-known tid call = at (live_thread w tid) refl
     where
-      ready : (by : ThreadRow) → live_thread w tid ≡ Some by → (o : Option WaitRow) → wait_of w tid ≡ o → Maps (served_steps (run tid call) w)
+      ready : (by : ThreadRow) → live_thread w tid ≡ Some by → (o : Option WaitRow) → wait_of w tid ≡ o → Maps (own_served (run tid call) w)
       ready by live (Some x) waits = subst Maps (sym (busy w tid call by x live waits)) (λ _. refl)
       ready by live None idle =
           let k = caller m c w by (known_queue s.memo) w (ready-at m c w s tid by c_in st fine live idle) refl in
           subst Maps (sym (called w tid call by live idle)) (settled_holds Maps by (name_of_call call) (served w by call) (calls-known m c outer w by k shown (home-of tid by live) call) (λ _ _ _. refl))
 
-      at : (o : Option ThreadRow) → live_thread w tid ≡ o → Maps (served_steps (run tid call) w)
+      at : (o : Option ThreadRow) → live_thread w tid ≡ o → Maps (own_served (run tid call) w)
       at None none = subst Maps (sym (nobody w tid call none)) (λ _. refl)
       at (Some by) live = ready by live (wait_of w tid) refl
 
-  line_steps-known : (line : ScriptLine) → ShowsOuter m outer (served_step w line).world → AreKnown m outer (served_steps line w)
-  unfolding bare_steps boot_line token_line thread_line dir_line link_line
+  line_steps-known : (line : ScriptLine) → ShowsOuter m outer (own_served_step w line).world → AreKnown m outer (own_served line w)
+  unfolding own_steps boot_line token_line thread_line dir_line link_line
   line_steps-known (of_resident tid what had) next = refl
   line_steps-known (run tid call) next = run_steps-known tid call next
   line_steps-known (boot pid tid name) next = directed_holds (AreKnown m outer) word.Boot (boot_line w pid tid name) (bind_holds (boot_token w name) _ (AreKnown m outer) (λ _ _. bind_holds (unused_test w pid tid) _ (AreKnown m outer) (λ _ _. refl))) (λ _. refl)
@@ -68,8 +68,8 @@ module _ (m : Group) (c : ℕ) (outer : Birth → Bool) (w : World) (s : State) 
   line_steps-known (dir path) next = directed_holds (AreKnown m outer) word.Dir (dir_line w path) (bind_holds (free_name w path) _ (AreKnown m outer) (λ _ _. refl)) (λ _. refl)
   line_steps-known (link path target) next = directed_holds (AreKnown m outer) word.Link (link_line w path target) (bind_holds (spelled_name target) _ (AreKnown m outer) (λ _ _. bind_holds (free_name w path) _ (AreKnown m outer) (λ _ _. refl))) (λ _. refl)
 
-  pub line-shown : (line : ScriptLine) → ShowsOuter m outer (served_step w line).world → ShowsKnown m outer (served_step w line).world
-  line-shown line next = run-known m outer w (served_steps line w) (line_steps-known line next) shown
+  pub line-shown : (line : ScriptLine) → ShowsOuter m outer (own_served_step w line).world → ShowsKnown m outer (own_served_step w line).world
+  line-shown line next = run-known m outer w (own_served line w) (line_steps-known line next) shown
 
 -- What c reads
 -- a member's view

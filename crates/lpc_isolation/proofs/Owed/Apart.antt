@@ -1,4 +1,9 @@
 -- An outsider's call: the view loses only waits whose wakes are told.
+use Rattle.lpc_model.proofs.Calls.Holding.{holds_ok}
+use Rattle.lpc_model.specs.Targets.{process_target}
+use Rattle.lpc_isolation.proofs.Calls.Aims.{process-whose}
+use Rattle.lpc_model.proofs.Calls.Raising.{set-passes}
+use Rattle.lpc_isolation.proofs.Each.Raises.{raised, raiser, send-apart}
 use Rattle.lpc_isolation.proofs.Gone.Fine.{unsecured}
 use Rattle.lpc_isolation.proofs.Each.Accepts.{IsAnswer, accept-apart, refuse-apart, found-answer}
 use Rattle.lpc_isolation.proofs.Views.Alone.{HasFineRows}
@@ -63,14 +68,14 @@ apart-deeds m c u d w by k out = record {
   asks = λ handle bytes s at _.
       let is = found-request m c u w by handle bytes s k at in
       request-apart m c u d w by s.port s.queue s.message k is.named is.to out;
-  replies = λ handle bytes p b x at read fits _. rw (k.here, out) (wakes-apart m c u d w p b x k.c_in k.fair k.owned (ap m (own handle p at) ∙ out) fits);
+  replies = λ handle bytes p b x at read fits _. rw (k.here, out) (wakes-apart m c u d w p b x k.c_in k.fair k.owned k.paths (ap m (own handle p at) ∙ out) fits);
   receives = λ handle bytes a p q replied o is first _.
       let r = receivable m c u w by handle bytes a p q replied k is in
       let p_out : m p.birth.process ≡ false = ap m r.named.process ∙ out in
       let q_out : m q.process ≡ false = ap m (queue-own m c w p q r.named.right r.queue) ∙ p_out in
       replied-as (λ rs. are_apart m c u d w (receive_steps by p q rs o) ≡ true) w p a replied r.replies
       (λ none. received-apart m c u d w by p q o first k.here q_out out)
-      (λ b y some at. replied-apart m c u d w by p q y b o first k.here q_out out (wakes-apart m c u d w p b y k.c_in k.fair k.owned p_out at));
+      (λ b y some at. replied-apart m c u d w by p q y b o first k.here q_out out (wakes-apart m c u d w p b y k.c_in k.fair k.owned k.paths p_out at));
   closes = λ handle r at _.
       let here : r.object.birth.process ≡ by.process = handle-own m c w by.process handle r k.fair at in
       let g = handle-good m c by.process r here in
@@ -79,6 +84,12 @@ apart-deeds m c u d w by k out = record {
   impersonates = λ handle bytes own is _. rw (k.here, out, unseen-thread m c w by.number by.process k.fair k.own out) refl;
   opens_own = λ own is _. rw (k.here, out, unseen-thread m c w by.number by.process k.fair k.own out) refl;
   opens_primary = λ _. rw (k.here, out, unseen-thread m c w by.number by.process k.fair k.own out) refl;
+  sets = λ target class handle pid port at found live _.
+      let pid_out : m pid ≡ false = holds_ok (λ pid. m pid ≡ m by.process) (process_target w by target) pid (process-whose m c w by target k.fair) at ∙ out in
+      set-passes (λ bs. are_apart m c u d w bs ≡ true) by class pid port.birth (rw (k.here, out, pid_out) refl) (rw (k.here, out, pid_out) refl);
+  handles = λ code handled _. rw (k.here, out) refl;
+  hears = λ code handled h is _. and_from _ _ (rw (k.here, out) refl) (send-apart m c u d w by code handled h (raiser m c u w by k) (raised m c u w by h k is) out);
+  fails = λ code handled _. rw out refl;
   tames = any-tame (λ call name fields bs tame t _. rw (k.here, out) (aparts m c u d w by w bs t k.c_in out k.fair k.fair k.own));
   ends = λ call name own pid code ts doomed _.
       let p = doomed-part m c u w by own pid code ts k doomed in

@@ -1,4 +1,9 @@
 -- A call's steps keep the rows fair.
+use Rattle.lpc_model.proofs.Sound.Reply.{reply-cases}
+use Rattle.lpc_model.specs.Targets.{process_target}
+use Rattle.lpc_isolation.proofs.Calls.Aims.{process-whose}
+use Rattle.lpc_model.proofs.Calls.Raising.{set-passes}
+use Rattle.lpc_isolation.proofs.Each.Raises.{raised, raiser, send-fair}
 use Rattle.lpc_isolation.proofs.Gone.Fine.{unsecured}
 use Rattle.lpc_model.specs.Connect.{allow_steps, create_steps, named_steps}
 use Rattle.lpc_model.specs.Memory.{section_test}
@@ -11,7 +16,7 @@ use Rattle.lpc_isolation.proofs.Each.Connects.{connect-fair, connect-fine, steps
 use Rattle.lpc_isolation.proofs.Each.Create.{named-fair, unnamed-fair}
 use Rattle.lpc_isolation.proofs.Calls.Deeds.{AreTame, Deeds, gives, more, none, numbers, registers, any-tame, maps, unmaps, writes, acts, guarded}
 use Rattle.lpc_isolation.proofs.Calls.Doomed.{doomed-part, ended, steady}
-use Rattle.lpc_isolation.proofs.Rows.Fair.{implies, Fair, are_fair, is_fair_step, is_own, owner-used, is_fair_view, fair-append}
+use Rattle.lpc_isolation.proofs.Rows.Fair.{implies, Fair, are_fair, is_fair_step, is_own, owner-used, is_fair_view, fair-append, are_together, together-of}
 use Rattle.lpc_isolation.proofs.Each.Listens.{listen-fair}
 use Rattle.lpc_isolation.proofs.Each.Receive.{queue-own, receivable, received-fair, replied-as, replied-fair}
 use Rattle.lpc_isolation.proofs.Each.Requests.{request-fair}
@@ -69,7 +74,7 @@ fair-deeds m c w by k = record {
   completes = λ handle r at _. complete-fair m c w by handle (free_handle w r.wait.process) r k.fair (found-completion m c w w by handle r k at);
   sends = λ handle bytes s at _. let is = found-datagram m c w w by handle bytes s k at in datagram-fair m c w by s.port s.queue s.message k.c_in k.own is.named is.to;
   asks = λ handle bytes s at _. let is = found-request m c w w by handle bytes s k at in request-fair m c w w by s.port s.queue s.message k is.named is.to;
-  replies = λ handle bytes p b x at read fits _. refl;
+  replies = λ handle bytes p b x at read fits _. reply-cases (λ r. are_fair m c w (r ∷ []) ≡ true) x b refl refl (λ _. refl);
   receives = λ handle bytes a p q replied o is first _.
       let r = receivable m c w w by handle bytes a p q replied k is in
       let queue : q.process ≡ by.process = queue-own m c w p q r.named.right r.queue ∙ r.named.process in
@@ -81,6 +86,14 @@ fair-deeds m c w by k = record {
   impersonates = λ handle bytes own is _. refl;
   opens_own = λ own is _. rw (same-number by.process) refl;
   opens_primary = λ _. rw (same-number by.process) refl;
+  sets = λ target class handle pid port at found live _.
+      let side : m pid ≡ m by.process = holds_ok (λ pid. m pid ≡ m by.process) (process_target w by target) pid (process-whose m c w by target k.fair) at in
+      let named = found-port m c w w by handle port k found in
+      let is : are_together m pid port.birth.process ≡ true = together-of m pid port.birth.process (side ∙ sym (ap m named.process)) in
+      set-passes (λ bs. are_fair m c w bs ≡ true) by class pid port.birth (and_from _ _ is refl) (and_from _ _ is refl);
+  handles = λ code handled _. refl;
+  hears = λ code handled h is _. send-fair m c w w by code handled h (raiser m c w w by k) (raised m c w w by h k is);
+  fails = λ code handled _. refl;
   tames = any-tame (λ call name fields bs tame t _. fairs m c w by w bs t k.c_in k.fair k.own);
   ends = λ call name own pid code ts doomed _.
       let p = doomed-part m c w w by own pid code ts k doomed in

@@ -1,4 +1,9 @@
 -- The rows that a call adds are as fine as the circle's, though they go at the end of its line.
+use Rattle.lpc_isolation.proofs.Gone.Restful.{is_restful, run-settled, then-restful}
+use Rattle.lpc_model.specs.Raise.{raise_told, event_begun}
+use Rattle.lpc_model.proofs.Calls.Raising.{set-passes}
+use Rattle.lpc_isolation.proofs.Each.Raises.{event_row}
+use Rattle.lpc_model.proofs.Sound.Reply.{reply-cases}
 use Rattle.lpc_base.proofs.Births.{birth-same, birth-self}
 use Rattle.lpc_base.proofs.Bools.{first-true, same-number, second-true}
 use Rattle.lpc_base.proofs.RowWords.{every-append, every-more, has-change, has-off, has-push}
@@ -28,7 +33,7 @@ use Rattle.lpc_model.specs.Found.{is_made_on, wait_of, waits_as, waits_at, actin
 use Rattle.lpc_model.specs.Message.{asks}
 use Rattle.lpc_model.specs.Request.{datagram_start, given_reply, receive_steps, receive_wait, reply_test, request_start, sent_by}
 use Rattle.lpc_model.specs.Tests.{next_birth}
-use Rattle.lpc_model.specs.World.{Accepted, Birth, Connect, Listen, MessageRow, PortRow, Receive, Request, ThreadRow, WaitKind, WaitRow, World, ViewRow, Offer, Security, Qos}
+use Rattle.lpc_model.specs.World.{Accepted, Birth, Connect, Listen, MessageRow, PortRow, Receive, Request, ThreadRow, WaitKind, WaitRow, World, ViewRow, Offer, Security, Qos, Event}
 use Rattle.lpc_model.specs.declared.message.Message.{Message}
 use Rattle.std.proofs.Common.{Bool, List, None, Option, Some, [], ap, false, refl, subst, sym, true, ℕ, ◌++◌, ◌∙◌, ◌∷◌, ◌≡◌}
 use Rattle.std.proofs.lemmas.Bool.{and_from, eqb-true}
@@ -52,6 +57,8 @@ given-keeps : (n : Birth) (tid : ℕ) (v : World) (x : MessageRow) (z : WaitRow)
     → has (keeps_client n tid) (world_after v (given_steps z x ++ woken SUCCESS (shown z x) z ∷ [])).waits ≡ true
 given-keeps n tid v x z (Request a) true is asked other h = rw (is, asked) (taken-keeps n tid z x.message.header.client.thread x.queue other v.waits h)
 given-keeps n tid v x z (Request a) false is asked other h = rw (is, asked) (ended-keeps n tid z other v.waits h)
+given-keeps n tid v x z (Event e) true is asked other h = rw (is, asked) (taken-keeps n tid z x.message.header.client.thread x.queue other v.waits h)
+given-keeps n tid v x z (Event e) false is asked other h = rw (is, asked) (ended-keeps n tid z other v.waits h)
 given-keeps n tid v x z Receive true is asked other h = rw (is, asked) (taken-keeps n tid z x.message.header.client.thread x.queue other v.waits h)
 given-keeps n tid v x z Receive false is asked other h = rw (is, asked) (ended-keeps n tid z other v.waits h)
 given-keeps n tid v x z Listen true is asked other h = rw (is, asked) (taken-keeps n tid z x.message.header.client.thread x.queue other v.waits h)
@@ -108,6 +115,8 @@ connect-new m c after u by q offer own bytes quality idle fine swept =
 given-fine : (m : Group) (c : ℕ) (x : MessageRow) (z : WaitRow) (sort : WaitKind) (asked : Bool) → z.kind ≡ sort → asks x.message ≡ asked → AreFine m c (given_steps z x ++ woken SUCCESS (shown z x) z ∷ [])
 given-fine m c x z (Request a) true is asked = rw (is, asked) refl
 given-fine m c x z (Request a) false is asked = rw (is, asked) refl
+given-fine m c x z (Event e) true is asked = rw (is, asked) refl
+given-fine m c x z (Event e) false is asked = rw (is, asked) refl
 given-fine m c x z Receive true is asked = rw (is, asked) refl
 given-fine m c x z Receive false is asked = rw (is, asked) refl
 given-fine m c x z Listen true is asked = rw (is, asked) refl
@@ -121,7 +130,7 @@ entered-fine : (m : Group) (c : ℕ) (x : MessageRow) (o : Option WaitRow) → A
 entered-fine m c x None = refl
 entered-fine m c x (Some z) = given-fine m c x z z.kind (asks x.message) refl refl
 
-then-fine : (m : Group) (c : ℕ) (u : World) (start : List Basic) (x : MessageRow) → AreFine m c start → AreFine m c (start ++ enter x (world_after u start))
+pub then-fine : (m : Group) (c : ℕ) (u : World) (start : List Basic) (x : MessageRow) → AreFine m c start → AreFine m c (start ++ enter x (world_after u start))
 then-fine m c u start x ok = every-append (makes_fine m c) start (enter x (world_after u start)) ok (entered-fine m c x (first (takes x) (world_after u start).waits))
 
 taken-fine : (m : Group) (c : ℕ) (x : MessageRow) (asked : Bool) → asks x.message ≡ asked → AreFine m c (take_steps x) × AreFine m c (take_connect_steps x)
@@ -134,7 +143,7 @@ listened-fine m c by port (Some x) = (taken-fine m c x (asks x.message) refl).1
 
 replied-fine : (m : Group) (c : ℕ) (u : World) (p : PortRow) (o : Option Message) → Holds (AreFine m c) (given_reply u p o)
 replied-fine m c u p None = refl
-replied-fine m c u p (Some b) = bind_holds (reply_test u p b) _ (AreFine m c) (λ x _. refl)
+replied-fine m c u p (Some b) = bind_holds (reply_test u p b) _ (AreFine m c) (λ x _. reply-cases (λ r. AreFine m c (r ∷ [])) x b refl refl (λ _. refl))
 
 received-fine : (m : Group) (c : ℕ) (by : ThreadRow) (p : PortRow) (q : Birth) (rs : List Basic) (o : Option MessageRow) → AreFine m c rs → AreFine m c (receive_steps by p q rs o)
 received-fine m c by p q rs None ok = every-append (makes_fine m c) rs (Awaits (receive_wait by p.birth q) ∷ []) ok refl
@@ -150,15 +159,21 @@ keeps-fine m c w by (b ∷ bs) (more (unmaps base) t) = keeps-fine m c w by bs t
 keeps-fine m c w by (b ∷ bs) (more (writes s place new) t) = keeps-fine m c w by bs t
 keeps-fine m c w by (b ∷ bs) (more (acts other) t) = keeps-fine m c w by bs t
 
+pub connect-restful : (u : World) (by : ThreadRow) (q : Birth) (offer : Option Offer) (own : Option ViewRow) (bytes : List ℕ) (quality : Qos) → every is_restful (steps_of u by q offer own bytes ++ allow_steps u by quality) ≡ true
+connect-restful u by q offer own bytes quality =
+    every-append is_restful (steps_of u by q offer own bytes) (allow_steps u by quality)
+    (every-append is_restful (starting by q offer own bytes ++ enter (row by q offer own bytes) (world_after u (starting by q offer own bytes))) (mapped by.process own)
+    (then-restful u (starting by q offer own bytes) (row by q offer own bytes) refl) (mapped-pass is_restful by.process (λ _. refl) own)) refl
+
 -- Each deed
-are-fine : (m : Group) (c : ℕ) (bs : List Basic) → AreMild bs → AreFine m c bs
+pub are-fine : (m : Group) (c : ℕ) (bs : List Basic) → AreMild bs → AreFine m c bs
 are-fine m c bs mild = every-more is_mild (makes_fine m c) (mild-fine m c) bs mild
 
 pub fine-deeds : (m : Group) (c : ℕ) (after u : World) (by : ThreadRow) → wait_of u by.number ≡ None → HasFineRows m c after → Deeds u by (λ _. FineAfter m c after u)
 fine-deeds m c after u by idle f = record {
   creates = λ _ _. refl;
   founds = λ name dacl path free _. guarded (λ bs. AreFine m c (create_steps by (named_steps (next_birth by) path) (free_handle u by.process) ++ bs)) (next_birth by) name dacl (refl) (λ s. refl);
-  connects = λ name quality word bytes offer own q is r. let new = connect-new m c after u by q offer own bytes quality idle f r in
+  connects = λ name quality word bytes offer own q is r. let new = connect-new m c after u by q offer own bytes quality idle f (r (λ born rest. run-settled u (steps_of u by q offer own bytes ++ allow_steps u by quality) (connect-restful u by q offer own bytes quality) rest)) in
       every-append (makes_fine m c) (steps_of u by q offer own bytes) (allow_steps u by quality) (every-append (makes_fine m c) (starting by q offer own bytes ++ enter (row by q offer own bytes) (world_after u (starting by q offer own bytes))) (mapped by.process own) (then-fine m c u (starting by q offer own bytes) (row by q offer own bytes) (rw new refl)) (mapped-pass (makes_fine m c) by.process (λ _. refl) own)) refl;
   listens = λ handle p o at first _. listened-fine m c by p.birth o;
   refuses = λ context bytes word a at _. refl;
@@ -166,13 +181,17 @@ fine-deeds m c after u by idle f = record {
   completes = λ handle r at _. refl;
   sends = λ handle bytes x at _. then-fine m c u (datagram_start by) (row_of x.queue x.port (sent_by by DATAGRAM x.message)) refl;
   asks = λ handle bytes x at _. then-fine m c u (request_start by x.port.birth x.queue (sent_by by REQUEST x.message)) (row_of x.queue x.port (sent_by by REQUEST x.message)) refl;
-  replies = λ handle bytes p b x at read fits _. refl;
+  replies = λ handle bytes p b x at read fits _. reply-cases (λ r. AreFine m c (r ∷ [])) x b refl refl (λ _. refl);
   receives = λ handle bytes a p q replied o is first _. received-fine m c by p q replied o (holds_ok (AreFine m c) (given_reply u p a) replied (replied-fine m c u p a) is.reply_made);
   closes = λ handle r at _. are-fine m c (close_handle by.process r u) (handle-mild u by.process r);
   makes_section = λ size prot _. refl;
   impersonates = λ handle bytes own is _. refl;
   opens_own = λ own is _. refl;
   opens_primary = λ _. refl;
+  sets = λ target class handle pid port at found live _. set-passes (AreFine m c) by class pid port.birth refl refl;
+  handles = λ code handled _. refl;
+  hears = λ code handled h is _. then-fine m c u (raise_told by ∷ event_begun by code handled h) (event_row by code h) refl;
+  fails = λ code handled _. refl;
   tames = any-tame (λ call name fields bs tame t _. keeps-fine m c u by bs t);
   ends = λ call name own pid code ts doomed _. let is = are-fine m c (end_threads pid code ts u) (ends-mild pid code ts u) in ended (AreFine m c) by name own pid code ts u (λ _. is) (λ _. is);
 }

@@ -1,7 +1,10 @@
 -- No call but one lets a thread act for its client.
+use Rattle.lpc_model.proofs.Calls.Raising.{set-passes}
+use Rattle.lpc_model.specs.Raise.{Heard, event_begun, event_message, raise_steps}
+use Rattle.lpc_model.proofs.Sound.Reply.{reply-cases}
 use Rattle.lpc_base.proofs.Bools.{second-true}
 use Rattle.lpc_model.specs.Circle.{gave, given_in}
-use Rattle.lpc_model.specs.Tests.{next_birth}
+use Rattle.lpc_model.specs.Tests.{next_birth, client_of}
 use Rattle.lpc_model.specs.Found.{free_handle}
 use Rattle.std.proofs.Common.{◌≡◌, List, [], ◌∷◌, Bool, true, Option, Some, None, refl, ◌++◌, false}
 use Rattle.std.specs.Prelude.{Ok, ◌&&◌}
@@ -55,7 +58,7 @@ taken-blank m = every-more is_ending is_blank ending-blank (received_steps m) (e
 
 given-blank : (w : World) (port : PortRow) (o : Option Message) → Holds AreBlank (given_reply w port o)
 given-blank w port None = refl
-given-blank w port (Some m) = bind_holds (reply_test w port m) _ AreBlank (λ x _. refl)
+given-blank w port (Some m) = bind_holds (reply_test w port m) _ AreBlank (λ x _. reply-cases (λ r. AreBlank (r ∷ [])) x m refl refl (λ _. refl))
 
 -- the call that gives one
 abbrev pub gives_token : ScriptCall → Bool
@@ -79,7 +82,7 @@ module _ (w : World) (by : ThreadRow) where
     completes = λ handle r at _. refl;
     sends = λ handle bytes s at _. let y = sent_by by DATAGRAM s.message in blank-none (datagram_steps by s.port s.queue y w) (enter-blank (row_of s.queue s.port y) (world_after w (datagram_start by)));
     asks = λ handle bytes s at _. let y = sent_by by REQUEST s.message in blank-none (request_steps by s.port s.queue y w) (enter-blank (row_of s.queue s.port y) (world_after w (request_start by s.port.birth s.queue y)));
-    replies = λ handle bytes port m x at read fits _. refl;
+    replies = λ handle bytes port m x at read fits _. reply-cases (λ r. given_in (r ∷ []) ≡ []) x m refl refl (λ _. refl);
     receives = λ handle bytes a port queue replied m r at _. blank-none (receive_steps by port queue replied (Some m)) (every-append is_blank replied _ (replied-blank port a replied r.reply_made) (taken-blank m));
     awaits_message = λ handle bytes a port queue replied r at _. blank-none (receive_steps by port queue replied None) (every-append is_blank replied _ (replied-blank port a replied r.reply_made) refl);
     registers = λ handle port at new few _. refl;
@@ -101,6 +104,10 @@ module _ (w : World) (by : ThreadRow) where
     writes_memory = λ address new v at may _. refl;
     reads_range = λ handle bytes index n d at _. refl;
     writes_range = λ handle bytes index new d at may _. refl;
+    sets = λ target class handle pid port at found live _. set-passes (λ bs. given_in bs ≡ []) by class pid port.birth refl refl;
+    handles = λ code handled _. refl;
+    hears = λ code handled h is _. blank-none (raise_steps by code handled (Heard h) w) (enter-blank (row_of h.queue h.port (event_message (client_of by) by.next_identifier code h.chance)) (world_after w (event_begun by code handled h)));
+    fails = λ code handled _. refl;
     ends = λ call name own pid code ts doomed _. let bs = answered_end by name own pid code ts w in blank-none bs (every-more is_ending is_blank ending-blank bs (steps-end w by name own pid code ts));
   }
     where

@@ -1,4 +1,9 @@
 -- What a call tells keeps it that what is remembered of outsiders' connects is right.
+use Rattle.lpc_model.specs.Raise.{Heard as Sends}
+use Rattle.lpc_model.proofs.Sound.Reply.{reply-cases}
+use Rattle.lpc_model.specs.Raise.{Handled, Unhandled, event_begun, raise_steps, raise_told, set_port_steps, set_told}
+use Rattle.lpc_model.proofs.Calls.Raising.{set-passes}
+use Rattle.lpc_isolation.proofs.Each.Raises.{event_row, event-sort, raised}
 use Rattle.lpc_tokens.specs.declared.security.Security.TheVariants.{Allows}
 use Rattle.lpc_isolation.proofs.Gone.Fine.{unsecured}
 use Rattle.lpc_model.specs.Impersonation.{impersonate_steps, token_steps, held_content, process_content}
@@ -13,7 +18,7 @@ use Rattle.lpc_isolation.proofs.Closings.Mild.{mild-known}
 use Rattle.lpc_isolation.proofs.Each.Closes.{caller-sure, handle-good, handle-mild}
 use Rattle.lpc_isolation.proofs.Calls.Doomed.{doomed-part, doomed-whose, ended, steady}
 use Rattle.lpc_isolation.proofs.Calls.Deeds.{AreTame, Deeds, gives, more, none, numbers, registers, is_tame, any-tame, maps, unmaps, writes, acts, guarded}
-use Rattle.lpc_isolation.proofs.Memory.Calls.{Hears, Still, still-hears, unnoted, wake-silent, answer-silent, sent-known, sent-hears, datagram-sent, request-sent, connect-sent, fits-outside, fits-c, noted, listened-known, listened-silent, received-known, received-silent, no-reply, one-reply, IsReply}
+use Rattle.lpc_isolation.proofs.Memory.Calls.{Hears, Still, still-hears, unnoted, wake-silent, answer-silent, sent-known, sent-hears, datagram-sent, request-sent, connect-sent, fits-outside, fits-c, noted, listened-known, listened-silent, received-known, received-silent, no-reply, one-reply, IsReply, event-sent}
 use Rattle.std.proofs.Common.{◌≡◌, ℕ, List, [], ◌∷◌, Bool, true, false, cond, not, Option, Some, None, refl, ap, sym, subst, ◌∙◌, arith, ◌++◌, append-nil}
 use Rattle.std.specs.Prelude.{◌||◌, ◌==◌, Ok}
 use Rattle.std.proofs.lemmas.Bool.{eqb-true}
@@ -25,20 +30,20 @@ use Rattle.lpc_base.specs.declared.status.Status.{Status}
 use Rattle.lpc_base.specs.declared.status.TheConstants.{SUCCESS}
 use Rattle.lpc_message.specs.declared.kind.TheConstants.{DATAGRAM, REQUEST}
 use Rattle.lpc_model.specs.declared.entry.CallName.{CallName}
-use Rattle.lpc_model.specs.declared.entry.CallName.TheVariants.{NtConnectPort, NtListenPort, NtReplyWaitReceivePort, NtRequestPort, NtRequestWaitReplyPort, NtOpenThreadToken, NtOpenProcessToken}
+use Rattle.lpc_model.specs.declared.entry.CallName.TheVariants.{NtConnectPort, NtListenPort, NtReplyWaitReceivePort, NtRequestPort, NtRequestWaitReplyPort, NtOpenThreadToken, NtOpenProcessToken, Raise}
 use Rattle.lpc_model.specs.declared.entry.Entry.{Entry}
 use Rattle.lpc_model.specs.declared.entry.Entry.TheVariants as entry
 use Rattle.lpc_model.specs.declared.message.Message.{Message}
 use Rattle.lpc_model.specs.declared.entry.Field.{Field}
 use Rattle.lpc_model.specs.Fields.{id, msg, receipt, connect_fields}
-use Rattle.lpc_model.specs.World.{Birth, MessageRow, PortRow, ThreadRow, World, ViewRow, Security}
-use Rattle.lpc_model.specs.Found.{fits, is_accepted, is_offered, is_queued, is_queued_connect, is_request, queue_of, same_birth, wait_of, free_handle, acting_token}
-use Rattle.lpc_model.specs.Basics.{Basic, entries_of, world_after, Tells, basic, Maps, Secures}
+use Rattle.lpc_model.specs.World.{Birth, MessageRow, PortRow, ThreadRow, World, ViewRow, Security, WaitRow}
+use Rattle.lpc_model.specs.Found.{fits, is_accepted, is_offered, is_queued, is_queued_connect, queue_of, same_birth, wait_of, free_handle, acting_token, is_asking}
+use Rattle.lpc_model.specs.Basics.{Basic, entries_of, world_after, Tells, basic, Maps, Secures, SetsDebug, SetsException}
 use Rattle.lpc_model.specs.Entering.{enter, row_of}
 use Rattle.lpc_model.specs.Connect.{is_accepted_on, listen_steps, names_connect, ConnectAnswer, answer_test, accept_steps, refuse_steps, complete_steps, create_steps, unnamed_steps, named_steps, accept_start, allow_steps}
 use Rattle.lpc_model.specs.Request.{datagram_start, datagram_steps, receive_steps, reply, request_start, request_steps, sent_by, reply_steps}
 use Rattle.lpc_model.specs.Tests.{port_test, next_birth}
-use Rattle.lpc_model.specs.Lines.{ScriptCall, accept_connect_port, complete_connect_port, connect_port, create_port, listen_port, reply_port, reply_wait_receive_port, request_port, request_wait_reply_port, close, create_section, impersonate_client_of_port, open_thread_token, open_process_token}
+use Rattle.lpc_model.specs.Lines.{ScriptCall, accept_connect_port, complete_connect_port, connect_port, create_port, listen_port, reply_port, reply_wait_receive_port, request_port, request_wait_reply_port, close, create_section, impersonate_client_of_port, open_thread_token, open_process_token, raise, set_information_process}
 use Rattle.lpc_model.specs.Circle.{Group, Whose, owner}
 use Rattle.lpc_isolation.proofs.Views.Alone.{HasFineRows}
 use Rattle.lpc_isolation.proofs.Views.View.{seen_port, view}
@@ -106,6 +111,9 @@ accept-silent : (v : World) (by : ThreadRow) (context value : ℕ) (a : ConnectA
 accept-silent v by context value a views = every-append (is_silent_step v) (accept_start by context value a views) (shared_steps by a.wait views) refl (shared-pass (is_silent_step v) by a.wait (λ _. refl) (λ _. refl) views)
 
 -- An outsider's call
+silent-reply : (v : World) (x : WaitRow) (b : Message) → not (passes (wait_of v x.thread) takes_any) ≡ true → every (is_silent_step v) (reply x b ∷ []) ≡ true
+silent-reply v x b silent = reply-cases (λ r. every (is_silent_step v) (r ∷ []) ≡ true) x b (rw silent refl) (rw silent refl) (λ _. refl)
+
 module _ (m : Group) (c : ℕ) (u w : World) (by : ThreadRow) (d : Whose) (memo : List Heard) (k : Caller m c u w by) (owned : Owned w w) (n : Numbered w) (a : Asked w) (all : AllKnown m memo w) (out : m by.process ≡ false) where
   -- where no entry shows a message
   still : (bs : List Basic) → Still m memo w bs → Hears m c u d w memo bs
@@ -158,7 +166,7 @@ module _ (m : Group) (c : ℕ) (u w : World) (by : ThreadRow) (d : Whose) (memo 
     accepts = λ context bytes word offer r views is _. still (accept_steps by context (free_handle w by.process) r views) (accept-known m memo w by context (free_handle w by.process) r views, accept-silent (view m w) by context (free_handle w by.process) r views);
     completes = λ handle r at _.
         let is = found-completion m c u w by handle r k at in
-        let on : (is_accepted r.wait || (is_offered r.wait || is_request r.wait)) ≡ true = rw (first-true (is_accepted r.wait) (same_birth r.wait.port r.client) (first-passes (is_accepted_on r.client) w.waits r.wait is.found)) refl in
+        let on : (is_accepted r.wait || (is_offered r.wait || is_asking r.wait)) ≡ true = rw (first-true (is_accepted r.wait) (same_birth r.wait.port r.client) (first-passes (is_accepted_on r.client) w.waits r.wait is.found)) refl in
         still (complete_steps by (free_handle w r.wait.process) r) (refl, rw (wake-silent m w (is_accepted_on r.client) r.wait k.once is.found on) refl);
     sends = λ handle bytes s at _.
         let is = found-datagram m c u w by handle bytes s k at in
@@ -171,14 +179,16 @@ module _ (m : Group) (c : ℕ) (u w : World) (by : ThreadRow) (d : Whose) (memo 
         let y = row_of s.queue s.port b in
         subst (λ es. AllKnown m (entries_memo m (view m w) memo es) (world_after w (request_steps by s.port s.queue b w))) (sym (unheard-waits NtRequestWaitReplyPort (id by.next_identifier ∷ []) (entries_of (enter y (world_after w (request_start by s.port.birth s.queue b))))))
         (sent-hears m c u w by d memo (request_start by s.port.birth s.queue b) y k all (request-sent m c u w by s.port s.queue s.message k) (reads y refl refl) out (routed-out m c w s.port s.queue is.named.right k.c_in (ap m is.named.process ∙ out) is.to));
-    replies = λ handle bytes p b x at read fits _. still (reply_steps by x b) (refl, rw (answer-silent m c u w by p b x k fits) refl);
+    replies = λ handle bytes p b x at read fits _.
+        let silent = answer-silent m c u w by p b x k fits in
+        still (reply_steps by x b) (reply-cases (λ r. are_known m memo w (r ∷ []) ≡ true) x b refl refl (λ _. refl), reply-cases (λ r. every (is_silent_step (view m w)) (r ∷ []) ≡ true) x b (rw silent refl) (rw silent refl) (λ _. refl));
     receives = λ handle bytes b p q replied o is first _.
         let r = receivable m c u w by handle bytes b p q replied k is in
         let q_out : m q.process ≡ false = ap m (queue-own m c w p q r.named.right r.queue ∙ r.named.process) ∙ out in
         let fits : (y : MessageRow) → o ≡ Some y → Fits m memo w y = λ y there. fits-outside m memo w (is_queued q) y a k.once (first ∙ there) (ap (λ (b : Birth). m b.process) (receive-queue q w y (first ∙ there)) ∙ q_out) in
         replied-as (λ rs. Hears m c u d w memo (receive_steps by p q rs o)) w p b replied r.replies
         (λ none. still (receive_steps by p q [] o) (received-known m w by p q memo [] o no-reply fits, received-silent (view m w) by p q [] o refl))
-        (λ e x some at. still (receive_steps by p q (reply x e ∷ []) o) (received-known m w by p q memo (reply x e ∷ []) o (one-reply x e) fits, received-silent (view m w) by p q (reply x e ∷ []) o (rw (answer-silent m c u w by p e x k at) refl)));
+        (λ e x some at. still (receive_steps by p q (reply x e ∷ []) o) (received-known m w by p q memo (reply x e ∷ []) o (one-reply x e) fits, received-silent (view m w) by p q (reply x e ∷ []) o (silent-reply (view m w) x e (answer-silent m c u w by p e x k at))));
     closes = λ handle r at _.
         let own : r.object.birth.process ≡ by.process = handle-own m c w by.process handle r k.fair at in
         let g = handle-good m c by.process r own in
@@ -189,6 +199,15 @@ module _ (m : Group) (c : ℕ) (u w : World) (by : ThreadRow) (d : Whose) (memo 
     impersonates = λ handle bytes own is _. still (impersonate_steps by own) (refl, refl);
     opens_own = λ own is _. still (token_steps by NtOpenThreadToken (held_content own) (free_handle w by.process)) (refl, refl);
     opens_primary = λ _. still (token_steps by NtOpenProcessToken (process_content w by) (free_handle w by.process)) (refl, refl);
+    sets = λ target class handle pid port at found live _. set-passes (λ bs. Hears m c u d w memo bs) by class pid port.birth (still (set_told by ∷ SetsDebug pid port.birth ∷ []) (refl, refl)) (still (set_told by ∷ SetsException pid port.birth ∷ []) (refl, refl));
+    handles = λ code handled _. still (raise_steps by code handled Handled w) (refl, refl);
+    hears = λ code handled h is _.
+        let told = raised m c u w by h k is in
+        let y = event_row by code h in
+        let start = raise_told by ∷ event_begun by code handled h in
+        subst (λ es. AllKnown m (entries_memo m (view m w) memo es) (world_after w (raise_steps by code handled (Sends h) w))) (sym (unheard-waits Raise (id by.next_identifier ∷ []) (entries_of (enter y (world_after w start)))))
+        (sent-hears m c u w by d memo start y k all (event-sent m c u w by code handled h k) (reads y refl (event-sort by code h)) out (routed-out m c w h.port h.queue told.right k.c_in (told.side ∙ out) told.to));
+    fails = λ code handled _. still (raise_steps by code handled Unhandled w) (refl, refl);
     tames = any-tame (λ call name fields bs tame t _. still (Tells (entry.Answer by.number name SUCCESS fields) ∷ bs) (knows m memo w by w bs t, silent (view m w) w by bs t));
     ends = λ call name own pid code ts doomed _.
         let p = doomed-part m c u w by own pid code ts k doomed in
@@ -287,7 +306,7 @@ module _ (m : Group) (c : ℕ) (u w : World) (by : ThreadRow) (memo : List Heard
         let b : Message = sent_by by REQUEST s.message in
         quiet (request_wait_reply_port handle bytes) (request_steps by s.port s.queue b w) (λ e. refl)
         (sent-known m w by memo (request_start by s.port.birth s.queue b) (row_of s.queue s.port b) (request-sent m c u w by s.port s.queue s.message k) by_in);
-    replies = λ handle bytes p b x at read fits. quiet (reply_port handle bytes) (reply_steps by x b) (λ e. refl) refl;
+    replies = λ handle bytes p b x at read fits. quiet (reply_port handle bytes) (reply_steps by x b) (λ e. refl) (reply-cases (λ r. are_known m memo w (r ∷ []) ≡ true) x b refl refl (λ _. refl));
     receives = λ handle bytes b p q replied o is first.
         let r = receivable m c u w by handle bytes b p q replied k is in
         replied-as (λ rs. Notes (reply_wait_receive_port handle bytes) (receive_steps by p q rs o)) w p b replied r.replies
@@ -298,6 +317,10 @@ module _ (m : Group) (c : ℕ) (u w : World) (by : ThreadRow) (memo : List Heard
     impersonates = λ handle bytes own is. quiet (impersonate_client_of_port handle bytes) (impersonate_steps by own) (λ e. refl) refl;
     opens_own = λ own is. quiet open_thread_token (token_steps by NtOpenThreadToken (held_content own) (free_handle w by.process)) (λ e. refl) refl;
     opens_primary = quiet open_process_token (token_steps by NtOpenProcessToken (process_content w by) (free_handle w by.process)) (λ e. refl) refl;
+    sets = λ target class handle pid port at found live. quiet (set_information_process target class handle) (set_port_steps by class pid port.birth) (λ e. refl) (set-passes (λ bs. are_known m memo w bs ≡ true) by class pid port.birth refl refl);
+    handles = λ code handled. quiet (raise code handled) (raise_steps by code handled Handled w) (λ e. refl) refl;
+    hears = λ code handled h is. quiet (raise code handled) (raise_steps by code handled (Sends h) w) (λ e. refl) (sent-known m w by memo (raise_told by ∷ event_begun by code handled h) (event_row by code h) (event-sent m c u w by code handled h k) by_in);
+    fails = λ code handled. quiet (raise code handled) (raise_steps by code handled Unhandled w) (λ e. refl) refl;
     tames = any-tame (λ call name fields bs tame t. quiet call (Tells (entry.Answer by.number name SUCCESS fields) ∷ bs) (λ e. tame-unnoted m (view m w) by call e memo tame) (knows m memo w by w bs t));
     ends = λ call name own pid code ts doomed.
         let known : are_known m memo w (end_threads pid code ts w) ≡ true = mild-known m memo w (end_threads pid code ts w) (ends-mild pid code ts w) in

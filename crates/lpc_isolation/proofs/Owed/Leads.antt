@@ -76,6 +76,10 @@ module _ (m : Group) (c : ℕ) (u : World) (d : Whose) (w : World) (by : ThreadR
     impersonates = λ handle bytes own is _ _. led-same m c u d w (impersonate_steps by own) refl;
     opens_own = λ own is _ _. rw (is, free-view m w by.process by_in) (led-same m c u d w (token_steps by NtOpenThreadToken (held_content own) (free_handle w by.process)) (rw by_in refl));
     opens_primary = λ _ _. rw (token-view m w by.process by_in, free-view m w by.process by_in) (led-same m c u d w (token_steps by NtOpenProcessToken (process_content w by) (free_handle w by.process)) (rw by_in refl));
+    sets = λ target class handle pid port at found live spared. absurd (cc);
+    handles = λ code handled spared. absurd (cc);
+    hears = λ code handled h is spared. absurd (cc);
+    fails = λ code handled spared. absurd (cc);
     tames = record {
       of_register = λ handle p at _ _.
           rw (port_test-view m c w by handle k.fair by_in, at) (led-same m c u d w (register_steps by p.birth) (register-ours m w by (Answer by.number NtRegisterThreadTerminatePort SUCCESS []) p.birth (not (is_registered p.birth by))));

@@ -1,4 +1,7 @@
 -- Views that calls map, and what connects offer: a member's views are of members' sections, or of outer ones.
+use Rattle.lpc_model.proofs.Calls.Raising.{set-passes}
+use Rattle.lpc_model.specs.Raise.{event_begun, event_message}
+use Rattle.lpc_model.proofs.Sound.Reply.{reply-cases}
 use Rattle.std.proofs.Common.{◌≡◌, ℕ, List, [], ◌∷◌, ◌++◌, Bool, true, false, map, not, Option, Some, None, refl, ap, sym, subst, ◌∙◌, arith}
 use Rattle.std.specs.Prelude.{◌||◌, ◌==◌, Ok}
 use Rattle.std.proofs.lemmas.Bool.{and_from, eqb-true, or_left, or_right}
@@ -12,7 +15,7 @@ use Rattle.lpc_model.specs.declared.line.ViewWord.{ViewWord}
 use Rattle.lpc_model.specs.declared.message.Message.{Message}
 use Rattle.lpc_model.specs.World.{Birth, HandleTable, MessageRow, Offer, PortRow, SectionRow, ThreadRow, ViewRow, ViewTable, WaitRow, World, Security}
 use Rattle.lpc_model.specs.Found.{free_handle, is_owned_by, is_space, is_table, lies_at, offer_of, shows_section, waits_as, waits_at}
-use Rattle.lpc_model.specs.Basics.{Accepts, AddsProcess, Awaits, Basic, Dies, DropsOwned, DropsViewsOf, Frees, Maps, Receives, Unmaps, Wakes, accepted, basic, no_views, received, with_view, without_owned, without_view, without_views, world_after, Secures}
+use Rattle.lpc_model.specs.Basics.{Accepts, AddsProcess, Awaits, Basic, Dies, DropsOwned, DropsViewsOf, Frees, Maps, Receives, Unmaps, Wakes, accepted, basic, no_views, received, with_view, without_owned, without_view, without_views, world_after, Secures, Leaves}
 use Rattle.lpc_model.specs.Close.{close_handle}
 use Rattle.lpc_model.specs.Connect.{ConnectAnswer, accept_start, accept_steps, names_connect, allow_steps, create_steps, named_steps}
 use Rattle.lpc_model.specs.Entering.{enter, received_steps, row_of}
@@ -20,7 +23,7 @@ use Rattle.lpc_model.specs.Lines.{ScriptCall}
 use Rattle.lpc_model.specs.Memory.{mapped_view, mapping_right, section_test}
 use Rattle.lpc_model.specs.Offers.{SharedViews, if_given, mapped, offered_view, server_views, shared_steps, shared_test, view_test}
 use Rattle.lpc_model.specs.Request.{datagram_start, given_reply, reply_test, request_start, sent_by}
-use Rattle.lpc_model.specs.Tests.{next_birth}
+use Rattle.lpc_model.specs.Tests.{next_birth, client_of}
 use Rattle.lpc_model.specs.Circle.{Group, outsider_sees}
 use Rattle.lpc_model.proofs.Calls.Holding.{Holds, bind_holds, holds_ok}
 use Rattle.lpc_model.proofs.Calls.Offers.{Given, IsViewOf, none_offered, one_offered, viewed}
@@ -102,6 +105,7 @@ basic-offers m outer w (Wakes who call status fields) ok h = every-without (is_k
 basic-offers m outer w (Dies who status) ok h = every-without (is_known_offer m outer) (waits_as who) w.waits h
 basic-offers m outer w (Receives who q) ok h = every-change (is_known_offer m outer) (waits_at who q) received (λ x is. is) w.waits h
 basic-offers m outer w (Accepts who reply) ok h = every-change (is_known_offer m outer) (waits_as who) (accepted reply) (λ x is. rw (accepted-offer reply x) refl) w.waits h
+basic-offers m outer w (Leaves who) ok h = every-without (is_known_offer m outer) (waits_as who) w.waits h
 basic-offers m outer w (Frees o) ok h = absurd (cc)
 basic-offers m outer w b ok h = h
 
@@ -162,7 +166,7 @@ module _ (m : Group) (c : ℕ) (outer : Birth → Bool) (w : World) (by : Thread
 
   given-known : (port : PortRow) (o : Option Message) → Holds AreKnown (given_reply w port o)
   given-known port None = refl
-  given-known port (Some a) = bind_holds (reply_test w port a) _ AreKnown (λ x _. refl)
+  given-known port (Some a) = bind_holds (reply_test w port a) _ AreKnown (λ x _. reply-cases (λ r. AreKnown (r ∷ [])) x a refl refl (λ _. refl))
 
   replied-known : (port : PortRow) (o : Option Message) (replied : List Basic) → given_reply w port o ≡ Ok replied → AreKnown replied
   replied-known port o replied at = holds_ok AreKnown (given_reply w port o) replied (given-known port o) at
@@ -270,7 +274,7 @@ module _ (m : Group) (c : ℕ) (outer : Birth → Bool) (w : World) (by : Thread
     completes = λ handle r at _. refl;
     sends = λ handle bytes s at _. let y = sent_by by DATAGRAM s.message in enter-known (row_of s.queue s.port y) (world_after w (datagram_start by));
     asks = λ handle bytes s at _. let y = sent_by by REQUEST s.message in enter-known (row_of s.queue s.port y) (world_after w (request_start by s.port.birth s.queue y));
-    replies = λ handle bytes port a x at read fits _. refl;
+    replies = λ handle bytes port a x at read fits _. reply-cases (λ r. AreKnown (r ∷ [])) x a refl refl (λ _. refl);
     receives = λ handle bytes a port queue replied x r at _. every-append known replied _ (replied-known port a replied r.reply_made) (taken-known x);
     awaits_message = λ handle bytes a port queue replied r at _. every-append known replied _ (replied-known port a replied r.reply_made) refl;
     registers = λ handle port at new few _. refl;
@@ -292,6 +296,10 @@ module _ (m : Group) (c : ℕ) (outer : Birth → Bool) (w : World) (by : Thread
     writes_memory = λ address new v at may _. refl;
     reads_range = λ handle bytes index n d at _. refl;
     writes_range = λ handle bytes index new d at may _. refl;
+    sets = λ target class handle pid port at found live _. set-passes AreKnown by class pid port.birth refl refl;
+    handles = λ code handled _. refl;
+    hears = λ code handled h is _. enter-known (row_of h.queue h.port (event_message (client_of by) by.next_identifier code h.chance)) (world_after w (event_begun by code handled h));
+    fails = λ code handled _. refl;
     ends = λ call name own pid code ts doomed _. every-more is_ending known ending-known (answered_end by name own pid code ts w) (steps-end w by name own pid code ts);
   }
 

@@ -1,4 +1,8 @@
 -- Each call tells its caller first, adds no thread, and begins no wait of a thread that it woke.
+use Rattle.lpc_model.specs.Raise.{event_begun, raise_told}
+use Rattle.lpc_model.proofs.Calls.Raising.{set-passes}
+use Rattle.lpc_isolation.proofs.Each.Raises.{event_row}
+use Rattle.lpc_model.proofs.Sound.Reply.{reply-cases}
 use Rattle.lpc_tokens.specs.declared.security.Security.TheVariants.{Allows}
 use Rattle.lpc_model.specs.Tests.{next_birth}
 use Rattle.lpc_model.specs.declared.entry.Entry.TheVariants as entry
@@ -10,7 +14,7 @@ use Rattle.lpc_base.proofs.Bools.{number-turned, same-number, first-true}
 use Rattle.lpc_message.specs.declared.kind.TheConstants.{DATAGRAM, REQUEST}
 use Rattle.lpc_model.specs.declared.message.Message.{Message}
 use Rattle.lpc_model.specs.Message.{asks}
-use Rattle.lpc_model.specs.World.{Accepted, Birth, Connect, Listen, MessageRow, PortRow, Receive, Request, ThreadRow, WaitKind, WaitRow, World, ViewRow, Security}
+use Rattle.lpc_model.specs.World.{Accepted, Birth, Connect, Listen, MessageRow, PortRow, Receive, Request, ThreadRow, WaitKind, WaitRow, World, ViewRow, Security, Event}
 use Rattle.lpc_model.specs.Found.{fits, wait_of, waits_as, acting_token, free_handle}
 use Rattle.lpc_model.specs.Basics.{Basic, world_after, Wakes, Tells, Secures}
 use Rattle.lpc_model.specs.Entering.{enter, given_steps, row_of, shown, take_connect_steps, take_steps, takes, woken}
@@ -38,6 +42,8 @@ use Rattle.lpc_model.proofs.Calls.Sharing.{mapped-pass}
 given-orderly : (x : MessageRow) (y : WaitRow) (k : WaitKind) (asked : Bool) → y.kind ≡ k → asks x.message ≡ asked → is_orderly (given_steps y x ++ woken SUCCESS (shown y x) y ∷ []) ≡ true
 given-orderly x y (Request a) true k asked = rw (k, asked) refl
 given-orderly x y (Request a) false k asked = rw (k, asked) refl
+given-orderly x y (Event e) true k asked = rw (k, asked) refl
+given-orderly x y (Event e) false k asked = rw (k, asked) refl
 given-orderly x y Receive true k asked = rw (k, asked) refl
 given-orderly x y Receive false k asked = rw (k, asked) refl
 given-orderly x y Listen true k asked = rw (k, asked) refl
@@ -75,9 +81,9 @@ received-orderly w by p q None = rw (same-number by.number) refl
 received-orderly w by p q (Some x) = rw (same-number by.number) (take-orderly x (asks x.message) refl).0
 
 replied-orderly : (w : World) (by : ThreadRow) (p : PortRow) (q : Birth) (y : WaitRow) (b : Message) (o : Option MessageRow) (asked : Bool) → (by.number == y.thread) ≡ false → ((x : MessageRow) → o ≡ Some x → asks x.message ≡ asked) → is_call_of w by.number (receive_steps by p q (reply y b ∷ []) o) ≡ true
-replied-orderly w by p q y b None asked other some = rw (same-number by.number, other) refl
-replied-orderly w by p q y b (Some x) true other some = rw (same-number by.number, some x refl) refl
-replied-orderly w by p q y b (Some x) false other some = rw (same-number by.number, some x refl) refl
+replied-orderly w by p q y b None asked other some = reply-cases (λ r. is_call_of w by.number (receive_steps by p q (r ∷ []) None) ≡ true) y b (rw (same-number by.number, other) refl) (rw (same-number by.number, other) refl) (λ _. rw (same-number by.number) refl)
+replied-orderly w by p q y b (Some x) true other some = reply-cases (λ r. is_call_of w by.number (receive_steps by p q (r ∷ []) (Some x)) ≡ true) y b (rw (same-number by.number, some x refl) refl) (rw (same-number by.number, some x refl) refl) (λ _. rw (same-number by.number, some x refl) refl)
+replied-orderly w by p q y b (Some x) false other some = reply-cases (λ r. is_call_of w by.number (receive_steps by p q (r ∷ []) (Some x)) ≡ true) y b (rw (same-number by.number, some x refl) refl) (rw (same-number by.number, some x refl) refl) (λ _. rw (same-number by.number, some x refl) refl)
 
 abbrev asked-by : Option MessageRow → Bool
 asked-by None = false
@@ -149,7 +155,7 @@ orderly-deeds m c u w by k = record {
   completes = λ handle r at. rw (same-number by.number) refl;
   sends = λ handle bytes s at. rw (same-number by.number) (enter-orderly (world_after w (datagram_start by)) (row_of s.queue s.port (sent_by by DATAGRAM s.message)));
   asks = λ handle bytes s at. rw (same-number by.number) (enter-orderly (world_after w (request_start by s.port.birth s.queue (sent_by by REQUEST s.message))) (row_of s.queue s.port (sent_by by REQUEST s.message)));
-  replies = λ handle bytes p b x at read fits. rw (same-number by.number) refl;
+  replies = λ handle bytes p b x at read fits. rw (same-number by.number) (reply-cases (λ r. is_orderly (r ∷ []) ≡ true) x b refl refl (λ _. refl));
   receives = λ handle bytes a p q replied o is first.
       replied-as (λ rs. is_call_of w by.number (receive_steps by p q rs o) ≡ true) w p a replied is.reply_made
       (λ none. received-orderly w by p q o)
@@ -159,6 +165,10 @@ orderly-deeds m c u w by k = record {
   impersonates = λ handle bytes own is. rw (same-number by.number) refl;
   opens_own = λ own is. rw (same-number by.number) refl;
   opens_primary = rw (same-number by.number) refl;
+  sets = λ target class handle pid port at found live. set-passes (λ bs. is_call_of w by.number bs ≡ true) by class pid port.birth (rw (same-number by.number) refl) (rw (same-number by.number) refl);
+  handles = λ code handled. rw (same-number by.number) refl;
+  hears = λ code handled h is. rw (same-number by.number) (enter-orderly (world_after w (raise_told by ∷ event_begun by code handled h)) (event_row by code h));
+  fails = λ code handled. rw (k.own, same-number by.process) refl;
   tames = any-tame (λ call name fields bs tame t. rw (same-number by.number) (tame-orderly w by bs t));
   ends = λ call name own pid code ts doomed. ended (λ bs. is_call_of w by.number bs ≡ true) by name own pid code ts w
       (λ mine. ends-orderly w pid by.number code ts (doomed-heads m c w by own pid ts k.fair k.live k.own doomed mine))

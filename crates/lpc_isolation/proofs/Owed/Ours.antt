@@ -1,9 +1,12 @@
 -- A call of c that ends no thread: its steps are members', so the view changes as the world does.
+use Rattle.std.proofs.lemmas.Bool.{and_from}
+use Rattle.lpc_model.proofs.Sound.Reply.{reply-cases}
+use Rattle.lpc_isolation.proofs.Each.Reply.{event-mark, reply-messages}
 use Rattle.lpc_model.specs.Tests.{next_birth}
 use Rattle.lpc_isolation.proofs.Gone.Fine.{unsecured}
 use Rattle.lpc_model.specs.Connect.{allow_steps, create_steps, named_steps}
 use Rattle.lpc_isolation.proofs.Rows.Fair.{Fair}
-use Rattle.lpc_base.proofs.Bools.{same-number}
+use Rattle.lpc_base.proofs.Bools.{same-number, first-true}
 use Rattle.lpc_isolation.proofs.Each.Accepts.{accept-ours, c-side, refuse-ours, found-answer}
 use Rattle.lpc_isolation.proofs.Views.Alone.{HasFineRows}
 use Rattle.lpc_isolation.proofs.Views.Basics.{are_ours, ours-append}
@@ -61,21 +64,27 @@ ours-deeds m c w by k mine = record {
   asks = λ handle bytes s at _ _.
       let is = found-request m c w w by handle bytes s k at in
       request-ours m c w w by s.port s.queue s.message k is.named is.to inside (queue-in handle bytes s is);
-  replies = λ handle bytes p b x at read fits _ _. refl;
+  replies = λ handle bytes p b x at read fits _ _.
+      let own : p.birth.process ≡ c = (found-port m c w w by handle p k at).process ∙ mine in
+      reply-cases (λ r. are_ours m w (r ∷ []) ≡ true) x b refl refl (λ on. rw (event-mark m c w p b x k.c_in k.fair own fits on) refl);
   receives = λ handle bytes a p q replied o is first _ _.
       let r = receivable m c w w by handle bytes a p q replied k is in
       let queue : q.process ≡ by.process = queue-own m c w p q r.named.right r.queue ∙ r.named.process in
       replied-as (λ rs. are_ours m w (receive_steps by p q rs o) ≡ true) w p a replied r.replies
       (λ none. rw (receive-as by p q [] o) (c-rest-ours m c w w by p.birth q o refl first k.c_in k.fair mine queue))
-      (λ b y some at. rw (receive-as by p q (reply y b ∷ []) o) (c-rest-ours m c w (basic w (reply y b)) by p.birth q o refl first k.c_in k.fair mine queue));
+      (λ b y some at. rw (receive-as by p q (reply y b ∷ []) o) (and_from _ _ (first-true _ _ (reply-cases (λ r. are_ours m w (r ∷ []) ≡ true) y b refl refl (λ on. rw (event-mark m c w p b y k.c_in k.fair (r.named.process ∙ mine) at on) refl))) (c-rest-ours m c w (basic w (reply y b)) by p.birth q o (reply-messages w y b) first k.c_in k.fair mine queue)));
   closes = λ handle r at _ _.
       let here : r.object.birth.process ≡ by.process = handle-own m c w by.process handle r k.fair at in
       let g = handle-good m c by.process r here in
-      g.ours w w (caller-sure m c w w by k) (ap m (here ∙ mine) ∙ k.c_in);
+      g.ours w w (caller-sure m c w w by k) (here ∙ mine);
   makes_section = λ size prot _ _. rw inside refl;
   impersonates = λ handle bytes own is _ _. refl;
   opens_own = λ own is _ _. rw inside refl;
   opens_primary = λ _ _. rw inside refl;
+  sets = λ target class handle pid port at found live spared. absurd (cc);
+  handles = λ code handled spared. absurd (cc);
+  hears = λ code handled h is spared. absurd (cc);
+  fails = λ code handled spared. absurd (cc);
   tames = any-tame (λ call name fields bs tame t _ _. are-ours m c w by w bs t inside k.fair);
   ends = λ call name own pid code ts doomed spared. let some = ends-some call in absurd (cc);
 }

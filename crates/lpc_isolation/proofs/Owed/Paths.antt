@@ -1,4 +1,8 @@
 -- A call keeps the ways of requests.
+use Rattle.lpc_model.proofs.Sound.Reply.{reply-cases}
+use Rattle.lpc_model.specs.Raise.{event_begun, event_wait, raise_told}
+use Rattle.lpc_model.proofs.Calls.Raising.{heard-routed, set-passes}
+use Rattle.lpc_isolation.proofs.Each.Raises.{event_row}
 use Rattle.lpc_base.proofs.Births.{birth-same, birth-self}
 use Rattle.lpc_base.proofs.RowMaps.{every-first}
 use Rattle.lpc_base.proofs.RowWords.{every-change, every-more, first-kept}
@@ -23,7 +27,7 @@ use Rattle.lpc_model.specs.Close.{close_handle}
 use Rattle.lpc_model.specs.Connect.{listen_steps, names_connect, server_port, accept_start, allow_steps, create_steps, named_steps}
 use Rattle.lpc_model.specs.Death.{end_threads}
 use Rattle.lpc_model.specs.Entering.{enter, row_of}
-use Rattle.lpc_model.specs.Found.{is_port, is_request, is_server_port, port_row, waits_as, free_handle}
+use Rattle.lpc_model.specs.Found.{is_port, is_asking, is_server_port, port_row, waits_as, free_handle}
 use Rattle.lpc_model.specs.Request.{datagram_start, given_reply, receive_steps, request_start, request_wait, sent_by}
 use Rattle.lpc_model.specs.SoundWaits.{IsSoundWorld, is_connect_on, lacks_connects}
 use Rattle.lpc_model.specs.Tests.{next_birth, port_test}
@@ -68,11 +72,11 @@ off-row w y n s there new p b here = at (is_server_port p) refl
     at false off = rw off refl
 
 off-both : (w : World) (y : WaitRow) (n : Birth) → IsSoundWorld w → has (is_connect_on y.port) w.waits ≡ true → every (is_new n) w.ports ≡ true → (x : WaitRow) → is_path w x ≡ true → is_off w y.port n x ≡ true
-off-both w y n s there new x is = at (is_request x) refl (port_row w x.port) refl
+off-both w y n s there new x is = at (is_asking x) refl (port_row w x.port) refl
   where
-    at : (b : Bool) → is_request x ≡ b → (o : Option PortRow) → port_row w x.port ≡ o → is_off w y.port n x ≡ true
+    at : (b : Bool) → is_asking x ≡ b → (o : Option PortRow) → port_row w x.port ≡ o → is_off w y.port n x ≡ true
     at false stay o row = rw stay refl
-    at true go None row = let none : (not (is_request x) || false) ≡ true = rw row at is in absurd (grind arith)
+    at true go None row = let none : (not (is_asking x) || false) ≡ true = rw row at is in absurd (grind arith)
     at true go (Some p) row = let off = off-row w y n s there new p x.port row in rw (row, off) (grind arith)
 
 accepted-off : (w : World) (client server : Birth) (reply : Acceptance) (x : WaitRow) (sort : WaitKind) → x.kind ≡ sort → is_off w client server x ≡ true → is_off w client server (accepted reply x) ≡ true
@@ -83,8 +87,8 @@ made-off : (w : World) (p : PortRow) (client server : Birth) (x : WaitRow) → i
 made-off w p client server x is = at (port_row w x.port) refl
   where
     at : (o : Option PortRow) → port_row w x.port ≡ o → is_off (basic w (Makes p)) client server x ≡ true
-    at None rowless = let off : (not (is_request x) || false) ≡ true = rw rowless at is in grind arith
-    at (Some r) some = let on : (not (is_request x) || is_off_row client server r) ≡ true = rw some at is in rw (first-kept (is_port x.port) w.ports p r some) on
+    at None rowless = let off : (not (is_asking x) || false) ≡ true = rw rowless at is in grind arith
+    at (Some r) some = let on : (not (is_asking x) || is_off_row client server r) ≡ true = rw some at is in rw (first-kept (is_port x.port) w.ports p r some) on
 
 found-on : (ws : List WaitRow) (test : WaitRow → Bool) (y : WaitRow) → first test ws ≡ Some y → is_connect_on y.port y ≡ true → has (is_connect_on y.port) ws ≡ true
 found-on [] test y at is = absurd (cc)
@@ -129,13 +133,21 @@ paths-deeds m c w by all k = record {
       let path : is_path w (request_wait by s.port.birth s.queue a) ≡ true = rw own.1 (way-lead w s.port s.queue s.port.kind refl (route-way w s.port s.queue is.to)) in
       append-paths w (request_start by s.port.birth s.queue a) (enter (row_of s.queue s.port a) (world_after w (request_start by s.port.birth s.queue a))) (and_from _ _ path refl)
       (enter-paths (world_after w (request_start by s.port.birth s.queue a)) (row_of s.queue s.port a));
-  replies = λ handle bytes p b x at read fits. refl;
+  replies = λ handle bytes p b x at read fits. reply-cases (λ r. are_paths w (r ∷ []) ≡ true) x b refl refl (λ _. refl);
   receives = λ handle bytes a p q replied o is first. still-paths w (receive_steps by p q replied o) (received-still by p q replied o (holds_ok AreStill (given_reply w p a) replied (replied-still w p a) is.reply_made));
   closes = λ handle r at. mild-paths w (close_handle by.process r w) (handle-mild w by.process r);
   makes_section = λ size prot. refl;
   impersonates = λ handle bytes own is. refl;
   opens_own = λ own is. refl;
   opens_primary = refl;
+  sets = λ target class handle pid port at found live. set-passes (λ bs. are_paths w bs ≡ true) by class pid port.birth refl refl;
+  handles = λ code handled. refl;
+  hears = λ code handled h is.
+      let heard = heard-routed w by.process is.chance h is.found in
+      let path : is_path w (event_wait by code handled h) ≡ true = rw heard.stands (way-lead w h.port h.queue h.port.kind refl heard.way) in
+      let start = raise_told by ∷ event_begun by code handled h in
+      append-paths w start (enter (event_row by code h) (world_after w start)) (and_from _ _ path refl) (enter-paths (world_after w start) (event_row by code h));
+  fails = λ code handled. refl;
   tames = any-tame (λ call name fields bs tame t. keeps-paths w by w bs t);
   ends = λ call name own pid code ts doomed. let is = mild-paths w (end_threads pid code ts w) (ends-mild pid code ts w) in ended (λ bs. are_paths w bs ≡ true) by name own pid code ts w (λ _. is) (λ _. is);
 }

@@ -1,4 +1,8 @@
 -- A call sends messages from a port to the port's own way alone.
+use Rattle.lpc_model.proofs.Sound.Reply.{reply-cases}
+use Rattle.lpc_model.specs.Raise.{event_begun, raise_told}
+use Rattle.lpc_model.proofs.Calls.Raising.{heard-routed, set-passes}
+use Rattle.lpc_isolation.proofs.Each.Raises.{event_row, hearing-set}
 use Rattle.std.proofs.Common.{◌≡◌, List, [], ◌∷◌, true, Some, refl, ℕ, Option, ◌++◌, None}
 use Rattle.lpc_base.specs.Rows.{passes}
 use Rattle.lpc_base.proofs.Births.{birth-self}
@@ -21,7 +25,7 @@ use Rattle.lpc_isolation.proofs.Calls.Doomed.{ended}
 use Rattle.lpc_isolation.proofs.Endings.Threads.{ends-sent}
 use Rattle.lpc_isolation.proofs.Gone.Fresh.{next-new}
 use Rattle.lpc_isolation.proofs.Rows.Sent.{are_sent, leads_home, append-sent}
-use Rattle.lpc_isolation.proofs.Rows.Ways.{AreStill, datagram-home, listened-still, received-still, replied-still, sends-home, still-sent, then-sent}
+use Rattle.lpc_isolation.proofs.Rows.Ways.{AreStill, datagram-home, listened-still, received-still, replied-still, sends-home, still-sent, then-sent, route-home}
 use Rattle.lpc_model.specs.Basics.{basic}
 use Rattle.lpc_model.specs.Offers.{SharedViews, shared_steps, mapped, server_views}
 
@@ -61,13 +65,20 @@ sent-deeds u by s live = record {
   asks = λ handle bytes x at.
       then-sent u (request_start by x.port.birth x.queue (sent_by by REQUEST x.message)) (row_of x.queue x.port (sent_by by REQUEST x.message)) refl
       (holds_ok (λ (x : Sendable). passes (port_row u x.port.birth) (leads_home x.queue) ≡ true) (send_test u by handle bytes) x (sends-home u by handle bytes) at);
-  replies = λ handle bytes p m x at read fits. refl;
+  replies = λ handle bytes p m x at read fits. reply-cases (λ r. are_sent u (r ∷ []) ≡ true) x m refl refl (λ _. refl);
   receives = λ handle bytes a p q replied o is first. still-sent u (receive_steps by p q replied o) (received-still by p q replied o (holds_ok AreStill (given_reply u p a) replied (replied-still u p a) is.reply_made));
   closes = λ handle r at. handle-sent u by.process r;
   makes_section = λ size prot. refl;
   impersonates = λ handle bytes own is. refl;
   opens_own = λ own is. refl;
   opens_primary = refl;
+  sets = λ target class handle pid port at found live. set-passes (λ bs. are_sent u bs ≡ true) by class pid port.birth refl refl;
+  handles = λ code handled. refl;
+  hears = λ code handled h is.
+      let heard = heard-routed u by.process is.chance h is.found in
+      let s = hearing-set u by.process is.chance h is.found in
+      then-sent u (raise_told by ∷ event_begun by code handled h) (event_row by code h) refl (rw heard.stands (route-home u h.port h.queue s.to));
+  fails = λ code handled. refl;
   tames = any-tame (λ call name fields bs tame t. keeps-sent u by u bs t);
   ends = λ call name own pid code ts doomed. let is = ends-sent pid code ts u in ended (λ bs. are_sent u bs ≡ true) by name own pid code ts u (λ _. is) (λ _. is);
 }

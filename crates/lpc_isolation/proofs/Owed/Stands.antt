@@ -1,4 +1,8 @@
 -- A call names what stands alone, where rows that nothing names are to go.
+use Rattle.lpc_model.proofs.Sound.Reply.{reply-cases}
+use Rattle.lpc_model.specs.Raise.{event_begun, raise_told}
+use Rattle.lpc_model.proofs.Calls.Raising.{set-passes}
+use Rattle.lpc_isolation.proofs.Each.Raises.{event_row, hearer-live, hearing-set}
 use Rattle.lpc_model.specs.Memory.{section_test, SECTION_MAP_WRITE, size_test}
 use Rattle.std.proofs.Common.{◌≡◌, ℕ, List, [], ◌∷◌, ◌++◌, Bool, true, false, not, Option, Some, None, refl, ap, sym, subst, ◌∙◌, arith}
 use Rattle.std.proofs.lemmas.Bool.{and_from}
@@ -94,7 +98,7 @@ answered-live k u by bytes s c =
     and_from _ _ (every-first (wait_closed k) (names_connect u by m) u.waits x c.waits found) (open-live k x.queue u.handles c.tables opens))))
 
 -- Steps
-then-closed : (k : Alive) (u : World) (start : List Basic) (x : MessageRow) → AreClosed k start → message_closed k x ≡ true → AreClosed k (start ++ enter x (world_after u start))
+pub then-closed : (k : Alive) (u : World) (start : List Basic) (x : MessageRow) → AreClosed k start → message_closed k x ≡ true → AreClosed k (start ++ enter x (world_after u start))
 then-closed k u start x ok live = every-append (is_closed k) start (enter x (world_after u start)) ok (enter-closed k (world_after u start) x live)
 
 taken-closed : (k : Alive) (x : MessageRow) (asked : Bool) → asks x.message ≡ asked → AreClosed k (take_steps x) × AreClosed k (take_connect_steps x)
@@ -168,7 +172,7 @@ sent-live k u by handle bytes c =
 
 replied-closed : (k : Alive) (u : World) (p : PortRow) (o : Option Message) → Holds (AreClosed k) (given_reply u p o)
 replied-closed k u p None = refl
-replied-closed k u p (Some m) = bind_holds (reply_test u p m) _ (AreClosed k) (λ x _. refl)
+replied-closed k u p (Some m) = bind_holds (reply_test u p m) _ (AreClosed k) (λ x _. reply-cases (λ r. AreClosed k (r ∷ [])) x m refl refl (λ _. refl))
 
 received-closed : (k : Alive) (by : ThreadRow) (p : PortRow) (q : Birth) (rs : List Basic) (o : Option MessageRow) → k.ports p.birth ≡ true → AreClosed k rs → AreClosed k (receive_steps by p q rs o)
 received-closed k by p q rs None port ok = every-append (is_closed k) rs _ ok (rw port refl)
@@ -226,13 +230,21 @@ stands-deeds k u by live s c new made token = record {
   asks = λ handle bytes x at.
       let lives : k.ports x.port.birth ≡ true = holds_ok (λ (x : Sendable). k.ports x.port.birth ≡ true) (send_test u by handle bytes) x (sent-live k u by handle bytes c) at in
       then-closed k u (request_start by x.port.birth x.queue (sent_by by REQUEST x.message)) (row_of x.queue x.port (sent_by by REQUEST x.message)) (rw lives refl) lives;
-  replies = λ handle bytes p m x at read fits. refl;
+  replies = λ handle bytes p m x at read fits. reply-cases (λ r. AreClosed k (r ∷ [])) x m refl refl (λ _. refl);
   receives = λ handle bytes a p q replied o is first. received-closed k by p q replied o (stands handle p is.port_found).here (holds_ok (AreClosed k) (given_reply u p a) replied (replied-closed k u p a) is.reply_made);
   closes = λ handle r at. handle-stands k u by.process r c (every-first (handle_closed k) (has_value handle) (handles_of u by.process) r (rows-closed k by.process u.handles (first (is_table by.process) u.handles) refl c.tables) at);
   makes_section = λ size prot. rw made refl;
   impersonates = λ handle bytes own is. refl;
   opens_own = λ own is. rw token refl;
   opens_primary = rw token refl;
+  sets = λ target class handle pid port at found lives.
+      let p = holds_ok (StandsBy k) (port_test u by handle) port (port-stands k u by handle c) found in
+      set-passes (AreClosed k) by class pid port.birth (rw p.here refl) (rw p.here refl);
+  handles = λ code handled. refl;
+  hears = λ code handled h is.
+      let lives : k.ports h.port.birth ≡ true = hearer-live k u by.process is.chance h c (hearing-set u by.process is.chance h is.found) in
+      then-closed k u (raise_told by ∷ event_begun by code handled h) (event_row by code h) (rw lives refl) lives;
+  fails = λ code handled. refl;
   tames = any-tame (λ call name fields bs tame t. closeds k u by bs t c);
   ends = λ call name own pid code ts doomed.
       let r = doomed-remains k u by own pid code ts live c doomed in let is = r.stands u c in ended (AreClosed k) by name own pid code ts u (λ _. is) (λ _. is);

@@ -1,5 +1,8 @@
 -- What a call writes to sections is told by its words: the steps of it that change bytes are these.
-use Rattle.lpc_model.specs.Tests.{next_birth}
+use Rattle.lpc_model.proofs.Calls.Raising.{set-passes}
+use Rattle.lpc_model.specs.Raise.{Heard, event_begun, event_message, raise_steps}
+use Rattle.lpc_model.proofs.Sound.Reply.{reply-cases}
+use Rattle.lpc_model.specs.Tests.{next_birth, client_of}
 use Rattle.lpc_isolation.proofs.Views.Callers.{on_ok}
 use Rattle.lpc_model.specs.Ranges.{Described, described_test}
 use Rattle.lpc_model.specs.Found.{view_holding, free_handle}
@@ -62,7 +65,7 @@ taken-blank m = every-more is_ending is_blank ending-blank (received_steps m) (e
 
 given-blank : (w : World) (port : PortRow) (o : Option Message) → Holds AreBlank (given_reply w port o)
 given-blank w port None = refl
-given-blank w port (Some m) = bind_holds (reply_test w port m) _ AreBlank (λ x _. refl)
+given-blank w port (Some m) = bind_holds (reply_test w port m) _ AreBlank (λ x _. reply-cases (λ r. AreBlank (r ∷ [])) x m refl refl (λ _. refl))
 
 -- Calls
 module _ (w : World) (by : ThreadRow) where
@@ -81,7 +84,7 @@ module _ (w : World) (by : ThreadRow) where
     completes = λ handle r at. refl;
     sends = λ handle bytes s at. let y = sent_by by DATAGRAM s.message in blank-none (datagram_steps by s.port s.queue y w) (enter-blank (row_of s.queue s.port y) (world_after w (datagram_start by)));
     asks = λ handle bytes s at. let y = sent_by by REQUEST s.message in blank-none (request_steps by s.port s.queue y w) (enter-blank (row_of s.queue s.port y) (world_after w (request_start by s.port.birth s.queue y)));
-    replies = λ handle bytes port m x at read fits. refl;
+    replies = λ handle bytes port m x at read fits. reply-cases (λ r. which is_byte_step (r ∷ []) ≡ []) x m refl refl (λ _. refl);
     receives = λ handle bytes a port queue replied m r at. blank-none (receive_steps by port queue replied (Some m)) (every-append is_blank replied _ (replied-blank port a replied r.reply_made) (taken-blank m));
     awaits_message = λ handle bytes a port queue replied r at. blank-none (receive_steps by port queue replied None) (every-append is_blank replied _ (replied-blank port a replied r.reply_made) refl);
     registers = λ handle port at new few. refl;
@@ -103,6 +106,10 @@ module _ (w : World) (by : ThreadRow) where
     writes_memory = λ address new v at may. wrote address new v at;
     reads_range = λ handle bytes index n d at. refl;
     writes_range = λ handle bytes index new d at may. rw at refl;
+    sets = λ target class handle pid port at found live. set-passes (λ bs. which is_byte_step bs ≡ []) by class pid port.birth refl refl;
+    handles = λ code handled. refl;
+    hears = λ code handled h is. blank-none (raise_steps by code handled (Heard h) w) (enter-blank (row_of h.queue h.port (event_message (client_of by) by.next_identifier code h.chance)) (world_after w (event_begun by code handled h)));
+    fails = λ code handled. refl;
     ends = λ call name own pid code ts doomed. let bs = answered_end by name own pid code ts w in blank-none bs (every-more is_ending is_blank ending-blank bs (steps-end w by name own pid code ts)) ∙ sym (ends-write call);
   }
     where

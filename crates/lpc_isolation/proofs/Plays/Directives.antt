@@ -11,9 +11,9 @@ use Rattle.lpc_model.specs.declared.entry.Word.{Word}
 use Rattle.lpc_model.specs.declared.entry.Word.TheVariants as word
 use Rattle.lpc_model.specs.World.{Path, World, Token}
 use Rattle.lpc_model.specs.Basics.{AddsProcess, AddsThread, Basic, Binds, basic, entries_of, world_after, NamesToken}
-use Rattle.lpc_model.specs.Lines.{of_resident, ScriptLine, boot, dir, link, run, thread, token}
-use Rattle.lpc_model.specs.Machine.{boot_line, dir_line, directed, directive_birth, link_line, new_process, new_thread, live_test, bare_steps, thread_line, thread_test, unused_test, unused_thread_test, boot_token, token_line, boot_steps}
-use Rattle.lpc_isolation.proofs.Gone.Served.{served_step, served_steps}
+use Rattle.lpc_model.specs.Lines.{ScriptLine, boot, dir, link, run, thread, token, of_resident}
+use Rattle.lpc_model.specs.Machine.{boot_line, dir_line, directed, directive_birth, link_line, new_process, new_thread, live_test, own_steps, thread_line, thread_test, unused_test, unused_thread_test, boot_token, token_line, boot_steps}
+use Rattle.lpc_isolation.proofs.Gone.Served.{own_served_step, own_served}
 use Rattle.lpc_model.specs.Named.{as_status, free_name, spelled_name}
 use Rattle.lpc_model.specs.Found.{is_live, live_count, was_process, was_thread, named_token}
 use Rattle.lpc_base.specs.declared.limits.TheConstants.{THREAD_LIMIT}
@@ -24,15 +24,16 @@ use Rattle.lpc_names.specs.declared.fault.NameFault.{NameFault}
 use Rattle.lpc_names.specs.declared.names.Found.TheVariants.{Directory}
 use Rattle.lpc_model.specs.Circle.{is_turn, Everyone, Group, Item, Nobody, Of, Ran, Told, Whose, is_seen, item_of, full_items, line_whose, told_event, gave_event, given_in}
 use Rattle.lpc_isolation.proofs.Views.Alone.{alone}
-use Rattle.lpc_isolation.proofs.Gone.Bare.{bare_line_events}
+use Rattle.lpc_isolation.proofs.Gone.Bare.{own_line_events}
 use Rattle.lpc_isolation.proofs.Views.View.{view}
 use Rattle.lpc_isolation.proofs.Views.Basics.{basic-unseen, run-ours}
+use Rattle.lpc_base.specs.Rows.{every}
 use Rattle.lpc_isolation.proofs.Views.Apart.{absorb_all, c_seen}
 use Rattle.lpc_isolation.proofs.Views.Callers.{on_ok}
 use Rattle.lpc_isolation.proofs.Rows.Names.{SeenNames, free-view}
 use Rattle.lpc_isolation.proofs.Each.Refuses.{Refuses, bind, if_refuses, named, found}
-use Rattle.lpc_isolation.proofs.Plays.Play.{told_at, told_inputs, told_items}
-use Rattle.lpc_isolation.proofs.Plays.Lines.{next_entry}
+use Rattle.lpc_isolation.proofs.Plays.Play.{own_told_at, told_inputs, told_items}
+use Rattle.lpc_isolation.proofs.Plays.Lines.{is_done, next_entry}
 
 -- what a directive does in a view, and what c sees of it, by the status that it was told
 abbrev pub succeeds : Entry → Bool
@@ -61,7 +62,7 @@ directive_shown c v line is = cond (is_seen (alone c) (line_whose v line)) (Ran 
 
 -- what each directive owes
 pub record Directs (m : Group) (w : World) (line : ScriptLine) (name : Word) (d : Whose) (r : Result (List Basic) Status) : Type 0 where
-  pub is : served_steps line w ≡ directed name r
+  pub is : own_served line w ≡ directed name r
   pub whose : (v : World) → line_whose v line ≡ d
   pub plain : is_turn name ≡ false
   pub silent : Holds (λ bs. entries_of bs ≡ []) r
@@ -101,29 +102,29 @@ told-directive m c u Everyone name status plain = refl
 told-directive m c u Nobody name status plain = refl
 
 -- what is told of it, and what c sees
-directive-told : (m : Group) (c : ℕ) (w : World) (line : ScriptLine) (name : Word) (d : Whose) (r : Result (List Basic) Status) → Directs m w line name d r → told_at m c w line ≡ cond (is_seen m d) (entry.Directive name (status_of r) ∷ []) []
+directive-told : (m : Group) (c : ℕ) (w : World) (line : ScriptLine) (name : Word) (d : Whose) (r : Result (List Basic) Status) → Directs m w line name d r → own_told_at m c w line ≡ cond (is_seen m d) (entry.Directive name (status_of r) ∷ []) []
 directive-told m c w line name d r o =
-    ap (λ d. told_inputs m c (served_step w line).world d (served_step w line).entries) (o.whose w)
-    ∙ ap (λ es. told_inputs m c (served_step w line).world d es) (ap entries_of o.is ∙ directed-entries name r o.silent)
-    ∙ told-directive m c (served_step w line).world d name (status_of r) o.plain
+    ap (λ d. told_inputs m c (own_served_step w line).world d (own_served_step w line).entries) (o.whose w)
+    ∙ ap (λ es. told_inputs m c (own_served_step w line).world d es) (ap entries_of o.is ∙ directed-entries name r o.silent)
+    ∙ told-directive m c (own_served_step w line).world d name (status_of r) o.plain
 
-directive-items : (m : Group) (c : ℕ) (w : World) (line : ScriptLine) (name : Word) (d : Whose) (r : Result (List Basic) Status) → Directs m w line name d r → full_items (alone c) (bare_line_events w line) ≡ cond (is_seen (alone c) d) (Ran line ∷ Told (entry.Directive name (status_of r)) ∷ []) []
+directive-items : (m : Group) (c : ℕ) (w : World) (line : ScriptLine) (name : Word) (d : Whose) (r : Result (List Basic) Status) → Directs m w line name d r → full_items (alone c) (own_line_events w line) ≡ cond (is_seen (alone c) d) (Ran line ∷ Told (entry.Directive name (status_of r)) ∷ []) []
 directive-items m c w line name d r o =
-    ap (λ d. full_items (alone c) (record { whose = d; item = Ran line } ∷ (map (told_event (served_step w line).world d) (served_step w line).entries ++ map (gave_event d) (given_in (served_steps line w))))) (o.whose w)
-    ∙ ap (λ es. full_items (alone c) (record { whose = d; item = Ran line } ∷ (map (told_event (served_step w line).world d) es ++ map (gave_event d) (given_in (served_steps line w))))) (ap entries_of o.is ∙ directed-entries name r o.silent)
-    ∙ ap (λ gs. full_items (alone c) (record { whose = d; item = Ran line } ∷ (map (told_event (served_step w line).world d) (entry.Directive name (status_of r) ∷ []) ++ map (gave_event d) gs))) (ap given_in o.is ∙ directed-gives name r o.gives)
+    ap (λ d. full_items (alone c) (record { whose = d; item = Ran line } ∷ (map (told_event (own_served_step w line).world d) (own_served_step w line).entries ++ map (gave_event d) (given_in (own_served line w))))) (o.whose w)
+    ∙ ap (λ es. full_items (alone c) (record { whose = d; item = Ran line } ∷ (map (told_event (own_served_step w line).world d) es ++ map (gave_event d) (given_in (own_served line w))))) (ap entries_of o.is ∙ directed-entries name r o.silent)
+    ∙ ap (λ gs. full_items (alone c) (record { whose = d; item = Ran line } ∷ (map (told_event (own_served_step w line).world d) (entry.Directive name (status_of r) ∷ []) ++ map (gave_event d) gs))) (ap given_in o.is ∙ directed-gives name r o.gives)
     ∙ at (is_seen (alone c) d)
   where
-    at : (b : Bool) → map item_of (cond b (record { whose = d; item = Ran line } ∷ cond b (told_event (served_step w line).world d (entry.Directive name (status_of r)) ∷ []) []) (cond b (told_event (served_step w line).world d (entry.Directive name (status_of r)) ∷ []) [])) ≡ cond b (Ran line ∷ Told (entry.Directive name (status_of r)) ∷ []) []
+    at : (b : Bool) → map item_of (cond b (record { whose = d; item = Ran line } ∷ cond b (told_event (own_served_step w line).world d (entry.Directive name (status_of r)) ∷ []) []) (cond b (told_event (own_served_step w line).world d (entry.Directive name (status_of r)) ∷ []) [])) ≡ cond b (Ran line ∷ Told (entry.Directive name (status_of r)) ∷ []) []
     at true = refl
     at false = refl
 
-directive-world : (m : Group) (w : World) (line : ScriptLine) (name : Word) (d : Whose) (r : Result (List Basic) Status) → Directs m w line name d r → (served_step w line).world ≡ world_of w r
+directive-world : (m : Group) (w : World) (line : ScriptLine) (name : Word) (d : Whose) (r : Result (List Basic) Status) → Directs m w line name d r → (own_served_step w line).world ≡ world_of w r
 directive-world m w line name d r o = ap (world_after w) o.is ∙ directed-world w name r
 
 -- hidden, where it is an outsider's
 pub directive-hidden : (m : Group) (c : ℕ) (w : World) (line : ScriptLine) (name : Word) (d : Whose) (r : Result (List Basic) Status) → m c ≡ true → Directs m w line name d r → is_seen m d ≡ false
-    → (view m (served_step w line).world ≡ absorb_all (view m w) (told_at m c w line)) × (full_items (alone c) (bare_line_events w line) ≡ [])
+    → (view m (own_served_step w line).world ≡ absorb_all (view m w) (own_told_at m c w line)) × (full_items (alone c) (own_line_events w line) ≡ [])
 directive-hidden m c w line name d r c_in o out = (
   ap (view m) (directive-world m w line name d r o) ∙ world r (o.hidden out)
       ∙ sym (ap (absorb_all (view m w)) (directive-told m c w line name d r o ∙ ap (λ b. cond b (entry.Directive name (status_of r) ∷ []) []) out)),
@@ -136,20 +137,24 @@ directive-hidden m c w line name d r c_in o out = (
 
 -- visible, where it is a member's or everyone's
 pub directive-visible : (m : Group) (c : ℕ) (w : World) (line : ScriptLine) (name : Word) (d : Whose) (r : Result (List Basic) Status) (is : List Item) → Directs m w line name d r → is_seen m d ≡ true
-    → (view m (served_step w line).world ≡ absorb_all (world_after (view m w) (directive_turn (view m w) line (told_items (told_at m c w line) ++ is))) (told_at m c w line))
-    × (full_items (alone c) (bare_line_events w line) ≡ directive_shown c (view m w) line (told_items (told_at m c w line) ++ is))
+    → (view m (own_served_step w line).world ≡ world_after (view m w) (directive_turn (view m w) line (told_items (own_told_at m c w line) ++ is)))
+    × (full_items (alone c) (own_line_events w line) ≡ directive_shown c (view m w) line (told_items (own_told_at m c w line) ++ is))
 directive-visible m c w line name d r is o seen =
-    subst (λ es. (view m (served_step w line).world ≡ absorb_all (world_after (view m w) (directive_turn (view m w) line (told_items es ++ is))) es) × (full_items (alone c) (bare_line_events w line) ≡ directive_shown c (view m w) line (told_items es ++ is))) (sym told) (
+    subst (λ es. (view m (own_served_step w line).world ≡ world_after (view m w) (directive_turn (view m w) line (told_items es ++ is))) × (full_items (alone c) (own_line_events w line) ≡ directive_shown c (view m w) line (told_items es ++ is))) (sym told) (
       ap (view m) (directive-world m w line name d r o) ∙ world r o.refuses (o.seen seen),
       directive-items m c w line name d r o ∙ ap (λ d. cond (is_seen (alone c) d) (Ran line ∷ Told (entry.Directive name (status_of r)) ∷ []) []) (sym (o.whose (view m w))),
     )
   where
-    told : told_at m c w line ≡ entry.Directive name (status_of r) ∷ []
+    told : own_told_at m c w line ≡ entry.Directive name (status_of r) ∷ []
     told = directive-told m c w line name d r o ∙ ap (λ b. cond b (entry.Directive name (status_of r) ∷ []) []) seen
 
     world : (r : Result (List Basic) Status) → Refuses r → Holds (λ bs. view m (world_after w bs) ≡ world_after (view m w) (effect (view m w) line)) r → view m (world_of w r) ≡ world_after (view m w) (cond ((status_of r).0 == SUCCESS.0) (effect (view m w) line) [])
     world (Ok bs) f h = h
     world (Err s) f h = rw f refl
+
+-- it wakes none
+pub directive-done : (m : Group) (w : World) (line : ScriptLine) (name : Word) (d : Whose) (r : Result (List Basic) Status) → Directs m w line name d r → (v : World) → every (is_done v) (own_served_step w line).entries ≡ true
+directive-done m w line name d r o v = ap (every (is_done v)) (ap entries_of o.is ∙ directed-entries name r o.silent)
 
 -- Each directive
 found-token : (w : World) (name : Option (List ℕ)) → Refuses (boot_token w name)
@@ -162,7 +167,7 @@ same-token m w None = refl
 same-token m w (Some name) = refl
 
 pub boot-directs : (m : Group) (w : World) (pid tid : ℕ) (name : Option (List ℕ)) → Directs m w (boot pid tid name) word.Boot (Of pid) (boot_line w pid tid name)
-unfolding bare_steps boot_line
+unfolding own_steps boot_line
 boot-directs m w pid tid name = record {
   is = refl;
   whose = λ v. refl;
@@ -179,7 +184,7 @@ boot-directs m w pid tid name = record {
 }
 
 pub token-directs : (m : Group) (w : World) (name : List ℕ) (content : Token) → Directs m w (token name content) word.Token Everyone (token_line w name content)
-unfolding bare_steps token_line
+unfolding own_steps token_line
 token-directs m w name content = record {
   is = refl;
   whose = λ v. refl;
@@ -192,7 +197,7 @@ token-directs m w name content = record {
 }
 
 pub thread-directs : (m : Group) (w : World) (tid pid : ℕ) → Directs m w (thread tid pid) word.Thread (Of pid) (thread_line w tid pid)
-unfolding bare_steps thread_line
+unfolding own_steps thread_line
 thread-directs m w tid pid = record {
   is = refl;
   whose = λ v. refl;
@@ -212,7 +217,7 @@ free-named m w text path s is = at (free_path w.bindings text) refl is
     at (Ok p) r is = rw (free-view m w.bindings text p s r) is
 
 pub dir-directs : (m : Group) (w : World) (text : List ℕ) → SeenNames m w.bindings → Directs m w (dir text) word.Dir Everyone (dir_line w text)
-unfolding bare_steps dir_line
+unfolding own_steps dir_line
 dir-directs m w text s = record {
   is = refl;
   whose = λ v. refl;
@@ -226,7 +231,7 @@ dir-directs m w text s = record {
 }
 
 pub link-directs : (m : Group) (w : World) (text target : List ℕ) → SeenNames m w.bindings → Directs m w (link text target) word.Link Everyone (link_line w text target)
-unfolding bare_steps link_line
+unfolding own_steps link_line
 link-directs m w text target s = record {
   is = refl;
   whose = λ v. refl;

@@ -18,9 +18,9 @@ use Rattle.lpc_model.specs.declared.entry.Word.TheVariants.{Boot, Dir, Link, Thr
 use Rattle.lpc_model.specs.declared.entry.Word.TheVariants as word
 use Rattle.lpc_names.specs.Walk.{LinkTo, Stands}
 use Rattle.lpc_names.specs.declared.names.Found.TheVariants.{Directory}
-use Rattle.lpc_model.specs.Lines.{ResidentLine, of_resident, ScriptCall, ScriptLine, boot, dir, link, run, thread, token}
-use Rattle.lpc_model.specs.Machine.{bare_steps, boot_line, dir_line, directed, directive_birth, link_line, live_test, name_of_call, new_thread, settled, thread_count_test, thread_line, thread_test, unused_thread_test, boot_token, token_line, boot_steps}
-use Rattle.lpc_isolation.proofs.Gone.Served.{served, served_step}
+use Rattle.lpc_model.specs.Lines.{ScriptCall, ScriptLine, boot, dir, link, run, thread, token, ResidentLine, of_resident}
+use Rattle.lpc_model.specs.Machine.{boot_line, dir_line, directed, directive_birth, link_line, live_test, name_of_call, new_thread, settled, thread_count_test, thread_line, thread_test, unused_thread_test, boot_token, token_line, boot_steps, own_steps}
+use Rattle.lpc_isolation.proofs.Gone.Served.{served, own_served_step}
 use Rattle.lpc_model.proofs.Calls.Holding.{Holds, bind_holds, holds_any, holds_ok, not_refused}
 use Rattle.lpc_model.specs.Circle.{Group}
 use Rattle.lpc_isolation.proofs.Views.Alone.{HasFineRows}
@@ -62,12 +62,12 @@ boot-next m c w pid tid name ids n = bind_holds (boot_token w name) _ (λ bs. Ke
           names = n.names;
           paths = n.paths;
           numbered = every-push of_number w.used_threads (used (new_thread tid pid (directive_birth tid pid))) n.numbered (and_from _ _ (id-most pid (first-true (is_id pid) (is_id tid) ids)) (id-most tid (second-true (is_id pid) (is_id tid) ids)));
-          asked = record { sorts = n.asked.sorts; own = n.asked.own; one = n.asked.one };
+          asked = record { sorts = n.asked.sorts; own = n.asked.own; one = n.asked.one; marked = n.asked.marked };
         }
 
 token-next : (m : Group) (c : ℕ) (w : World) (name : List ℕ) (content : Token) → Kept m c w → Holds (λ bs. Kept m c (world_after w bs)) (token_line w name content)
 unfolding token_line
-token-next m c w name content n = bind_holds (refuse_if (is_some (named_token w name)) OBJECT_NAME_COLLISION) _ (λ bs. Kept m c (world_after w bs)) (λ _ _. record { fair = run-fair m c w (NamesToken (record { name = name; token = content }) ∷ []) refl n.fair; once = n.once; names = n.names; paths = n.paths; numbered = n.numbered; asked = record { sorts = n.asked.sorts; own = n.asked.own; one = n.asked.one } })
+token-next m c w name content n = bind_holds (refuse_if (is_some (named_token w name)) OBJECT_NAME_COLLISION) _ (λ bs. Kept m c (world_after w bs)) (λ _ _. record { fair = run-fair m c w (NamesToken (record { name = name; token = content }) ∷ []) refl n.fair; once = n.once; names = n.names; paths = n.paths; numbered = n.numbered; asked = record { sorts = n.asked.sorts; own = n.asked.own; one = n.asked.one; marked = n.asked.marked } })
 
 thread-holds : (m : Group) (c : ℕ) (w : World) (tid pid : ℕ) → has_ids (thread tid pid) ≡ true → Kept m c w → Holds (λ bs. Kept m c (world_after w bs)) (thread_line w tid pid)
 unfolding thread_line
@@ -79,7 +79,7 @@ thread-holds m c w tid pid ids n = bind_holds (thread_test w tid pid) _ (λ bs. 
       names = n.names;
       paths = n.paths;
       numbered = every-push of_number w.used_threads (used (new_thread tid pid (directive_birth tid pid))) n.numbered (and_from _ _ (id-most pid (second-true _ _ ids)) (id-most tid (first-true _ _ ids)));
-      asked = record { sorts = n.asked.sorts; own = n.asked.own; one = n.asked.one };
+      asked = record { sorts = n.asked.sorts; own = n.asked.own; one = n.asked.one; marked = n.asked.marked };
     })
 
 thread-next : (m : Group) (c : ℕ) (w : World) (tid pid : ℕ) → has_ids (thread tid pid) ≡ true → Kept m c w → (r : Result (List Basic) Status) → thread_line w tid pid ≡ r → Kept m c (world_after w (directed Thread r))
@@ -88,11 +88,11 @@ thread-next m c w tid pid ids n (Ok bs) is = holds_ok (λ bs. Kept m c (world_af
 
 dir-next : (m : Group) (c : ℕ) (w : World) (text : List ℕ) → Kept m c w → Holds (λ bs. Kept m c (world_after w bs)) (dir_line w text)
 unfolding dir_line
-dir-next m c w text n = bind_holds (free_name w text) _ (λ bs. Kept m c (world_after w bs)) (λ path is. record { fair = run-fair m c w (Binds path (Stands Directory) ∷ []) refl n.fair; once = n.once; names = once-bound w.bindings path (Stands Directory) n.names (free-unbound w text path is); paths = n.paths; numbered = n.numbered; asked = record { sorts = n.asked.sorts; own = n.asked.own; one = n.asked.one } })
+dir-next m c w text n = bind_holds (free_name w text) _ (λ bs. Kept m c (world_after w bs)) (λ path is. record { fair = run-fair m c w (Binds path (Stands Directory) ∷ []) refl n.fair; once = n.once; names = once-bound w.bindings path (Stands Directory) n.names (free-unbound w text path is); paths = n.paths; numbered = n.numbered; asked = record { sorts = n.asked.sorts; own = n.asked.own; one = n.asked.one; marked = n.asked.marked } })
 
 link-next : (m : Group) (c : ℕ) (w : World) (text target : List ℕ) → Kept m c w → Holds (λ bs. Kept m c (world_after w bs)) (link_line w text target)
 unfolding link_line
-link-next m c w text target n = bind_holds (spelled_name target) _ (λ bs. Kept m c (world_after w bs)) (λ to _. bind_holds (free_name w text) _ (λ bs. Kept m c (world_after w bs)) (λ path is. record { fair = run-fair m c w (Binds path (LinkTo to) ∷ []) refl n.fair; once = n.once; names = once-bound w.bindings path (LinkTo to) n.names (free-unbound w text path is); paths = n.paths; numbered = n.numbered; asked = record { sorts = n.asked.sorts; own = n.asked.own; one = n.asked.one } }))
+link-next m c w text target n = bind_holds (spelled_name target) _ (λ bs. Kept m c (world_after w bs)) (λ to _. bind_holds (free_name w text) _ (λ bs. Kept m c (world_after w bs)) (λ path is. record { fair = run-fair m c w (Binds path (LinkTo to) ∷ []) refl n.fair; once = n.once; names = once-bound w.bindings path (LinkTo to) n.names (free-unbound w text path is); paths = n.paths; numbered = n.numbered; asked = record { sorts = n.asked.sorts; own = n.asked.own; one = n.asked.one; marked = n.asked.marked } }))
 
 directed-next : (m : Group) (c : ℕ) (w : World) (name : Word) (r : Result (List Basic) Status) → Kept m c w → Holds (λ bs. Kept m c (world_after w bs)) r → Kept m c (world_after w (directed name r))
 directed-next m c w name (Ok bs) n h = h
@@ -109,25 +109,25 @@ ok-next m c w by known call (Ok bs) ids a n is fine = record {
   asked = holds_ok (λ bs. Asked (world_after w bs)) (served w by call) bs ((lawful call).asked m c w by known a n.asked) is;
 }
 
-run-next : (m : Group) (c : ℕ) (w : World) (s : State) (tid : ℕ) (call : ScriptCall) → has_call_ids call ≡ true → m c ≡ true → Stood m c w s → HasFineRows m c w → HasFineRows m c (served_step w (run tid call)).world → Kept m c (served_step w (run tid call)).world
+run-next : (m : Group) (c : ℕ) (w : World) (s : State) (tid : ℕ) (call : ScriptCall) → has_call_ids call ≡ true → m c ≡ true → Stood m c w s → HasFineRows m c w → HasFineRows m c (own_served_step w (run tid call)).world → Kept m c (own_served_step w (run tid call)).world
 run-next m c w s tid call ids c_in st fine next = at (live_thread w tid) refl
   where
-    ready : (by : ThreadRow) → live_thread w tid ≡ Some by → (o : Option WaitRow) → wait_of w tid ≡ o → Kept m c (served_step w (run tid call)).world
+    ready : (by : ThreadRow) → live_thread w tid ≡ Some by → (o : Option WaitRow) → wait_of w tid ≡ o → Kept m c (own_served_step w (run tid call)).world
     ready by live (Some x) waits = subst (λ bs. Kept m c (world_after w bs)) (sym (busy w tid call by x live waits)) st.kept
     ready by live None idle =
         let is = called w tid call by live idle in
         subst (λ bs. Kept m c (world_after w bs)) (sym is)
         (ok-next m c w by (known_queue s.memo) call (served w by call) ids (ready-at m c w s tid by c_in st fine live idle) st.kept refl (subst (λ bs. HasFineRows m c (world_after w bs)) is next))
 
-    at : (o : Option ThreadRow) → live_thread w tid ≡ o → Kept m c (served_step w (run tid call)).world
+    at : (o : Option ThreadRow) → live_thread w tid ≡ o → Kept m c (own_served_step w (run tid call)).world
     at None none = subst (λ bs. Kept m c (world_after w bs)) (sym (nobody w tid call none)) st.kept
     at (Some by) live = ready by live (wait_of w tid) refl
 
-resident-next : (m : Group) (c : ℕ) (w : World) (tid : ℕ) (what : ResidentLine) (had : Bool) → Kept m c w → Kept m c (served_step w (of_resident tid what had)).world
-unfolding bare_steps
+resident-next : (m : Group) (c : ℕ) (w : World) (tid : ℕ) (what : ResidentLine) (had : Bool) → Kept m c w → Kept m c (own_served_step w (of_resident tid what had)).world
+unfolding own_steps
 resident-next m c w tid what had n = n
 
-pub line-next : (m : Group) (c : ℕ) (w : World) (s : State) (line : ScriptLine) → has_ids line ≡ true → m c ≡ true → Stood m c w s → HasFineRows m c w → HasFineRows m c (served_step w line).world → Kept m c (served_step w line).world
+pub line-next : (m : Group) (c : ℕ) (w : World) (s : State) (line : ScriptLine) → has_ids line ≡ true → m c ≡ true → Stood m c w s → HasFineRows m c w → HasFineRows m c (own_served_step w line).world → Kept m c (own_served_step w line).world
 line-next m c w s (run tid call) ids c_in st fine next = run-next m c w s tid call (second-true (is_id tid) _ ids) c_in st fine next
 line-next m c w s (boot pid tid name) ids c_in st fine next = subst (λ bs. Kept m c (world_after w bs)) (sym (boot-directs m w pid tid name).is) (directed-next m c w Boot (boot_line w pid tid name) st.kept (boot-next m c w pid tid name ids st.kept))
 line-next m c w s (token name content) ids c_in st fine next = subst (λ bs. Kept m c (world_after w bs)) (sym (token-directs m w name content).is) (directed-next m c w word.Token (token_line w name content) st.kept (token-next m c w name content st.kept))

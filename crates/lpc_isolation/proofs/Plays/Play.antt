@@ -9,7 +9,7 @@ use Rattle.lpc_base.proofs.Bools.{first-true, second-true}
 use Rattle.lpc_model.specs.declared.entry.Entry.{Entry}
 use Rattle.lpc_model.specs.World.{Birth, World, no_rows, Impersonation}
 use Rattle.lpc_model.specs.Lines.{ScriptLine}
-use Rattle.lpc_isolation.proofs.Gone.Served.{served_step, served_steps}
+use Rattle.lpc_isolation.proofs.Gone.Served.{served_step, served_steps, own_served, own_served_step}
 use Rattle.lpc_model.specs.Run.{said_in}
 use Rattle.lpc_model.specs.Circle.{Event, Everyone, Group, Item, Nobody, Of, Ran, Told, Whose, entry_whose, full_inputs, is_fine_line, is_input, is_item, is_seen, is_told_to, item_of, full_items, line_whose, members, told_event, Gave, gave_event, given_in}
 use Rattle.lpc_isolation.proofs.Views.Alone.{HasFineRows, alone}
@@ -65,6 +65,13 @@ given_inputs m c d gs = which (is_given_input m c d) gs
 
 abbrev pub given_at : Group → ℕ → World → ScriptLine → List Impersonation
 given_at m c w line = given_inputs m c (line_whose w line) (given_in (served_steps line w))
+
+-- and of its own steps, before the world settles
+abbrev pub own_told_at : Group → ℕ → World → ScriptLine → List Entry
+own_told_at m c w line = told_inputs m c (own_served_step w line).world (line_whose w line) (own_served_step w line).entries
+
+abbrev pub own_given_at : Group → ℕ → World → ScriptLine → List Impersonation
+own_given_at m c w line = given_inputs m c (line_whose w line) (given_in (own_served line w))
 
 -- a line that the group doesn't see, and one that it sees, where a state stands for a world
 pub record Hidden {S : Type 0} (p : Player S) (Stands : World → S → Type 0) (m : Group) (c : ℕ) (w : World) (v : S) (line : ScriptLine) : Type 0 where

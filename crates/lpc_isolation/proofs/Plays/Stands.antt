@@ -1,23 +1,23 @@
 -- A state that is played from the inputs, and what it stands for: what c sees of each line.
 use Rattle.lpc_isolation.proofs.Views.Reads.{FineLine}
 use Rattle.lpc_isolation.proofs.Calls.Services.{serves}
-use Rattle.std.proofs.Common.{◌≡◌, ℕ, List, [], ◌∷◌, ◌++◌, true, false, Option, Some, None, refl, sym, subst, arith}
+use Rattle.std.proofs.Common.{◌≡◌, ℕ, List, [], ◌∷◌, ◌++◌, Bool, true, false, cond, Option, Some, None, refl, ap, sym, subst, arith}
 use Rattle.std.specs.Prelude.{◌==◌, Ok}
-use Rattle.lpc_base.specs.Rows.{passes}
+use Rattle.lpc_base.specs.Rows.{every, given, passes}
 use Rattle.lpc_base.proofs.Bools.{same-number}
 use Rattle.lpc_model.specs.declared.entry.Entry.{Entry}
-use Rattle.lpc_model.specs.World.{Contents, ThreadRow, WaitRow, World}
+use Rattle.lpc_model.specs.World.{Birth, Contents, Impersonation, ThreadRow, WaitRow, World}
 use Rattle.lpc_model.specs.Found.{live_thread, wait_of}
 use Rattle.lpc_model.specs.Basics.{world_after}
 use Rattle.lpc_model.specs.Connect.{ConnectAnswer, answer_test}
-use Rattle.lpc_model.specs.Lines.{of_resident, ScriptCall, ScriptLine, boot, dir, link, run, thread, token}
+use Rattle.lpc_model.specs.Lines.{of_resident, ScriptCall, ScriptLine, boot, dir, link, raise, run, thread, token}
 use Rattle.lpc_model.specs.Machine.{boot_line, dir_line, link_line, thread_line, token_line}
-use Rattle.lpc_isolation.proofs.Gone.Served.{served_step}
+use Rattle.lpc_isolation.proofs.Gone.Served.{own_served_step, own_served}
 use Rattle.lpc_model.proofs.Calls.Holding.{holds_ok}
 use Rattle.lpc_model.proofs.Calls.Usable.{live-number}
-use Rattle.lpc_model.specs.Circle.{Everyone, Group, Item, Of, is_fine_call, is_fine_line, is_seen, full_items, line_whose, owner}
-use Rattle.lpc_isolation.proofs.Views.Alone.{HasFineRows, alone}
-use Rattle.lpc_isolation.proofs.Gone.Bare.{bare_line_events}
+use Rattle.lpc_model.specs.Circle.{Everyone, Group, Item, Of, is_fine_call, is_fine_line, is_seen, line_whose, owner, full_items, thread_whose}
+use Rattle.lpc_isolation.proofs.Views.Alone.{HasFineRows, alone, HasFineRaisers}
+use Rattle.lpc_isolation.proofs.Gone.Bare.{own_line_events}
 use Rattle.lpc_isolation.proofs.Views.View.{view}
 use Rattle.lpc_isolation.proofs.Views.Bytes.{Right, contents_after}
 use Rattle.lpc_isolation.proofs.Rows.Fair.{Fair}
@@ -27,13 +27,14 @@ use Rattle.lpc_isolation.proofs.Rows.Bound.{OnceBound, seen-names}
 use Rattle.lpc_isolation.proofs.Rows.Asked.{Asked}
 use Rattle.lpc_isolation.proofs.Rows.Ids.{Numbered, all-readable}
 use Rattle.lpc_isolation.proofs.Rows.Paths.{Paths, paths-ways}
-use Rattle.lpc_isolation.proofs.Plays.Play.{Player, absorbed, told_at, told_items, gave_items, given_at}
-use Rattle.lpc_isolation.proofs.Plays.Lines.{OnceUsed, Owes, run-hidden, run-visible, shown_run, turn}
+use Rattle.lpc_isolation.proofs.Plays.Play.{Player, absorbed, own_told_at, told_items, gave_items, own_given_at}
+use Rattle.lpc_isolation.proofs.Plays.Lines.{Follows, IsLed, LedBy, OnceUsed, Owes, accepts, follows, is_done, led_line, next_entry, next_given, raises, run-hidden, run-visible, shown_run, turn}
 use Rattle.lpc_isolation.proofs.Calls.Lines.{owes-busy, owes-call, owes-none}
-use Rattle.lpc_isolation.proofs.Each.Instances.{At, leading}
+use Rattle.lpc_isolation.proofs.Each.Instances.{At, leading, leads_by}
+use Rattle.lpc_isolation.proofs.Each.Listens.{own_entry}
 use Rattle.lpc_isolation.proofs.Rows.Kept.{owned-sound}
-use Rattle.lpc_isolation.proofs.Plays.Residents.{resident-hidden, resident-visible, resident_shown}
-use Rattle.lpc_isolation.proofs.Plays.Directives.{boot-directs, dir-directs, directive-hidden, directive-visible, directive_shown, directive_turn, link-directs, thread-directs, token-directs}
+use Rattle.lpc_isolation.proofs.Plays.Residents.{resident-done, resident-hidden, resident-visible, resident_shown}
+use Rattle.lpc_isolation.proofs.Plays.Directives.{boot-directs, dir-directs, directive-done, directive-hidden, directive-visible, directive_shown, directive_turn, link-directs, thread-directs, token-directs}
 use Rattle.lpc_model.specs.Connect.{reaches}
 use Rattle.lpc_model.specs.Found.{is_offered, names_wait}
 use Rattle.lpc_isolation.proofs.Each.Accepts.{reached-of, reached-own}
@@ -110,6 +111,7 @@ pub record Stood (m : Group) (c : ℕ) (w : World) (s : State) : Type 0 where
   pub kept : Kept m c w
   pub known : AllKnown m s.memo w
   pub right : Right c s.bytes w
+  pub raisers : HasFineRaisers m w
 
 -- where a thread that waits for nothing calls
 knows-at : (m : Group) (c : ℕ) (w : World) (by : ThreadRow) (memo : List Heard) → Fair m c w → AllKnown m memo w → (bytes : List ℕ) (a : ConnectAnswer) → m by.process ≡ true → answer_test w by bytes ≡ Ok a → m a.wait.process ≡ false → known_queue memo bytes ≡ a.wait.queue
@@ -132,6 +134,8 @@ ready-at m c w s tid by c_in st fine live idle =
       bound = st.kept.names;
       paths = st.kept.paths;
       asked = st.kept.asked;
+      unmarked = st.firm.settled.marks;
+      raisers = st.raisers;
       ways = paths-ways m c w st.kept.fair fine st.kept.paths;
       readable = all-readable w st.kept.numbered st.kept.fair.senders;
       live = subst (λ n. live_thread w n ≡ Some by) (sym number) live;
@@ -145,7 +149,7 @@ pub line-call : (m : Group) (c : ℕ) (w : World) (tid : ℕ) (call : ScriptCall
 line-call m c w tid call fine by own mine =
     let it : passes (owner w tid) (λ p. p == c) ≡ true = rw own (rw mine (same-number c)) in grind arith
 
-pub owes-line : (m : Group) (c : ℕ) (w : World) (s : State) (tid : ℕ) (call : ScriptCall) → m c ≡ true → Stood m c w s → HasFineRows m c w → HasFineRows m c (served_step w (run tid call)).world → FineLine m c s.bytes w (run tid call) → Owes (leading m (known_queue s.memo) s.bytes) m c w tid call
+pub owes-line : (m : Group) (c : ℕ) (w : World) (s : State) (tid : ℕ) (call : ScriptCall) → m c ≡ true → Stood m c w s → HasFineRows m c w → HasFineRows m c (own_served_step w (run tid call)).world → FineLine m c s.bytes w (run tid call) → Owes (leading m (known_queue s.memo) s.bytes) m c w tid call
 owes-line m c w s tid call c_in st fine next line = at (live_thread w tid) refl
   where
     owned : Owned w w
@@ -163,32 +167,45 @@ owes-line m c w s tid call c_in st fine next line = at (live_thread w tid) refl
     at None none = owes-none (leading m (known_queue s.memo) s.bytes) m c w tid call c_in st.kept.fair none
     at (Some by) live = ready by live (wait_of w tid) refl
 
+-- A member is led by the entry that comes next
+follows-line : (m : Group) (known : List ℕ → Birth) (k : Contents) (v : World) (tid : ℕ) (call : ScriptCall) (e f : Entry) (o : Option Impersonation) → Follows call e f → led_line (leading m known k) v tid call e o ≡ led_line (leading m known k) v tid call f o
+follows-line m known k v tid call e f o (follows same) = ap (λ e. led_line (leading m known k) v tid call e o) same
+follows-line m known k v tid call e f o (raises code handled is same) = subst (λ call. led_line (leading m known k) v tid call e o ≡ led_line (leading m known k) v tid call f o) (sym is) (alike (accepts e) (accepts f) same)
+  where
+    alike : (a b : Bool) → a ≡ b → cond a (given (live_thread v tid) (λ by. leads_by m known v by (raise code handled) e o)) [] ≡ cond b (given (live_thread v tid) (λ by. leads_by m known v by (raise code handled) e o)) []
+    alike a b same = ap (λ b. cond b (given (live_thread v tid) (λ by. leads_by m known v by (raise code handled) e o)) []) same
+
+pub led-by : (m : Group) (c : ℕ) (w : World) (known : List ℕ → Birth) (k : Contents) (tid : ℕ) (call : ScriptCall) (said : List Item) → IsLed m c w (run tid call) said → is_seen m (thread_whose w tid) ≡ true → LedBy (leading m known k) m c w tid call said
+led-by m c w known k tid call said led seen other = follows-line m known k (view m w) tid call (next_entry said) (own_entry (own_served (run tid call) w)) (next_given said) (led seen other)
+
 -- What each line leaves of a view, and what c sees of it
 pub record Line (m : Group) (c : ℕ) (w : World) (s : State) (line : ScriptLine) : Type 0 where
-  pub hides : is_seen m (line_whose w line) ≡ false → (view m (served_step w line).world ≡ absorb_all s.seen (told_at m c w line)) × (full_items (alone c) (bare_line_events w line) ≡ [])
-  pub shows : is_seen m (line_whose w line) ≡ true → (is : List Item) → (view m (served_step w line).world ≡ absorb_all (played_view m c s line (told_items (told_at m c w line) ++ (gave_items (given_at m c w line) ++ is))) (told_at m c w line))
-      × (full_items (alone c) (bare_line_events w line) ≡ played_items m c s line (told_items (told_at m c w line) ++ (gave_items (given_at m c w line) ++ is)))
+  pub hides : is_seen m (line_whose w line) ≡ false → (view m (own_served_step w line).world ≡ absorb_all s.seen (own_told_at m c w line)) × (full_items (alone c) (own_line_events w line) ≡ [])
+  pub done : every (is_done (own_served_step w line).world) (own_served_step w line).entries ≡ true
+  pub shows : (is : List Item) → IsLed m c w line (told_items (own_told_at m c w line) ++ (gave_items (own_given_at m c w line) ++ is)) → is_seen m (line_whose w line) ≡ true → (view m (own_served_step w line).world ≡ played_view m c s line (told_items (own_told_at m c w line) ++ (gave_items (own_given_at m c w line) ++ is)))
+      × (full_items (alone c) (own_line_events w line) ≡ played_items m c s line (told_items (own_told_at m c w line) ++ (gave_items (own_given_at m c w line) ++ is)))
 
-pub of-line : (m : Group) (c : ℕ) (w : World) (t : List Heard) (k : Contents) (line : ScriptLine) → m c ≡ true → Stood m c w (record { seen = view m w; memo = t; bytes = k }) → HasFineRows m c w → HasFineRows m c (served_step w line).world → OnceUsed (served_step w line).world → FineLine m c k w line → Line m c w (record { seen = view m w; memo = t; bytes = k }) line
+pub of-line : (m : Group) (c : ℕ) (w : World) (t : List Heard) (k : Contents) (line : ScriptLine) → m c ≡ true → Stood m c w (record { seen = view m w; memo = t; bytes = k }) → HasFineRows m c w → HasFineRows m c (own_served_step w line).world → OnceUsed (own_served_step w line).world → FineLine m c k w line → Line m c w (record { seen = view m w; memo = t; bytes = k }) line
 of-line m c w t k (run tid call) c_in st fine next once line =
     let o = owes-line m c w (record { seen = view m w; memo = t; bytes = k }) tid call c_in st fine next line in
-    record { hides = λ out. run-hidden (leading m (known_queue t) k) m c w tid call c_in o out; shows = λ seen is. run-visible (leading m (known_queue t) k) m c w tid call is c_in o st.kept.once once seen }
+    record { hides = λ out. run-hidden (leading m (known_queue t) k) m c w tid call c_in o out; done = o.done; shows = λ is led seen. run-visible (leading m (known_queue t) k) m c w tid call is c_in o (led-by m c w (known_queue t) k tid call (told_items (own_told_at m c w (run tid call)) ++ (gave_items (own_given_at m c w (run tid call)) ++ is)) led seen) st.kept.once once seen }
 of-line m c w t k (boot pid tid name) c_in st fine next once line =
     let o = boot-directs m w pid tid name in
-    record { hides = λ out. directive-hidden m c w (boot pid tid name) _ (Of pid) (boot_line w pid tid name) c_in o out; shows = λ seen is. directive-visible m c w (boot pid tid name) _ (Of pid) (boot_line w pid tid name) (gave_items (given_at m c w (boot pid tid name)) ++ is) o seen }
+    record { hides = λ out. directive-hidden m c w (boot pid tid name) _ (Of pid) (boot_line w pid tid name) c_in o out; done = directive-done m w (boot pid tid name) _ (Of pid) (boot_line w pid tid name) o (own_served_step w (boot pid tid name)).world; shows = λ is led seen. directive-visible m c w (boot pid tid name) _ (Of pid) (boot_line w pid tid name) (gave_items (own_given_at m c w (boot pid tid name)) ++ is) o seen }
 of-line m c w t k (token name content) c_in st fine next once line =
     let o = token-directs m w name content in
-    record { hides = λ out. directive-hidden m c w (token name content) _ Everyone (token_line w name content) c_in o out; shows = λ seen is. directive-visible m c w (token name content) _ Everyone (token_line w name content) (gave_items (given_at m c w (token name content)) ++ is) o seen }
+    record { hides = λ out. directive-hidden m c w (token name content) _ Everyone (token_line w name content) c_in o out; done = directive-done m w (token name content) _ Everyone (token_line w name content) o (own_served_step w (token name content)).world; shows = λ is led seen. directive-visible m c w (token name content) _ Everyone (token_line w name content) (gave_items (own_given_at m c w (token name content)) ++ is) o seen }
 of-line m c w t k (thread tid pid) c_in st fine next once line =
     let o = thread-directs m w tid pid in
-    record { hides = λ out. directive-hidden m c w (thread tid pid) _ (Of pid) (thread_line w tid pid) c_in o out; shows = λ seen is. directive-visible m c w (thread tid pid) _ (Of pid) (thread_line w tid pid) (gave_items (given_at m c w (thread tid pid)) ++ is) o seen }
+    record { hides = λ out. directive-hidden m c w (thread tid pid) _ (Of pid) (thread_line w tid pid) c_in o out; done = directive-done m w (thread tid pid) _ (Of pid) (thread_line w tid pid) o (own_served_step w (thread tid pid)).world; shows = λ is led seen. directive-visible m c w (thread tid pid) _ (Of pid) (thread_line w tid pid) (gave_items (own_given_at m c w (thread tid pid)) ++ is) o seen }
 of-line m c w t k (of_resident tid what had) c_in st fine next once line = record {
   hides = λ out. resident-hidden m c w tid what had c_in out;
-  shows = λ seen is. resident-visible m c w tid what had (told_items (told_at m c w (of_resident tid what had)) ++ (gave_items (given_at m c w (of_resident tid what had)) ++ is)) st.kept.fair st.kept.once seen;
+  done = resident-done (own_served_step w (of_resident tid what had)).world w tid what had;
+  shows = λ is led seen. resident-visible m c w tid what had st.kept.fair st.kept.once seen;
 }
 of-line m c w t k (dir path) c_in st fine next once line =
     let o = dir-directs m w path (seen-names m w.bindings st.kept.names) in
-    record { hides = λ out. directive-hidden m c w (dir path) _ Everyone (dir_line w path) c_in o out; shows = λ seen is. directive-visible m c w (dir path) _ Everyone (dir_line w path) (gave_items (given_at m c w (dir path)) ++ is) o seen }
+    record { hides = λ out. directive-hidden m c w (dir path) _ Everyone (dir_line w path) c_in o out; done = directive-done m w (dir path) _ Everyone (dir_line w path) o (own_served_step w (dir path)).world; shows = λ is led seen. directive-visible m c w (dir path) _ Everyone (dir_line w path) (gave_items (own_given_at m c w (dir path)) ++ is) o seen }
 of-line m c w t k (link path target) c_in st fine next once line =
     let o = link-directs m w path target (seen-names m w.bindings st.kept.names) in
-    record { hides = λ out. directive-hidden m c w (link path target) _ Everyone (link_line w path target) c_in o out; shows = λ seen is. directive-visible m c w (link path target) _ Everyone (link_line w path target) (gave_items (given_at m c w (link path target)) ++ is) o seen }
+    record { hides = λ out. directive-hidden m c w (link path target) _ Everyone (link_line w path target) c_in o out; done = directive-done m w (link path target) _ Everyone (link_line w path target) o (own_served_step w (link path target)).world; shows = λ is led seen. directive-visible m c w (link path target) _ Everyone (link_line w path target) (gave_items (own_given_at m c w (link path target)) ++ is) o seen }

@@ -3,7 +3,7 @@ use Rattle.std.proofs.Common.{◌≡◌, ◌≤◌, ◌+◌, ℕ, List, [], ◌�
 use Rattle.std.specs.Prelude.{◌&&◌, ◌||◌, ◌==◌}
 use Rattle.std.proofs.lemmas.Bool.{and_from, eqb-true, not-true}
 use Rattle.lpc_base.specs.Rows.{change, count, every, first, given, has, when, without, without_first}
-use Rattle.lpc_base.proofs.RowWords.{count-fewer, count-none, count-push, every-push, every-without, first-passes, has-kept, has-off, has_none-more, has_none-without_first, none-counted}
+use Rattle.lpc_base.proofs.RowWords.{count-fewer, count-none, count-push, every-push, every-without, first-passes, has-kept, has-off, has_none-more, has_none-without_first, none-counted, every-more, has_none-without}
 use Rattle.lpc_base.proofs.RowMaps.{every-first, every-without_first}
 use Rattle.lpc_base.proofs.Bools.{first-true, same-number, second-true}
 use Rattle.lpc_base.specs.declared.status.TheConstants.{SUCCESS}
@@ -12,9 +12,9 @@ use Rattle.lpc_model.specs.declared.entry.Field.{Field}
 use Rattle.lpc_model.specs.Fields.{msg, receipt}
 use Rattle.lpc_message.specs.declared.kind.TheConstants.{CLIENT_DIED, DATAGRAM, PORT_CLOSED}
 use Rattle.lpc_model.specs.Message.{asks}
-use Rattle.lpc_model.specs.World.{Accepted, Connect, Listen, MessageRow, Receive, Request, WaitKind, WaitRow, World}
-use Rattle.lpc_model.specs.Found.{is_offered, is_own_of, is_queued, is_queued_connect, is_request, same_birth, wait_of, waits_as, waits_at}
-use Rattle.lpc_model.specs.Basics.{Accepts, Awaits, Basic, Empties, Enters, Frees, Receives, Takes, TakesConnect, Tells, Wakes, Withdraws, accepted, basic, received, world_after, Dies}
+use Rattle.lpc_model.specs.World.{Accepted, Connect, Listen, MessageRow, Receive, Request, WaitKind, WaitRow, World, Event}
+use Rattle.lpc_model.specs.Found.{is_offered, is_own_of, is_queued, is_queued_connect, is_asking, same_birth, wait_of, waits_as, waits_at, is_mark}
+use Rattle.lpc_model.specs.Basics.{Accepts, Awaits, Basic, Empties, Enters, Frees, Receives, Takes, TakesConnect, Tells, Wakes, Withdraws, accepted, basic, received, world_after, Dies, Leaves, Marks}
 use Rattle.lpc_model.specs.Entering.{enter, given_steps, shown, take_connect_steps, take_steps, takes, woken}
 use Rattle.lpc_model.proofs.Steps.Rows.{count-less}
 use Rattle.lpc_isolation.proofs.Each.Enter.{Patient, is_patient, listen-first, receive-first}
@@ -27,7 +27,7 @@ abbrev pub asks_of : ℕ → MessageRow → Bool
 asks_of who y = asks y.message && (sender_of y == who)
 
 abbrev pub is_own : MessageRow → WaitRow → Bool
-is_own y x = waits_as (sender_of y) x && (same_birth x.queue y.queue && (not x.received && (is_request x || is_offered x)))
+is_own y x = waits_as (sender_of y) x && (same_birth x.queue y.queue && (not x.received && (is_asking x || is_offered x)))
 
 abbrev pub has_own : List WaitRow → MessageRow → Bool
 has_own waits y = not (asks y.message) || has (is_own y) waits
@@ -37,23 +37,31 @@ abbrev pub is_sort : MessageRow → Bool
 is_sort y =
     asks y.message || ((y.message.header.kind == DATAGRAM) || ((y.message.header.kind == PORT_CLOSED) || (y.message.header.kind == CLIENT_DIED)))
 
+-- no message of the thread asks
+abbrev pub is_quiet : List MessageRow → ℕ → Bool
+is_quiet messages who = not (has (asks_of who) messages)
+
 pub record Asked (w : World) : Type 0 where
   pub sorts : every is_sort w.messages ≡ true
   -- a message that asks has its wait, and a thread has one such message at most
   pub own : every (has_own w.waits) w.messages ≡ true
   pub one : (who : ℕ) → count (asks_of who) w.messages ≤ 1
+  -- and one that is marked has none
+  pub marked : every (is_quiet w.messages) w.marks ≡ true
 
--- no message of the thread asks
-abbrev pub is_quiet : List MessageRow → ℕ → Bool
-is_quiet messages who = not (has (asks_of who) messages)
+-- a message that enters is the only one of its thread that asks, and that isn't marked
+abbrev pub asks_rightly : World → MessageRow → Bool
+asks_rightly w y = not (asks y.message) || ((is_quiet w.messages (sender_of y) && has (is_own y) w.waits) && not (has (is_mark (sender_of y)) w.marks))
 
 -- what a step must be, so that it stays so
 abbrev pub keeps_asked : World → Basic → Bool
 keeps_asked w (Wakes who call status fields) = is_quiet w.messages who
 keeps_asked w (Dies who status) = is_quiet w.messages who
+keeps_asked w (Leaves who) = is_quiet w.messages who
 keeps_asked w (Receives who q) = is_quiet w.messages who
 keeps_asked w (Accepts who reply) = is_quiet w.messages who
-keeps_asked w (Enters y) = is_sort y && (not (asks y.message) || (is_quiet w.messages (sender_of y) && has (is_own y) w.waits))
+keeps_asked w (Marks who) = is_quiet w.messages who
+keeps_asked w (Enters y) = is_sort y && asks_rightly w y
 keeps_asked w (Frees o) = false
 keeps_asked w b = true
 
@@ -113,20 +121,45 @@ entered-one who ys y ok few = rw (count-push (asks_of who) ys y) (at (asks_of wh
         rw (count-none (asks_of who) ys none) (omega arith)
     at false off = omega (arith, few)
 
+-- those that are marked stay quiet
+pub still-quiet : (xs ys : List MessageRow) (marks : List ℕ) → ((n : ℕ) → has (asks_of n) xs ≡ false → has (asks_of n) ys ≡ false) → every (is_quiet xs) marks ≡ true → every (is_quiet ys) marks ≡ true
+still-quiet xs ys marks less all = every-more (is_quiet xs) (is_quiet ys) (λ n is. rw (less n (not-true _ is)) refl) marks all
+
+has-last : {X : Type 0} (p : X → Bool) (xs : List X) (y : X) → has p xs ≡ false → p y ≡ false → has p (xs ++ y ∷ []) ≡ false
+has-last p [] y none off = grind arith
+has-last p (x ∷ xs) y none off = grind (arith, has-last p xs y)
+
+entered-marked : (ms : List MessageRow) (y : MessageRow) (marks : List ℕ) → (not (asks y.message) || not (has (is_mark (sender_of y)) marks)) ≡ true → every (is_quiet ms) marks ≡ true → every (is_quiet (ms ++ y ∷ [])) marks ≡ true
+entered-marked ms y [] ok all = refl
+entered-marked ms y (n ∷ ns) ok all = and_from _ _ (rw (has-last (asks_of n) ms y (not-true (has (asks_of n) ms) (first-true (is_quiet ms n) (every (is_quiet ms) ns) all)) (off (asks y.message) (sender_of y == n) refl refl)) refl) (entered-marked ms y ns less (second-true _ _ all))
+  where
+    less : (not (asks y.message) || not (has (is_mark (sender_of y)) ns)) ≡ true
+    less = grind arith
+
+    off : (a e : Bool) → asks y.message ≡ a → (sender_of y == n) ≡ e → (asks y.message && (sender_of y == n)) ≡ false
+    off false e is it = rw is refl
+    off true false is it = rw (is, it) refl
+    off true true is it =
+        let same : sender_of y ≡ n = eqb-true _ _ it in
+        let here : (n == sender_of y) ≡ true = subst (λ k. (k == sender_of y) ≡ true) same (same-number (sender_of y)) in
+        absurd (grind arith)
+
 pub basic-asked : (w : World) (b : Basic) → keeps_asked w b ≡ true → Asked w → Asked (basic w b)
-basic-asked w (Wakes who call status fields) ok a = record { sorts = a.sorts; own = still-own who w.waits (without (waits_as who) w.waits) (λ y other. has-off (is_own y) (waits_as who) other w.waits) w.messages a.own ok; one = a.one }
-basic-asked w (Dies who status) ok a = record { sorts = a.sorts; own = still-own who w.waits (without (waits_as who) w.waits) (λ y other. has-off (is_own y) (waits_as who) other w.waits) w.messages a.own ok; one = a.one }
-basic-asked w (Receives who q) ok a = record { sorts = a.sorts; own = still-own who w.waits (change (waits_at who q) received w.waits) (λ y other. has-changed (is_own y) (waits_at who q) received (λ x is. let off = other x is in grind arith) w.waits) w.messages a.own ok; one = a.one }
-basic-asked w (Accepts who reply) ok a = record { sorts = a.sorts; own = still-own who w.waits (change (waits_as who) (accepted reply) w.waits) (λ y other. has-changed (is_own y) (waits_as who) (accepted reply) other w.waits) w.messages a.own ok; one = a.one }
-basic-asked w (Enters y) ok a = record { sorts = every-push is_sort w.messages y a.sorts (first-true (is_sort y) (not (asks y.message) || (is_quiet w.messages (sender_of y) && has (is_own y) w.waits)) ok); own = every-push (has_own w.waits) w.messages y a.own (let rest = second-true (is_sort y) (not (asks y.message) || (is_quiet w.messages (sender_of y) && has (is_own y) w.waits)) ok in grind arith); one = λ who. entered-one who w.messages y (let rest = second-true (is_sort y) (not (asks y.message) || (is_quiet w.messages (sender_of y) && has (is_own y) w.waits)) ok in grind arith) (a.one who) }
-basic-asked w (Awaits x) ok a = record { sorts = a.sorts; own = every-more_own w.waits (w.waits ++ x ∷ []) (λ y is. has-kept (is_own y) w.waits x is) w.messages a.own; one = a.one }
-basic-asked w (Takes q) ok a = record { sorts = every-without_first is_sort (is_queued q) w.messages a.sorts; own = every-without_first (has_own w.waits) (is_queued q) w.messages a.own; one = λ who. fewer (asks_of who) (is_queued q) w.messages 1 (a.one who) }
-basic-asked w (TakesConnect q) ok a = record { sorts = every-without_first is_sort (is_queued_connect q) w.messages a.sorts; own = every-without_first (has_own w.waits) (is_queued_connect q) w.messages a.own; one = λ who. fewer (asks_of who) (is_queued_connect q) w.messages 1 (a.one who) }
+basic-asked w (Wakes who call status fields) ok a = record { sorts = a.sorts; own = still-own who w.waits (without (waits_as who) w.waits) (λ y other. has-off (is_own y) (waits_as who) other w.waits) w.messages a.own ok; one = a.one; marked = every-without (is_quiet w.messages) (is_mark who) w.marks a.marked }
+basic-asked w (Dies who status) ok a = record { sorts = a.sorts; own = still-own who w.waits (without (waits_as who) w.waits) (λ y other. has-off (is_own y) (waits_as who) other w.waits) w.messages a.own ok; one = a.one; marked = every-without (is_quiet w.messages) (is_mark who) w.marks a.marked }
+basic-asked w (Leaves who) ok a = record { sorts = a.sorts; own = still-own who w.waits (without (waits_as who) w.waits) (λ y other. has-off (is_own y) (waits_as who) other w.waits) w.messages a.own ok; one = a.one; marked = every-without (is_quiet w.messages) (is_mark who) w.marks a.marked }
+basic-asked w (Receives who q) ok a = record { sorts = a.sorts; own = still-own who w.waits (change (waits_at who q) received w.waits) (λ y other. has-changed (is_own y) (waits_at who q) received (λ x is. let off = other x is in grind arith) w.waits) w.messages a.own ok; one = a.one; marked = a.marked }
+basic-asked w (Accepts who reply) ok a = record { sorts = a.sorts; own = still-own who w.waits (change (waits_as who) (accepted reply) w.waits) (λ y other. has-changed (is_own y) (waits_as who) (accepted reply) other w.waits) w.messages a.own ok; one = a.one; marked = a.marked }
+basic-asked w (Enters y) ok a = record { sorts = every-push is_sort w.messages y a.sorts (first-true (is_sort y) (asks_rightly w y) ok); own = every-push (has_own w.waits) w.messages y a.own (let rest = second-true (is_sort y) (asks_rightly w y) ok in grind arith); one = λ who. entered-one who w.messages y (let rest = second-true (is_sort y) (asks_rightly w y) ok in grind arith) (a.one who); marked = entered-marked w.messages y w.marks (let rest = second-true (is_sort y) (asks_rightly w y) ok in grind arith) a.marked }
+basic-asked w (Awaits x) ok a = record { sorts = a.sorts; own = every-more_own w.waits (w.waits ++ x ∷ []) (λ y is. has-kept (is_own y) w.waits x is) w.messages a.own; one = a.one; marked = a.marked }
+basic-asked w (Takes q) ok a = record { sorts = every-without_first is_sort (is_queued q) w.messages a.sorts; own = every-without_first (has_own w.waits) (is_queued q) w.messages a.own; one = λ who. fewer (asks_of who) (is_queued q) w.messages 1 (a.one who); marked = still-quiet w.messages (without_first (is_queued q) w.messages) w.marks (λ n none. has_none-without_first (asks_of n) (is_queued q) w.messages none) a.marked }
+basic-asked w (TakesConnect q) ok a = record { sorts = every-without_first is_sort (is_queued_connect q) w.messages a.sorts; own = every-without_first (has_own w.waits) (is_queued_connect q) w.messages a.own; one = λ who. fewer (asks_of who) (is_queued_connect q) w.messages 1 (a.one who); marked = still-quiet w.messages (without_first (is_queued_connect q) w.messages) w.marks (λ n none. has_none-without_first (asks_of n) (is_queued_connect q) w.messages none) a.marked }
 basic-asked w (Frees o) ok a = absurd (cc)
-basic-asked w (Withdraws who) ok a = record { sorts = every-without is_sort (is_own_of who) w.messages a.sorts; own = every-without (has_own w.waits) (is_own_of who) w.messages a.own; one = λ tid. count-less (asks_of tid) (is_own_of who) w.messages 1 (a.one tid) }
-basic-asked w (Empties q) ok a = record { sorts = every-without is_sort (is_queued q) w.messages a.sorts; own = every-without (has_own w.waits) (is_queued q) w.messages a.own; one = λ tid. count-less (asks_of tid) (is_queued q) w.messages 1 (a.one tid) }
+basic-asked w (Withdraws who) ok a = record { sorts = every-without is_sort (is_own_of who) w.messages a.sorts; own = every-without (has_own w.waits) (is_own_of who) w.messages a.own; one = λ tid. count-less (asks_of tid) (is_own_of who) w.messages 1 (a.one tid); marked = still-quiet w.messages (without (is_own_of who) w.messages) w.marks (λ n none. has_none-without (asks_of n) (is_own_of who) w.messages none) a.marked }
+basic-asked w (Empties q) ok a = record { sorts = every-without is_sort (is_queued q) w.messages a.sorts; own = every-without (has_own w.waits) (is_queued q) w.messages a.own; one = λ tid. count-less (asks_of tid) (is_queued q) w.messages 1 (a.one tid); marked = still-quiet w.messages (without (is_queued q) w.messages) w.marks (λ n none. has_none-without (asks_of n) (is_queued q) w.messages none) a.marked }
 basic-asked w (Tells e) ok a = a
-basic-asked w b ok a = record { sorts = a.sorts; own = a.own; one = a.one }
+basic-asked w (Marks who) ok a = record { sorts = a.sorts; own = a.own; one = a.one; marked = every-push (is_quiet w.messages) w.marks who a.marked ok }
+basic-asked w b ok a = record { sorts = a.sorts; own = a.own; one = a.one; marked = a.marked }
 
 pub run-asked : (w : World) (bs : List Basic) → are_asked w bs ≡ true → Asked w → Asked (world_after w bs)
 run-asked w [] ok a = a
@@ -138,7 +171,7 @@ append-asked w (b ∷ bs) cs one two = and_from _ _ (first-true _ _ one) (append
 
 -- who waits for nothing, or no longer for a message to be received, has no message that asks
 abbrev pub is_settled : WaitRow → Bool
-is_settled x = x.received || not (is_request x || is_offered x)
+is_settled x = x.received || not (is_asking x || is_offered x)
 
 pub found-some : {X : Type 0} (p : X → Bool) (xs : List X) → (o : Option X) → first p xs ≡ o → ((y : X) → first p xs ≡ Some y → ⊥) → not (has p xs) ≡ true
 found-some p xs None at never = rw at refl
@@ -188,6 +221,7 @@ waking-asked u v z call fields same quiet = rw (same, quiet) refl
 
 given-asked : (v : World) (y : MessageRow) (z : WaitRow) (sort : WaitKind) → z.kind ≡ sort → takes y z ≡ true → is_patient v z ≡ true → Asked (basic v (Enters y)) → is_quiet (v.messages ++ y ∷ []) z.thread ≡ true → are_asked (basic v (Enters y)) (given_steps z y ++ woken SUCCESS (shown z y) z ∷ []) ≡ true
 given-asked v y z (Request b) k is patient a quiet = let off : (false && same_birth z.queue y.queue) ≡ true = rw k at is in absurd (cc)
+given-asked v y z (Event e) k is patient a quiet = let off : (false && same_birth z.queue y.queue) ≡ true = rw k at is in absurd (cc)
 given-asked v y z (Connect b offer) k is patient a quiet = let off : (false && same_birth z.queue y.queue) ≡ true = rw k at is in absurd (cc)
 given-asked v y z (Accepted b r) k is patient a quiet = let off : (false && same_birth z.queue y.queue) ≡ true = rw k at is in absurd (cc)
 given-asked v y z Receive k is patient a quiet =
@@ -203,6 +237,7 @@ given-asked v y z Listen k is patient a quiet =
 
 taker-settled : (y : MessageRow) (z : WaitRow) (sort : WaitKind) → z.kind ≡ sort → takes y z ≡ true → is_settled z ≡ true
 taker-settled y z (Request b) k is = let off : (false && same_birth z.queue y.queue) ≡ true = rw k at is in absurd (cc)
+taker-settled y z (Event e) k is = let off : (false && same_birth z.queue y.queue) ≡ true = rw k at is in absurd (cc)
 taker-settled y z (Connect b offer) k is = let off : (false && same_birth z.queue y.queue) ≡ true = rw k at is in absurd (cc)
 taker-settled y z (Accepted b r) k is = let off : (false && same_birth z.queue y.queue) ≡ true = rw k at is in absurd (cc)
 taker-settled y z Receive k is = rw k (grind arith)

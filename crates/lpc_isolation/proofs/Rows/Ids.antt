@@ -24,9 +24,9 @@ use Rattle.lpc_model.specs.Message.{bytes_of}
 use Rattle.lpc_model.specs.Then.{◌>>=◌}
 use Rattle.lpc_model.specs.World.{MessageRow, UsedThread, World}
 use Rattle.lpc_model.specs.Words.{begins, fault_if, id_word, info_word, is_id, message_word, number_word, words}
-use Rattle.lpc_model.specs.Grammar.{kind_word, three_words, accept_word, access_word, call_line, call_named, call_words, four_words, handle_and_message, handle_and_reply, has_call_ids, one_handle, process_and_thread, qos_word, target_and_code, target_and_thread, target_word, view_word, directive_line, directive_named, directive_words, has_ids, one_word, is_printable, read_line, starts_call, thread_call, two_words, words_line, two_numbers, four_numbers, address_and_bytes, range_words, range_and_bytes, fixed_word, given_dacl, no_words, one_or_two_words, process_and_token, token_words, given_token, two_or_three_words}
+use Rattle.lpc_model.specs.Grammar.{accept_word, access_word, call_line, call_named, call_words, four_words, handle_and_message, handle_and_reply, has_call_ids, one_handle, process_and_thread, qos_word, target_and_code, target_and_thread, target_word, view_word, directive_line, directive_named, directive_words, has_ids, one_word, is_printable, read_line, starts_call, thread_call, two_words, words_line, two_numbers, four_numbers, address_and_bytes, range_words, range_and_bytes, fixed_word, given_dacl, no_words, one_or_two_words, process_and_token, token_words, given_token, two_or_three_words, handled_word, three_words, kind_word}
 use Rattle.lpc_model.specs.declared.entry.CallName.{CallName}
-use Rattle.lpc_model.specs.declared.entry.CallName.TheVariants.{NtAcceptConnectPort, NtClose, NtCompleteConnectPort, NtConnectPort, NtCreatePort, NtCreateProcess, NtCreateThread, NtDuplicateObject, NtListenPort, NtQueryObject, NtRegisterThreadTerminatePort, NtReplyPort, NtReplyWaitReceivePort, NtRequestPort, NtRequestWaitReplyPort, NtTerminateProcess, NtTerminateThread, NtCreateSection, NtMapViewOfSection, NtUnmapViewOfSection, NtReadVirtualMemory, NtWriteVirtualMemory, NtReadRequestData, NtWriteRequestData, NtImpersonateClientOfPort, NtSetInformationThread, NtOpenThreadToken, NtOpenProcessToken, NtQueryInformationToken}
+use Rattle.lpc_model.specs.declared.entry.CallName.TheVariants.{NtAcceptConnectPort, NtClose, NtCompleteConnectPort, NtConnectPort, NtCreatePort, NtCreateProcess, NtCreateThread, NtDuplicateObject, NtListenPort, NtQueryObject, NtRegisterThreadTerminatePort, NtReplyPort, NtReplyWaitReceivePort, NtRequestPort, NtRequestWaitReplyPort, NtTerminateProcess, NtTerminateThread, NtCreateSection, NtMapViewOfSection, NtUnmapViewOfSection, NtReadVirtualMemory, NtWriteVirtualMemory, NtReadRequestData, NtWriteRequestData, NtImpersonateClientOfPort, NtSetInformationThread, NtOpenThreadToken, NtOpenProcessToken, NtQueryInformationToken, NtSetInformationProcess, Raise}
 use Rattle.lpc_model.specs.declared.line.ProcArg.{ProcArg}
 use Rattle.lpc_model.specs.Lines.{ScriptCall, ScriptLine}
 use Rattle.lpc_model.specs.Run.{first_state, state_behind, done_from, numbered_line, said_from, said_in, unless_faulty}
@@ -132,6 +132,8 @@ words-call NtCreateProcess others = then_gives (process_and_thread others) _ Has
 words-call NtCreateThread others = then_gives (target_and_thread others) _ HasCallIds (λ made is. gives_ok (λ (made : ProcArg × ℕ). is_id made.1 ≡ true) (target_and_thread others) made (target-says others) is)
 words-call NtCreatePort others = then_gives (one_or_two_words others) _ HasCallIds (λ two _. then_gives (given_dacl two.1) _ HasCallIds (λ _ _. refl))
 words-call NtConnectPort others = then_gives (four_words others) _ HasCallIds (λ four _. then_gives (qos_word four.1) _ HasCallIds (λ _ _. then_gives (view_word four.2) _ HasCallIds (λ _ _. then_gives (info_word four.3) _ HasCallIds (λ _ _. refl))))
+words-call NtSetInformationProcess others = then_gives (three_words others) _ HasCallIds (λ three _. then_gives (target_word three.0) _ HasCallIds (λ _ _. then_gives (number_word three.1) _ HasCallIds (λ _ _. then_gives (number_word three.2) _ HasCallIds (λ _ _. refl))))
+words-call Raise others = then_gives (two_words others) _ HasCallIds (λ two _. then_gives (number_word two.0) _ HasCallIds (λ _ _. then_gives (handled_word two.1) _ HasCallIds (λ _ _. refl)))
 words-call NtListenPort others = then_gives (one_handle others) _ HasCallIds (λ _ _. refl)
 words-call NtAcceptConnectPort others = then_gives (four_words others) _ HasCallIds (λ four _. then_gives (number_word four.0) _ HasCallIds (λ _ _. then_gives (message_word four.1) _ HasCallIds (λ _ _. then_gives (accept_word four.2) _ HasCallIds (λ _ _. then_gives (view_word four.3) _ HasCallIds (λ _ _. refl)))))
 words-call NtCompleteConnectPort others = then_gives (one_handle others) _ HasCallIds (λ _ _. refl)

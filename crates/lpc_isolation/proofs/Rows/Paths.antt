@@ -1,21 +1,21 @@
 -- A request stands in the queue that messages from its port enter: so in each world of a run.
 use Rattle.std.proofs.Common.{◌≡◌, ℕ, List, [], ◌∷◌, ◌++◌, Bool, true, false, not, Option, Some, None, refl, ap, ◌∙◌, arith}
 use Rattle.std.specs.Prelude.{◌&&◌, ◌||◌, if◌then◌else◌}
-use Rattle.std.proofs.lemmas.Bool.{and_from, eqb-true}
+use Rattle.std.proofs.lemmas.Bool.{and_from}
 use Rattle.lpc_base.specs.Rows.{every, passes}
 use Rattle.lpc_base.proofs.RowWords.{every-change, every-more, every-push, every-without, first-kept, first-passes}
 use Rattle.lpc_base.proofs.RowMaps.{every-both, every-first}
 use Rattle.lpc_base.proofs.Bools.{first-true, or-last, second-true}
 use Rattle.lpc_base.proofs.Births.{birth-same}
 use Rattle.lpc_base.specs.declared.port_kind.PortKind.TheVariants.{Client, Connection, Server, Unnamed}
-use Rattle.lpc_model.specs.World.{Birth, PortKind, PortRow, Request, WaitKind, WaitRow, World, Acceptance, Security}
-use Rattle.lpc_model.specs.Found.{is_cut, is_port, is_request, is_server_port, is_the, port_row, same_birth, waits_as, waits_at}
-use Rattle.lpc_model.specs.Basics.{Accepts, Awaits, Basic, Completes, Cuts, Frees, Joins, Makes, Receives, Wakes, accepted, basic, completed, cut, is_end_of, joined, received, world_after, Dies, Secures, secured}
+use Rattle.lpc_model.specs.World.{Birth, PortKind, PortRow, Request, WaitKind, WaitRow, World, Acceptance, Security, Event}
+use Rattle.lpc_model.specs.Found.{is_cut, is_port, is_asking, is_server_port, is_the, port_row, same_birth, waits_as, waits_at}
+use Rattle.lpc_model.specs.Basics.{Accepts, Awaits, Basic, Completes, Cuts, Frees, Joins, Makes, Receives, Wakes, accepted, basic, completed, cut, is_end_of, joined, received, world_after, Dies, Secures, secured, Leaves}
 use Rattle.lpc_model.specs.Circle.{Group, is_fine_client, is_fine_port}
 use Rattle.lpc_model.proofs.Steps.Rows.{first-map}
 use Rattle.lpc_isolation.proofs.Views.Alone.{HasFineRows}
 use Rattle.lpc_isolation.proofs.Views.View.{of_birth}
-use Rattle.lpc_isolation.proofs.Rows.Fair.{Fair, implies, is_fair_wait}
+use Rattle.lpc_isolation.proofs.Rows.Fair.{Fair, implies, is_fair_wait, port-side}
 use Rattle.lpc_isolation.proofs.Views.Mine.{Ways, is_way}
 
 -- a request made on a port stands in the queue that messages from that port enter
@@ -27,7 +27,7 @@ leads q p = elim p.kind [
 ]
 
 abbrev pub is_path : World → WaitRow → Bool
-is_path w x = not (is_request x) || passes (port_row w x.port) (leads x.queue)
+is_path w x = not (is_asking x) || passes (port_row w x.port) (leads x.queue)
 
 abbrev pub Paths : World → Type 0
 Paths w = every (is_path w) w.waits ≡ true
@@ -36,7 +36,7 @@ Paths w = every (is_path w) w.waits ≡ true
 own-way : (m : Group) (c : ℕ) (w : World) (x : WaitRow) (p : PortRow) → port_row w x.port ≡ Some p → is_fair_wait m c x ≡ true → same_birth x.queue p.birth ≡ true → is_way m w x ≡ true
 own-way m c w x p row fair on =
     let port : p.birth ≡ x.port = birth-same p.birth x.port (first-passes (is_port x.port) w.ports p row) in
-    let queue : m x.queue.process ≡ m x.process = of_birth m x.queue p.birth on ∙ ap (λ (b : Birth). m b.process) port ∙ ap m (eqb-true _ _ (first-true _ _ fair)) in
+    let queue : m x.queue.process ≡ m x.process = of_birth m x.queue p.birth on ∙ ap (λ (b : Birth). m b.process) port ∙ port-side m x (first-true _ _ fair) in
     at (m x.process) (m x.queue.process) refl refl queue
   where
     at : (a b : Bool) → m x.process ≡ a → m x.queue.process ≡ b → b ≡ a → is_way m w x ≡ true
@@ -48,7 +48,7 @@ lead-way : (m : Group) (c : ℕ) (w : World) (x : WaitRow) (p : PortRow) (k : Po
 lead-way m c w x p Client k row fair fine on = client p.connection refl (rw k at fine) (rw k at on)
   where
     own : m p.birth.process ≡ m x.process
-    own = ap (λ (b : Birth). m b.process) (birth-same p.birth x.port (first-passes (is_port x.port) w.ports p row)) ∙ ap m (eqb-true _ _ (first-true _ _ fair))
+    own = ap (λ (b : Birth). m b.process) (birth-same p.birth x.port (first-passes (is_port x.port) w.ports p row)) ∙ port-side m x (first-true _ _ fair)
 
     client : (o : Option Birth) → p.connection ≡ o → passes o (is_fine_client m c p.birth) ≡ true → is_the x.queue o ≡ true → is_way m w x ≡ true
     client None none fine on = absurd (cc)
@@ -59,7 +59,7 @@ lead-way m c w x p Client k row fair fine on = client p.connection refl (rw k at
       where
         fine-way : (a b c d : Bool) → a ≡ b → d ≡ c → (not a || c) ≡ true → implies b d ≡ true
         fine-way a b c d one two is = grind arith
-lead-way m c w x p Server k row fair fine on = let it : (is_cut p || is_the x.queue p.pair) ≡ true = rw k at on in rw row (either-way (is_request x) (m x.process) (m x.queue.process) (is_cut p) (is_the x.queue p.pair) it)
+lead-way m c w x p Server k row fair fine on = let it : (is_cut p || is_the x.queue p.pair) ≡ true = rw k at on in rw row (either-way (is_asking x) (m x.process) (m x.queue.process) (is_cut p) (is_the x.queue p.pair) it)
   where
     either-way : (a b c d e : Bool) → (d || e) ≡ true → implies (a && b) (c || (d || e)) ≡ true
     either-way a b c d e is = grind arith
@@ -67,14 +67,14 @@ lead-way m c w x p Connection k row fair fine on = own-way m c w x p row fair (r
 lead-way m c w x p Unnamed k row fair fine on = own-way m c w x p row fair (rw k at on)
 
 pub path-way : (m : Group) (c : ℕ) (w : World) (x : WaitRow) → HasFineRows m c w → (is_fair_wait m c x && is_path w x) ≡ true → is_way m w x ≡ true
-path-way m c w x fine is = at (is_request x) refl (port_row w x.port) refl
+path-way m c w x fine is = at (is_asking x) refl (port_row w x.port) refl
   where
-    at : (b : Bool) → is_request x ≡ b → (o : Option PortRow) → port_row w x.port ≡ o → is_way m w x ≡ true
+    at : (b : Bool) → is_asking x ≡ b → (o : Option PortRow) → port_row w x.port ≡ o → is_way m w x ≡ true
     at false off o row = rw off refl
-    at true on None row = let off : (not (is_request x) || false) ≡ true = rw row at (second-true (is_fair_wait m c x) _ is) in absurd (grind arith)
+    at true on None row = let off : (not (is_asking x) || false) ≡ true = rw row at (second-true (is_fair_wait m c x) _ is) in absurd (grind arith)
     at true on (Some p) row =
-        let to : (not (is_request x) || leads x.queue p) ≡ true = rw row at (second-true (is_fair_wait m c x) _ is) in
-        lead-way m c w x p p.kind refl row (first-true _ _ is) (every-first (is_fine_port m c) (is_port x.port) w.ports p fine.1 row) (or-last (is_request x) (leads x.queue p) on to)
+        let to : (not (is_asking x) || leads x.queue p) ≡ true = rw row at (second-true (is_fair_wait m c x) _ is) in
+        lead-way m c w x p p.kind refl row (first-true _ _ is) (every-first (is_fine_port m c) (is_port x.port) w.ports p fine.1 row) (or-last (is_asking x) (leads x.queue p) on to)
 
 pub paths-ways : (m : Group) (c : ℕ) (w : World) → Fair m c w → HasFineRows m c w → Paths w → Ways m w
 paths-ways m c w f fine all = every-more (λ x. is_fair_wait m c x && is_path w x) (is_way m w) (λ x is. path-way m c w x fine is) w.waits
@@ -85,7 +85,7 @@ abbrev pub is_off_row : Birth → Birth → PortRow → Bool
 is_off_row client server p = not (is_server_port p) || (not (is_port client p) && not (is_port server p))
 
 abbrev pub is_off : World → Birth → Birth → WaitRow → Bool
-is_off w client server x = not (is_request x) || passes (port_row w x.port) (is_off_row client server)
+is_off w client server x = not (is_asking x) || passes (port_row w x.port) (is_off_row client server)
 
 abbrev pub keeps_paths : World → Basic → Bool
 keeps_paths w (Awaits x) = is_path w x
@@ -99,17 +99,18 @@ are_paths w (b ∷ bs) = keeps_paths w b && are_paths (basic w b) bs
 
 accepted-path : (w : World) (reply : Acceptance) (x : WaitRow) (sort : WaitKind) → x.kind ≡ sort → is_path w x ≡ true → is_path w (accepted reply x) ≡ true
 accepted-path w reply x (Request a) is path = rw is (rw is at path)
+accepted-path w reply x (Event r) is path = rw is (rw is at path)
 accepted-path w reply x b is path = rw is refl
 
 -- the row of a path stands
 kept-path : (w v : World) (x : WaitRow) → ((p : PortRow) → port_row w x.port ≡ Some p → leads x.queue p ≡ true → passes (port_row v x.port) (leads x.queue) ≡ true) → is_path w x ≡ true → is_path v x ≡ true
-kept-path w v x keeps is = at (is_request x) refl
+kept-path w v x keeps is = at (is_asking x) refl
   where
     rows : (o : Option PortRow) → port_row w x.port ≡ o → passes o (leads x.queue) ≡ true → passes (port_row v x.port) (leads x.queue) ≡ true
     rows None none on = absurd (cc)
     rows (Some p) some on = keeps p some on
 
-    at : (b : Bool) → is_request x ≡ b → is_path v x ≡ true
+    at : (b : Bool) → is_asking x ≡ b → is_path v x ≡ true
     at true go = let on : passes (port_row w x.port) (leads x.queue) ≡ true = grind arith in rw (rows (port_row w x.port) refl on) (grind arith)
     at false stay = rw stay refl
 
@@ -190,14 +191,14 @@ cut-lead b q p k kind on = at (is_end_of b p) k kind
     at true Unnamed kind = rw kind (rw kind at on)
 
 joins-path : (w : World) (client server : Birth) (context : ℕ) (x : WaitRow) → is_path w x ≡ true → is_off w client server x ≡ true → is_path (basic w (Joins client server context)) x ≡ true
-joins-path w client server context x is off = at (is_request x) refl (port_row w x.port) refl
+joins-path w client server context x is off = at (is_asking x) refl (port_row w x.port) refl
   where
     v : World
     v = basic w (Joins client server context)
 
-    at : (b : Bool) → is_request x ≡ b → (o : Option PortRow) → port_row w x.port ≡ o → is_path v x ≡ true
+    at : (b : Bool) → is_asking x ≡ b → (o : Option PortRow) → port_row w x.port ≡ o → is_path v x ≡ true
     at false stay o row = rw stay refl
-    at true go None row = let none : (not (is_request x) || false) ≡ true = rw row at is in absurd (grind arith)
+    at true go None row = let none : (not (is_asking x) || false) ≡ true = rw row at is in absurd (grind arith)
     at true go (Some p) row =
         let on : (not true || leads x.queue p) ≡ true = rw (go, row) at is in
         let of : (not true || is_off_row client server p) ≡ true = rw (go, row) at off in
@@ -230,6 +231,7 @@ basic-paths w (Secures b s) ok all = every-more (is_path w) (is_path (basic w (S
 basic-paths w (Frees o) ok all = absurd (cc)
 basic-paths w (Cuts b) ok all = every-more (is_path w) (is_path (basic w (Cuts b))) (cuts-path w b) w.waits all
 basic-paths w (Dies who status) ok all = every-without (is_path w) (waits_as who) w.waits all
+basic-paths w (Leaves who) ok all = every-without (is_path w) (waits_as who) w.waits all
 basic-paths w b ok all = all
 
 pub run-paths : (w : World) (bs : List Basic) → are_paths w bs ≡ true → Paths w → Paths (world_after w bs)

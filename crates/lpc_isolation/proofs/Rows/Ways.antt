@@ -1,4 +1,5 @@
 -- The ways of messages: what a call sends from a port goes the port's own way, and steps that send nothing keep the ways.
+use Rattle.lpc_model.proofs.Sound.Reply.{reply-cases}
 use Rattle.std.proofs.Common.{◌≡◌, ℕ, List, [], ◌∷◌, ◌++◌, Bool, true, false, not, Option, Some, None, refl, sym, subst, arith}
 use Rattle.std.proofs.lemmas.Bool.{and_from}
 use Rattle.std.specs.Prelude.{if◌then◌else◌}
@@ -7,7 +8,7 @@ use Rattle.lpc_base.proofs.RowWords.{every-append}
 use Rattle.lpc_base.specs.declared.port_kind.PortKind.TheVariants.{Client, Connection, Server, Unnamed}
 use Rattle.lpc_base.specs.declared.status.TheConstants.{INVALID_HANDLE, PORT_DISCONNECTED, SUCCESS}
 use Rattle.lpc_model.specs.Message.{asks, message_test}
-use Rattle.lpc_model.specs.World.{Accepted, Birth, Connect, Listen, MessageRow, PortRow, Receive, Request, ThreadRow, WaitKind, WaitRow, World}
+use Rattle.lpc_model.specs.World.{Accepted, Birth, Connect, Listen, MessageRow, PortRow, Receive, Request, ThreadRow, WaitKind, WaitRow, World, Event}
 use Rattle.lpc_model.specs.Found.{is_port}
 use Rattle.lpc_model.specs.Basics.{Awaits, Basic, Enters, Frees, Joins, basic, world_after}
 use Rattle.lpc_model.specs.Entering.{enter, given_steps, shown, take_connect_steps, take_steps, takes, woken}
@@ -21,7 +22,7 @@ use Rattle.lpc_model.specs.Connect.{listen_steps}
 use Rattle.lpc_model.proofs.Calls.Holding.{Holds, bind_holds, found_holds, found_ok, holds_ok}
 use Rattle.lpc_model.proofs.Calls.Usable.{if-same}
 use Rattle.lpc_isolation.proofs.Rows.Sent.{append-sent, are_sent, is_sent_home, leads_home, none-sent, sends_none}
-use Rattle.lpc_model.specs.Found.{if_open, is_cut, is_open, is_request, is_the, port_row, route, same_birth, way}
+use Rattle.lpc_model.specs.Found.{if_open, is_cut, is_open, is_asking, is_the, port_row, route, same_birth, way}
 use Rattle.lpc_base.proofs.RowWords.{every-more, first-passes}
 use Rattle.lpc_base.proofs.Bools.{first-true, second-true}
 use Rattle.lpc_base.proofs.Births.{birth-same, birth-self}
@@ -29,7 +30,7 @@ use Rattle.lpc_isolation.proofs.Rows.Paths.{append-paths, are_paths, keeps_paths
 
 -- steps that join nothing, begin no wait for a reply, and send nothing
 abbrev stays : Basic → Bool
-stays (Awaits x) = not (is_request x)
+stays (Awaits x) = not (is_asking x)
 stays (Joins client server context) = false
 stays (Frees o) = false
 stays (Enters x) = false
@@ -52,6 +53,8 @@ still-paths w (b ∷ bs) ok = and_from _ _ (still-step w b (first-true _ _ ok)) 
 given-still : (x : MessageRow) (z : WaitRow) (sort : WaitKind) (asked : Bool) → z.kind ≡ sort → asks x.message ≡ asked → AreStill (given_steps z x ++ woken SUCCESS (shown z x) z ∷ [])
 given-still x z (Request a) true is asked = rw (is, asked) refl
 given-still x z (Request a) false is asked = rw (is, asked) refl
+given-still x z (Event e) true is asked = rw (is, asked) refl
+given-still x z (Event e) false is asked = rw (is, asked) refl
 given-still x z Receive true is asked = rw (is, asked) refl
 given-still x z Receive false is asked = rw (is, asked) refl
 given-still x z Listen true is asked = rw (is, asked) refl
@@ -95,7 +98,7 @@ listened-still by port (Some x) = (taken-still x (asks x.message) refl).1
 
 pub replied-still : (u : World) (p : PortRow) (o : Option Message) → Holds (AreStill) (given_reply u p o)
 replied-still u p None = refl
-replied-still u p (Some b) = bind_holds (reply_test u p b) _ (AreStill) (λ x _. refl)
+replied-still u p (Some b) = bind_holds (reply_test u p b) _ (AreStill) (λ x _. reply-cases (λ r. AreStill (r ∷ [])) x b refl refl (λ _. refl))
 
 pub received-still : (by : ThreadRow) (p : PortRow) (q : Birth) (rs : List Basic) (o : Option MessageRow) → AreStill rs → AreStill (receive_steps by p q rs o)
 received-still by p q rs None ok = every-append (stays) rs (Awaits (receive_wait by p.birth q) ∷ []) ok refl

@@ -4,7 +4,7 @@ use Rattle.std.specs.Prelude.{◌≡◌, ℕ, ◌==◌, Bool, List, true}
 use Rattle.lpc_base.specs.Rows.{every, has}
 use Rattle.lpc_model.specs.World.{Birth, World}
 use Rattle.lpc_model.specs.Basics.{Basic}
-use Rattle.lpc_model.specs.Circle.{Group, is_fine_port, is_fine_process, is_write_of, outsider_sees}
+use Rattle.lpc_model.specs.Circle.{Group, is_fine_port, is_fine_process, is_write_of, outsider_sees, is_fine_raiser}
 
 -- the group of one process
 abbrev pub alone : ℕ → Group
@@ -13,6 +13,10 @@ alone c = λ p. p == c
 -- what the circle says of the processes and the ports of a world
 abbrev pub HasFineRows : Group → ℕ → World → Type 0
 HasFineRows group c w = (every (is_fine_process group) w.processes ≡ true) × (every (is_fine_port group c) w.ports ≡ true)
+
+-- and of the ports that are told of members' exceptions
+abbrev pub HasFineRaisers : Group → World → Type 0
+HasFineRaisers group w = every (is_fine_raiser group w) w.processes ≡ true
 
 -- what outsiders' views show is outer, and what an outsider's steps write
 abbrev pub ShowsOuter : Group → (Birth → Bool) → World → Type 0

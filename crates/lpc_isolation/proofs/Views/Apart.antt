@@ -14,9 +14,9 @@ use Rattle.lpc_model.specs.declared.entry.Entry.{Entry}
 use Rattle.lpc_model.specs.declared.entry.Entry.TheVariants as entry
 use Rattle.lpc_model.specs.declared.entry.Field.{Field}
 use Rattle.lpc_model.specs.Message.{asks}
-use Rattle.lpc_model.specs.World.{Accepted, Birth, Connect, Listen, MessageRow, Receive, Request, WaitKind, WaitRow, World}
+use Rattle.lpc_model.specs.World.{Accepted, Birth, Connect, Listen, MessageRow, Receive, Request, WaitKind, WaitRow, World, Event}
 use Rattle.lpc_model.specs.Found.{same_birth, waits_as, waits_at}
-use Rattle.lpc_model.specs.Basics.{Accepts, AddsHandle, AddsProcess, AddsSection, AddsThread, Awaits, Basic, Binds, Completes, Cuts, DrawsIdentifier, DrawsOrdinal, DropsHandle, DropsViewsOf, Empties, Enters, Frees, Joins, Makes, Maps, Receives, Takes, TakesConnect, Tells, Unbinds, Unmaps, Wakes, Withdraws, Writes, basic, entries_of, received, told, world_after, Dies, Registers, Unregisters, DropsOwned, Acts, AddsToken, NamesToken, Secures}
+use Rattle.lpc_model.specs.Basics.{Accepts, AddsHandle, AddsProcess, AddsSection, AddsThread, Awaits, Basic, Binds, Completes, Cuts, DrawsIdentifier, DrawsOrdinal, DropsHandle, DropsViewsOf, Empties, Enters, Frees, Joins, Makes, Maps, Receives, Takes, TakesConnect, Tells, Unbinds, Unmaps, Wakes, Withdraws, Writes, basic, entries_of, received, told, world_after, Dies, Registers, Unregisters, DropsOwned, Acts, AddsToken, NamesToken, Secures, Dooms, Leaves, LetsGo, Marks, SetsDebug, SetsException}
 use Rattle.lpc_model.specs.Entering.{enter, given_steps, shown, takes, woken}
 use Rattle.lpc_model.specs.Circle.{Everyone, Group, Nobody, Of, Whose, entry_whose, is_seen, owned, owner, thread_whose}
 use Rattle.lpc_isolation.proofs.Views.Alone.{alone}
@@ -90,13 +90,19 @@ is_apart m c u d w (Secures b s) = not (sees m w (Secures b s))
 is_apart m c u d w (Acts who own) = not (sees m w (Acts who own))
 is_apart m c u d w (AddsToken t) = not (sees m w (AddsToken t))
 is_apart m c u d w (NamesToken n) = not (sees m w (NamesToken n))
+is_apart m c u d w (Marks who) = not (sees m w (Marks who))
+is_apart m c u d w (Leaves who) = not (sees m w (Leaves who))
+is_apart m c u d w (SetsDebug pid b) = not (sees m w (SetsDebug pid b))
+is_apart m c u d w (SetsException pid b) = not (sees m w (SetsException pid b))
+is_apart m c u d w (LetsGo pid) = not (sees m w (LetsGo pid))
+is_apart m c u d w (Dooms pid code) = not (sees m w (Dooms pid code))
 
 wakes-apart : (m : Group) (u w : World) (who : ℕ) (call : CallName) (status : Status) (fields : List Field) (b : Bool) → is_seen m (thread_whose u who) ≡ b → (b || not (sees_wait m w who)) ≡ true
     → view m (basic w (Wakes who call status fields)) ≡ absorb_all (view m w) (cond b (entry.Wakes who call status fields ∷ []) [])
 wakes-apart m u w who call status fields true is ok = basic-ours m w (Wakes who call status fields) refl refl
 wakes-apart m u w who call status fields false is ok = basic-unseen m w (Wakes who call status fields) (not-true _ ok) refl
 
-basic-apart : (m : Group) (c : ℕ) (u : World) (d : Whose) (w : World) (b : Basic) → is_apart m c u d w b ≡ true → is_regular m w b ≡ true → view m (basic w b) ≡ absorb_all (view m w) (heard m u d (told b))
+pub basic-apart : (m : Group) (c : ℕ) (u : World) (d : Whose) (w : World) (b : Basic) → is_apart m c u d w b ≡ true → is_regular m w b ≡ true → view m (basic w b) ≡ absorb_all (view m w) (heard m u d (told b))
 basic-apart m c u d w (Tells e) is ok = rw (not-true _ is) refl
 basic-apart m c u d w (Wakes who call status fields) is ok = wakes-apart m u w who call status fields (is_seen m (thread_whose u who)) refl (first-true _ _ is)
 basic-apart m c u d w (Dies who status) is ok = rw (not-true (is_seen m (thread_whose u who)) (first-true _ _ is)) (basic-unseen m w (Dies who status) (not-true _ (second-true (not (is_seen m (thread_whose u who))) _ is)) ok)
@@ -200,6 +206,7 @@ given-apart : (m : Group) (c : ℕ) (u : World) (d : Whose) (w : World) (x : Mes
     → sees_at m w x.message.header.client.thread x.queue ≡ false → Owned u w → is_owned u y ≡ true → (y.process == c) ≡ false
     → are_apart m c u d (basic w (Enters x)) (given_steps y x ++ woken SUCCESS (shown y x) y ∷ []) ≡ true
 given-apart m c u d w x y (Request a) k out is patient unseen owned own other = let off : (false && same_birth y.queue x.queue) ≡ true = rw k at is in absurd (cc)
+given-apart m c u d w x y (Event e) k out is patient unseen owned own other = let off : (false && same_birth y.queue x.queue) ≡ true = rw k at is in absurd (cc)
 given-apart m c u d w x y Receive k out is patient unseen owned own other =
     rw (k, receive-first w x y is (rw k refl) patient, out) (taken-apart m c u d (basic (basic w (Enters x)) (Takes x.queue)) (asks x.message) x.message.header.client.thread x.queue y _ unseen owned own other)
 given-apart m c u d w x y Listen k out is patient unseen owned own other =
@@ -225,6 +232,8 @@ enter-apart m c u d w x out other unseen owned f patient = entered-apart m c u d
 pub given-entries : (x : MessageRow) (y : WaitRow) (k : WaitKind) (asked : Bool) (b : Basic) → y.kind ≡ k → asks x.message ≡ asked → entries_of (given_steps y x ++ b ∷ []) ≡ told b ++ []
 given-entries x y (Request a) true b k asked = rw (k, asked) refl
 given-entries x y (Request a) false b k asked = rw (k, asked) refl
+given-entries x y (Event e) true b k asked = rw (k, asked) refl
+given-entries x y (Event e) false b k asked = rw (k, asked) refl
 given-entries x y Receive true b k asked = rw (k, asked) refl
 given-entries x y Receive false b k asked = rw (k, asked) refl
 given-entries x y Listen true b k asked = rw (k, asked) refl

@@ -2,20 +2,22 @@
 use Rattle.std.proofs.Common.{◌≡◌, ℕ, List, [], ◌∷◌, ◌++◌, Bool, true, false, cond, not, map, Option, Some, None, refl, ap, ◌∙◌, arith, sym}
 use Rattle.std.specs.Prelude.{◌&&◌, ◌||◌, is_none}
 use Rattle.std.proofs.lemmas.Bool.{and_from, eqb-true, or_parts}
-use Rattle.lpc_base.specs.Rows.{change, every, first, has, passes, which, without_first, each}
+use Rattle.lpc_base.specs.Rows.{change, every, first, has, passes, which, without, without_first, each}
 use Rattle.lpc_base.proofs.RowMaps.{push-map}
 use Rattle.lpc_base.proofs.RowWords.{change-none, every-true, which-without, without-none, without_first-none}
 use Rattle.lpc_base.proofs.Bools.{first-true, second-true}
 use Rattle.lpc_names.specs.Binding.{is_name}
 use Rattle.lpc_names.specs.Walk.{LinkTo, Stands}
 use Rattle.lpc_names.specs.declared.names.Found.TheVariants.{Directory, Item}
-use Rattle.lpc_model.specs.World.{Birth, HandleTable, MessageRow, Node, Path, PortRow, ViewRow, ViewTable, World}
-use Rattle.lpc_model.specs.Found.{is_own_of, is_the, same_birth, is_port, is_queued, is_queued_connect, is_space, is_table, is_thread, lies_at, waits_as, waits_at, all_views, is_owned_by}
-use Rattle.lpc_model.specs.Basics.{Accepts, AddsHandle, AddsProcess, AddsSection, AddsThread, Awaits, Basic, Binds, Completes, Cuts, DrawsIdentifier, DrawsOrdinal, DropsHandle, DropsViewsOf, Empties, Enters, Frees, Joins, Makes, Maps, Receives, Takes, TakesConnect, Tells, Unbinds, Unmaps, Wakes, Withdraws, Writes, accepted, basic, completed, cut, is_end_of, joined, no_handles, no_views, past_identifier, past_ordinal, received, used, with_handle, with_view, without_handle, without_view, without_views, world_after, Dies, Registers, Unregisters, ended, registering, unregistering, DropsOwned, without_owned, Acts, AddsToken, NamesToken, Secures, acting, secured}
+use Rattle.lpc_model.specs.World.{Birth, HandleTable, MessageRow, Node, Path, PortRow, ProcessRow, ViewRow, ViewTable, WaitRow, World, ThreadRow}
+use Rattle.lpc_model.specs.Found.{is_own_of, is_the, same_birth, is_port, is_queued, is_queued_connect, is_space, is_table, is_thread, lies_at, waits_as, waits_at, all_views, is_owned_by, is_event, is_mark, is_process}
+use Rattle.lpc_model.specs.Settle.{is_event_of}
+use Rattle.lpc_model.specs.Basics.{Accepts, AddsHandle, AddsProcess, AddsSection, AddsThread, Awaits, Basic, Binds, Completes, Cuts, DrawsIdentifier, DrawsOrdinal, DropsHandle, DropsViewsOf, Empties, Enters, Frees, Joins, Makes, Maps, Receives, Takes, TakesConnect, Tells, Unbinds, Unmaps, Wakes, Withdraws, Writes, accepted, basic, completed, cut, is_end_of, joined, no_handles, no_views, past_identifier, past_ordinal, received, used, with_handle, with_view, without_handle, without_view, without_views, world_after, Dies, Registers, Unregisters, ended, registering, unregistering, DropsOwned, without_owned, Acts, AddsToken, NamesToken, Secures, acting, secured, Dooms, Leaves, LetsGo, Marks, SetsDebug, SetsException, debugged, doomed, excepted, left_by, portless}
 use Rattle.lpc_model.specs.Circle.{Group}
 use Rattle.lpc_model.proofs.Steps.Rows.{has-append}
 use Rattle.lpc_isolation.proofs.Views.Filters.{kept-change, kept-push, kept-push_out, kept-without_out, kept-without_first, kept-without_first_out, shown, shown-change, shown-map, shown-push, shown-push_out, shown-change_out, shown-map_out, kept-change_out, mapped-without, shown-turn}
-use Rattle.lpc_isolation.proofs.Views.View.{of_birth, our_binding, our_message, our_node, our_port, our_process, our_section, our_space, our_table, our_thread, our_used, our_wait, hidden_section, seen_port, seen_space, seen_view, view, our_token}
+use Rattle.lpc_isolation.proofs.Views.View.{of_birth, our_binding, our_message, our_node, our_port, our_process, our_section, our_space, our_table, our_thread, our_used, our_wait, hidden_section, seen_port, seen_space, seen_view, view, our_mark, our_token}
+use Rattle.lpc_isolation.proofs.Views.Marks.{accepted-seen, begun-seen, both-changed, left-seen, received-seen, same-marks, unmarked-seen}
 
 -- a thread's wait is in the view, and so is its row
 abbrev pub sees_wait : Group → World → ℕ → Bool
@@ -69,6 +71,12 @@ sees m w (Secures b s) = m b.process
 sees m w (Acts who own) = sees_thread m w who
 sees m w (AddsToken t) = our_token m t
 sees m w (NamesToken n) = true
+sees m w (Marks who) = our_mark m w who
+sees m w (Leaves who) = sees_wait m w who
+sees m w (SetsDebug pid b) = m pid
+sees m w (SetsException pid b) = m pid
+sees m w (LetsGo pid) = m pid
+sees m w (Dooms pid code) = m pid
 
 -- what is asked of the steps of every line
 abbrev pub is_regular : Group → World → Basic → Bool
@@ -76,7 +84,7 @@ is_regular m w (Makes p) = is_none p.pair
 is_regular m w (Joins client server context) = (not (m client.process) || m server.process) && (m client.process || not (m server.process))
 is_regular m w (Tells e) = true
 is_regular m w (Wakes who call status fields) = true
-is_regular m w (Awaits x) = true
+is_regular m w (Awaits x) = not (is_event x) || not (has (is_mark x.thread) w.marks)
 is_regular m w (Receives who q) = true
 is_regular m w (Accepts who reply) = true
 is_regular m w (Enters x) = true
@@ -108,6 +116,12 @@ is_regular m w (Secures b s) = true
 is_regular m w (Acts who own) = true
 is_regular m w (AddsToken t) = true
 is_regular m w (NamesToken n) = true
+is_regular m w (Marks who) = true
+is_regular m w (Leaves who) = true
+is_regular m w (SetsDebug pid b) = true
+is_regular m w (SetsException pid b) = true
+is_regular m w (LetsGo pid) = true
+is_regular m w (Dooms pid code) = true
 
 -- Ports
 new-port : (m : Group) (p : PortRow) → is_none p.pair ≡ true → seen_port m p ≡ p
@@ -180,6 +194,12 @@ is_ours m w (Secures b s) = true
 is_ours m w (Acts who own) = true
 is_ours m w (AddsToken t) = our_token m t
 is_ours m w (NamesToken n) = true
+is_ours m w (Marks who) = our_mark m w who
+is_ours m w (Leaves who) = true
+is_ours m w (SetsDebug pid b) = true
+is_ours m w (SetsException pid b) = true
+is_ours m w (LetsGo pid) = true
+is_ours m w (Dooms pid code) = true
 
 -- a pair that is cut
 abbrev with_pair : Option Birth → PortRow → PortRow
@@ -262,20 +282,30 @@ none-owned b (t ∷ ts) none =
 mapped-inside : (m : Group) (pid : ℕ) (v : ViewRow) → m pid ≡ true → (not (m pid) || m v.section.process) ≡ true → m v.section.process ≡ true
 mapped-inside m pid v is ok = grind arith
 
+-- a wait goes with its mark
+left-ours : (m : Group) (w : World) (who : ℕ) → view m (left_by who w) ≡ left_by who (view m w)
+left-ours m w who = let kept = which-without (our_wait m) (waits_as who) w.waits in both-changed (view m w) _ _ _ _ kept (same-marks _ _ (λ n. ap (has (is_event_of n)) kept) (without (is_mark who) w.marks) ∙ left-seen who (which (our_wait m) w.waits) w.marks)
+
 -- such a step does to the view what it does to the world
 pub basic-ours : (m : Group) (w : World) (b : Basic) → is_ours m w b ≡ true → is_regular m w b ≡ true → view m (basic w b) ≡ basic (view m w) b
 basic-ours m w (Tells e) is ok = refl
-basic-ours m w (Wakes who call status fields) is ok = rw (which-without (our_wait m) (waits_as who) w.waits) refl
-basic-ours m w (Awaits x) is ok = rw (kept-push (our_wait m) w.waits x is) refl
-basic-ours m w (Receives who q) is ok = rw (kept-change (our_wait m) (waits_at who q) received (λ x. refl) w.waits) refl
-basic-ours m w (Accepts who reply) is ok = rw (kept-change (our_wait m) (waits_as who) (accepted reply) (λ x. refl) w.waits) refl
+basic-ours m w (Wakes who call status fields) is ok = left-ours m w who
+basic-ours m w (Leaves who) is ok = left-ours m w who
+basic-ours m w (Marks who) is ok = rw (kept-push (our_mark m w) w.marks who is) refl
+basic-ours m w (SetsDebug pid b) is ok = rw (kept-change (our_process m) (is_process pid) (debugged b) (λ p. refl) w.processes) refl
+basic-ours m w (SetsException pid b) is ok = rw (kept-change (our_process m) (is_process pid) (excepted b) (λ p. refl) w.processes) refl
+basic-ours m w (LetsGo pid) is ok = rw (kept-change (our_process m) (is_process pid) portless (λ p. refl) w.processes) refl
+basic-ours m w (Dooms pid code) is ok = rw (kept-change (our_process m) (is_process pid) (doomed code) (λ p. refl) w.processes) refl
+basic-ours m w (Awaits x) is ok = both-changed (view m w) _ _ _ _ (kept-push (our_wait m) w.waits x is) (same-marks _ _ (λ n. ap (has (is_event_of n)) (kept-push (our_wait m) w.waits x is)) w.marks ∙ begun-seen x (which (our_wait m) w.waits) w.marks ok)
+basic-ours m w (Receives who q) is ok = let kept = kept-change (our_wait m) (waits_at who q) received (λ x. refl) w.waits in both-changed (view m w) _ _ _ _ kept (same-marks _ _ (λ n. ap (has (is_event_of n)) kept) w.marks ∙ received-seen who q (which (our_wait m) w.waits) w.marks)
+basic-ours m w (Accepts who reply) is ok = let kept = kept-change (our_wait m) (waits_as who) (accepted reply) (λ x. refl) w.waits in both-changed (view m w) _ _ _ _ kept (same-marks _ _ (λ n. ap (has (is_event_of n)) kept) w.marks ∙ accepted-seen who reply (which (our_wait m) w.waits) w.marks)
 basic-ours m w (Enters x) is ok = rw (kept-push (our_message m) w.messages x is) refl
 basic-ours m w (Takes q) is ok = rw (take-seen m (is_queued q) w.messages (first (is_queued q) w.messages) refl is) refl
 basic-ours m w (TakesConnect q) is ok = rw (take-seen m (is_queued_connect q) w.messages (first (is_queued_connect q) w.messages) refl is) refl
 basic-ours m w (Withdraws who) is ok = rw (which-without (our_message m) (is_own_of who) w.messages) refl
 basic-ours m w (DrawsIdentifier who) is ok = rw (kept-change (our_thread m) (is_thread who) past_identifier (λ t. refl) w.threads) refl
 basic-ours m w (DrawsOrdinal who) is ok = rw (kept-change (our_thread m) (is_thread who) past_ordinal (λ t. refl) w.threads) refl
-basic-ours m w (Dies who status) is ok = rw (kept-change (our_thread m) (is_thread who) ended (λ t. refl) w.threads, which-without (our_wait m) (waits_as who) w.waits) refl
+basic-ours m w (Dies who status) is ok = ap (λ (v : World). record v { threads = which (our_thread m) (change (is_thread who) ended w.threads) }) (left-ours m w who) ∙ ap (λ (ts : List ThreadRow). record (left_by who (view m w)) { threads = ts }) (kept-change (our_thread m) (is_thread who) ended (λ t. refl) w.threads)
 basic-ours m w (Registers who b) is ok = rw (kept-change (our_thread m) (is_thread who) (registering b) (λ t. refl) w.threads) refl
 basic-ours m w (Unregisters who b) is ok = rw (kept-change (our_thread m) (is_thread who) (unregistering b) (λ t. refl) w.threads) refl
 basic-ours m w (AddsProcess p) is ok = rw (kept-push (our_process m) w.processes p is, kept-push m w.used_processes p.number is, kept-push (our_table m) w.handles (no_handles p.number) is, shown-push (our_space m) (seen_space m) w.views (no_views p.number) is) refl
@@ -378,20 +408,38 @@ cut-out m b p out kept = at (is_port b p) refl
 shown-cut_out : (m : Group) (b : Birth) → m b.process ≡ false → (ps : List PortRow) → shown (our_port m) (seen_port m) (change (is_end_of b) cut ps) ≡ shown (our_port m) (seen_port m) ps
 shown-cut_out m b out ps = shown-map_out (λ p. true) (our_port m) (seen_port m) (cut_if b) (cut-birth m b) (λ p any kept. cut-out m b p out kept) ps (every-true ps)
 
+-- a wait that isn't seen goes, with a mark that isn't
+left-unseen : (m : Group) (w : World) (who : ℕ) → sees_wait m w who ≡ false → view m (left_by who w) ≡ view m w
+left-unseen m w who out =
+    let vs = which (our_wait m) w.waits in
+    left-ours m w who ∙ both-changed (view m w) _ _ _ _ (without-none (waits_as who) vs out) (without-none (is_mark who) (which (our_mark m w) w.marks) (unmarked-seen who vs out w.marks))
+
+process-out : (m : Group) (pid : ℕ) → m pid ≡ false → (p : ProcessRow) → is_process pid p ≡ true → our_process m p ≡ false
+process-out m pid out p is = ap m (eqb-true _ _ is) ∙ out
+
 -- a step that isn't seen leaves the view
 pub basic-unseen : (m : Group) (w : World) (b : Basic) → sees m w b ≡ false → is_regular m w b ≡ true → view m (basic w b) ≡ view m w
 basic-unseen m w (Tells e) out ok = refl
-basic-unseen m w (Wakes who call status fields) out ok = rw (which-without (our_wait m) (waits_as who) w.waits, without-none (waits_as who) (which (our_wait m) w.waits) out) refl
-basic-unseen m w (Awaits x) out ok = rw (kept-push_out (our_wait m) w.waits x out) refl
-basic-unseen m w (Receives who q) out ok = rw (kept-change (our_wait m) (waits_at who q) received (λ x. refl) w.waits, change-none (waits_at who q) received (which (our_wait m) w.waits) out) refl
-basic-unseen m w (Accepts who reply) out ok = rw (kept-change (our_wait m) (waits_as who) (accepted reply) (λ x. refl) w.waits, change-none (waits_as who) (accepted reply) (which (our_wait m) w.waits) out) refl
+basic-unseen m w (Wakes who call status fields) out ok = left-unseen m w who out
+basic-unseen m w (Leaves who) out ok = left-unseen m w who out
+basic-unseen m w (Marks who) out ok = rw (kept-push_out (our_mark m w) w.marks who out) refl
+basic-unseen m w (SetsDebug pid b) out ok = rw (kept-change_out (our_process m) (is_process pid) (debugged b) (λ p. refl) (process-out m pid out) w.processes) refl
+basic-unseen m w (SetsException pid b) out ok = rw (kept-change_out (our_process m) (is_process pid) (excepted b) (λ p. refl) (process-out m pid out) w.processes) refl
+basic-unseen m w (LetsGo pid) out ok = rw (kept-change_out (our_process m) (is_process pid) portless (λ p. refl) (process-out m pid out) w.processes) refl
+basic-unseen m w (Dooms pid code) out ok = rw (kept-change_out (our_process m) (is_process pid) (doomed code) (λ p. refl) (process-out m pid out) w.processes) refl
+basic-unseen m w (Awaits x) out ok = let kept = kept-push_out (our_wait m) w.waits x out in both-changed (view m w) _ _ _ _ kept (same-marks _ _ (λ n. ap (has (is_event_of n)) kept) w.marks)
+basic-unseen m w (Receives who q) out ok = basic-ours m w (Receives who q) refl refl ∙ ap (λ (xs : List WaitRow). record (view m w) { waits = xs }) (change-none (waits_at who q) received (which (our_wait m) w.waits) out)
+basic-unseen m w (Accepts who reply) out ok = basic-ours m w (Accepts who reply) refl refl ∙ ap (λ (xs : List WaitRow). record (view m w) { waits = xs }) (change-none (waits_as who) (accepted reply) (which (our_wait m) w.waits) out)
 basic-unseen m w (Enters x) out ok = rw (kept-push_out (our_message m) w.messages x out) refl
 basic-unseen m w (Takes q) out ok = rw (take-unseen m (is_queued q) w.messages (first (is_queued q) w.messages) refl out) refl
 basic-unseen m w (TakesConnect q) out ok = rw (take-unseen m (is_queued_connect q) w.messages (first (is_queued_connect q) w.messages) refl out) refl
 basic-unseen m w (Withdraws who) out ok = rw (which-without (our_message m) (is_own_of who) w.messages, without-none (is_own_of who) (which (our_message m) w.messages) out) refl
 basic-unseen m w (DrawsIdentifier who) out ok = rw (kept-change (our_thread m) (is_thread who) past_identifier (λ t. refl) w.threads, change-none (is_thread who) past_identifier (which (our_thread m) w.threads) out) refl
 basic-unseen m w (DrawsOrdinal who) out ok = rw (kept-change (our_thread m) (is_thread who) past_ordinal (λ t. refl) w.threads, change-none (is_thread who) past_ordinal (which (our_thread m) w.threads) out) refl
-basic-unseen m w (Dies who status) out ok = rw (kept-change (our_thread m) (is_thread who) ended (λ t. refl) w.threads, change-none (is_thread who) ended (which (our_thread m) w.threads) (or_parts (sees_wait m w who) (sees_thread m w who) out).1, which-without (our_wait m) (waits_as who) w.waits, without-none (waits_as who) (which (our_wait m) w.waits) (or_parts (sees_wait m w who) (sees_thread m w who) out).0) refl
+basic-unseen m w (Dies who status) out ok =
+    let parts = or_parts (sees_wait m w who) (sees_thread m w who) out in
+    let still = kept-change (our_thread m) (is_thread who) ended (λ t. refl) w.threads ∙ change-none (is_thread who) ended (which (our_thread m) w.threads) parts.1 in
+    ap (λ (v : World). record v { threads = which (our_thread m) (change (is_thread who) ended w.threads) }) (left-unseen m w who parts.0) ∙ ap (λ (ts : List ThreadRow). record (view m w) { threads = ts }) still
 basic-unseen m w (Registers who b) out ok = rw (kept-change (our_thread m) (is_thread who) (registering b) (λ t. refl) w.threads, change-none (is_thread who) (registering b) (which (our_thread m) w.threads) out) refl
 basic-unseen m w (Unregisters who b) out ok = rw (kept-change (our_thread m) (is_thread who) (unregistering b) (λ t. refl) w.threads, change-none (is_thread who) (unregistering b) (which (our_thread m) w.threads) out) refl
 basic-unseen m w (AddsProcess p) out ok = rw (kept-push_out (our_process m) w.processes p out, kept-push_out m w.used_processes p.number out, kept-push_out (our_table m) w.handles (no_handles p.number) out, shown-push_out (our_space m) (seen_space m) w.views (no_views p.number) out) refl

@@ -16,16 +16,15 @@ use Rattle.lpc_model.specs.declared.message.Message.{Message}
 use Rattle.lpc_model.specs.Then.{◌>>=◌}
 use Rattle.lpc_model.specs.Refusal.{found_or, refuse_if}
 use Rattle.lpc_model.specs.World.{Birth, PortRow, ThreadRow, WaitRow, World}
-use Rattle.lpc_model.specs.Found.{fits, fitted, is_live_thread, is_port, is_request, is_the, live_thread, pair_of, port_row, same_birth}
+use Rattle.lpc_model.specs.Found.{fits, fitted, is_live_thread, is_port, is_asking, is_the, live_thread, pair_of, port_row, same_birth}
 use Rattle.lpc_model.specs.Request.{reply_test, nt_reply_port}
 use Rattle.lpc_model.specs.Tests.{client_test, fit_test, is_client, port_test}
 use Rattle.lpc_model.proofs.Calls.Holding.{Holds, holds-more, holds_ok, not_refused}
-use Rattle.lpc_model.proofs.Sound.Reply.{fits-request}
+use Rattle.lpc_model.proofs.Sound.Reply.{fits-asking}
 use Rattle.lpc_model.specs.Circle.{Group, is_no_outsider, is_no_outsiders_thread, names_no_outsider, owner}
-use Rattle.lpc_isolation.proofs.Each.Reply.{fit-parts}
 use Rattle.lpc_isolation.proofs.Views.Filters.{first-agree, first-none_kept}
 use Rattle.lpc_isolation.proofs.Views.View.{of_birth, our_thread, our_wait, seen_pair, seen_port, view}
-use Rattle.lpc_isolation.proofs.Rows.Fair.{Fair, implies, is_fair_port, is_fair_wait}
+use Rattle.lpc_isolation.proofs.Rows.Fair.{Fair, implies, is_fair_port, is_fair_wait, port-side}
 use Rattle.lpc_isolation.proofs.Views.Seen.{bind-same, c-port, live-owner, live-view, port-own, port-view, port_test-view, result_map}
 
 map-same : {A : Type 0} (f : A → A) (r : Result A Status) → Holds (λ x. f x ≡ x) r → result_map f r ≡ r
@@ -87,7 +86,7 @@ the-seen m port (Some q) is = at (m q.process) (same_birth port q) refl refl
 -- a request of a member goes to a member, or to the other end of the port on which it was sent, unless that is cut off
 abbrev pub is_way : Group → World → WaitRow → Bool
 is_way m w x =
-    implies (is_request x && m x.process) (m x.queue.process || (is_none (pair_of w x.port) || is_the x.queue (pair_of w x.port)))
+    implies (is_asking x && m x.process) (m x.queue.process || (is_none (pair_of w x.port) || is_the x.queue (pair_of w x.port)))
 
 abbrev pub Ways : Group → World → Type 0
 Ways m w = every (is_way m w) w.waits ≡ true
@@ -95,15 +94,21 @@ Ways m w = every (is_way m w) w.waits ≡ true
 -- through a member's port a member's message fits the same waits
 same-pairs : (m : Group) (c : ℕ) (w : World) (port : Birth) (a : Message) (x : WaitRow) → is_fair_wait m c x ≡ true → m port.process ≡ true → m x.process ≡ true → fits (view m w) port a x ≡ fits w port a x
 same-pairs m c w port a x fair port_in x_in =
-    let own : m x.port.process ≡ true = ap m (eqb-true _ _ (first-true _ _ fair)) ∙ x_in in
+    let own : m x.port.process ≡ true = port-side m x (first-true _ _ fair) ∙ x_in in
     let same : is_the port (pair_of (view m w) x.port) ≡ is_the port (pair_of w x.port) = ap (is_the port) (pair-view m w x.port own) ∙ the-seen m port (pair_of w x.port) port_in in
     rw same refl
+
+last-of : (a b c d e f : Bool) → (a && (b && (c && (d && (e && f))))) ≡ true → f ≡ true
+last-of a b c d e f is = grind arith
+
+pub fit-parts : (w : World) (port : Birth) (a : Message) (x : WaitRow) → fits w port a x ≡ true → (same_birth x.queue port || is_the port (pair_of w x.port)) ≡ true
+fit-parts w port a x is = last-of (x.thread == a.header.client.thread) (x.process == a.header.client.process) (x.identifier == a.header.message_id) (is_asking x) x.received _ is
 
 second-of : (a b c d e f : Bool) → (a && (b && (c && (d && (e && f))))) ≡ true → b ≡ true
 second-of a b c d e f is = grind arith
 
 pub fit-process : (w : World) (port : Birth) (a : Message) (x : WaitRow) → fits w port a x ≡ true → (x.process == a.header.client.process) ≡ true
-fit-process w port a x is = second-of (x.thread == a.header.client.thread) (x.process == a.header.client.process) (x.identifier == a.header.message_id) (is_request x) x.received (same_birth x.queue port || is_the port (pair_of w x.port)) is
+fit-process w port a x is = second-of (x.thread == a.header.client.thread) (x.process == a.header.client.process) (x.identifier == a.header.message_id) (is_asking x) x.received (same_birth x.queue port || is_the port (pair_of w x.port)) is
 
 two-the : (m : Group) (a b : Birth) (o : Option Birth) → is_the a o ≡ true → is_the b o ≡ true → m a.process ≡ m b.process
 two-the m a b None one two = absurd (cc)
@@ -112,8 +117,8 @@ two-the m a b (Some q) one two = of_birth m a q one ∙ sym (of_birth m b q two)
 fit-queue : (m : Group) (w : World) (port : Birth) (a : Message) (x : WaitRow) → is_way m w x ≡ true → m port.process ≡ true → m x.process ≡ true → fits w port a x ≡ true → m x.queue.process ≡ true
 fit-queue m w port a x way port_in x_in is = at (same_birth x.queue port) (m x.queue.process) refl refl
   where
-    request : is_request x ≡ true
-    request = fits-request w port a x is
+    request : is_asking x ≡ true
+    request = fits-asking w port a x is
 
     last : (same_birth x.queue port || is_the port (pair_of w x.port)) ≡ true
     last = fit-parts w port a x is
@@ -123,7 +128,7 @@ fit-queue m w port a x way port_in x_in is = at (same_birth x.queue port) (m x.q
     at false true here is = refl
     at false false here is =
         let there : is_the port (pair_of w x.port) ≡ true = or-second (same_birth x.queue port) (is_the port (pair_of w x.port)) here last in
-        let to : is_the x.queue (pair_of w x.port) ≡ true = way-to (is_request x) (m x.process) (m x.queue.process) (is_none (pair_of w x.port)) (is_the x.queue (pair_of w x.port)) request x_in is (the-some port (pair_of w x.port) there) way in
+        let to : is_the x.queue (pair_of w x.port) ≡ true = way-to (is_asking x) (m x.process) (m x.queue.process) (is_none (pair_of w x.port)) (is_the x.queue (pair_of w x.port)) request x_in is (the-some port (pair_of w x.port) there) way in
         sym is ∙ two-the m x.queue port (pair_of w x.port) to there ∙ port_in
       where
         way-to : (a b c n d : Bool) → a ≡ true → b ≡ true → c ≡ false → n ≡ false → implies (a && b) (c || (n || d)) ≡ true → d ≡ true

@@ -2,11 +2,12 @@
 use Rattle.std.proofs.Common.{◌≡◌, ℕ, Bool, true, false, cond, Option, Some, None, ap, arith}
 use Rattle.std.specs.Prelude.{◌&&◌, ◌==◌, map}
 use Rattle.std.proofs.lemmas.Bool.{eqb-true, false_from_ne_true}
-use Rattle.lpc_base.specs.Rows.{which}
+use Rattle.lpc_base.specs.Rows.{has, which}
 use Rattle.lpc_names.specs.Walk.{LinkTo, Stands}
 use Rattle.lpc_names.specs.declared.names.Found.TheVariants.{Directory, Item}
 use Rattle.lpc_model.specs.World.{Birth, HandleTable, MessageRow, Node, Path, PortRow, ProcessRow, SectionRow, ThreadRow, Unknown, UsedThread, ViewRow, ViewTable, WaitRow, World, TokenRow}
 use Rattle.lpc_model.specs.Found.{same_birth}
+use Rattle.lpc_model.specs.Settle.{is_event_of}
 use Rattle.lpc_model.specs.Circle.{Group}
 use Rattle.lpc_isolation.proofs.Views.Filters.{shown}
 
@@ -69,6 +70,10 @@ seen_space m t = record t { rows = map (seen_view m) t.rows }
 abbrev pub our_token : Group → TokenRow → Bool
 our_token m t = m t.birth.process
 
+-- a mark is seen where the event that waits is
+abbrev pub our_mark : Group → World → ℕ → Bool
+our_mark m w n = has (is_event_of n) (which (our_wait m) w.waits)
+
 -- no bytes are seen, and the names of all tokens
 abbrev pub view : Group → World → World
 view m w = record {
@@ -80,6 +85,7 @@ view m w = record {
   ports = shown (our_port m) (seen_port m) w.ports;
   messages = which (our_message m) w.messages;
   waits = which (our_wait m) w.waits;
+  marks = which (our_mark m w) w.marks;
   bindings = which (our_binding m) w.bindings;
   sections = which (our_section m) w.sections;
   contents = Unknown;
