@@ -363,7 +363,7 @@ impl Ports {
         }
     }
 
-    /// How many of the messages that stand in queues ask for an answer: requests and connection requests.
+    /// How many of the messages that stand in queues ask for an answer: requests, connection requests and events.
     pub fn asking(&self) -> usize
         ensures { result ≡ count is_asking self.now.messages }
     {

@@ -4,10 +4,12 @@ ghost use Rattle.std.specs.Prelude.{◌≡◌, ◌<◌, ◌==◌, ◌&&◌, ◌|
 ghost use Rattle.lpc_base.specs.declared.limits.TheConstants.{MESSAGE_LIMIT};
 ghost use Rattle.lpc_message.specs.Layout.{half_at};
 ghost use Rattle.lpc_slots.specs.Table.{is_key};
-ghost use Rattle.lpc_ports.specs.Table.{asks, client_thread, is_of_type};
+ghost use Rattle.lpc_ports.specs.Table.{asks, client_thread, is_of_type, tells_event};
 
 use arrayvec::ArrayVec;
-use lpc_message::kind::{CONNECTION_REQUEST, DATAGRAM, PORT_CLOSED, REQUEST};
+use lpc_message::kind::{
+    CONNECTION_REQUEST, DATAGRAM, DEBUG_EVENT, EXCEPTION, PORT_CLOSED, REQUEST,
+};
 use lpc_slots::{Key, Linked, Links};
 
 // Where a message has its type: the low byte, and the high one behind it.
@@ -42,11 +44,18 @@ impl Message {
         self.kind() == CONNECTION_REQUEST
     }
 
-    /// It asks for an answer: its type is that of a request or a connection request.
+    // It tells of an exception: its type is that of an exception or of a debug event.
+    fn tells_event(&self) -> bool
+        ensures { result ≡ tells_event self.now }
+    {
+        self.kind() == EXCEPTION || self.kind() == DEBUG_EVENT
+    }
+
+    /// It asks for an answer: its type is that of a request, a connection request or an event.
     pub(crate) fn asks(&self) -> bool
         ensures { result ≡ asks self.now }
     {
-        self.kind() == REQUEST || self.is_connect()
+        self.kind() == REQUEST || self.is_connect() || self.tells_event()
     }
 
     /// It tells of the closing of the port on which it was sent: its type is that of a closed port.

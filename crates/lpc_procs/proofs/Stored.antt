@@ -3,6 +3,7 @@ use Rattle.std.proofs.Common.{◌≡◌, ℕ, zero, suc, ◌+◌, ◌*◌, ◌<�
 use Rattle.std.specs.List.{position}
 use Rattle.std.specs.Prelude.{Some, slice_get, is_some, nat_le, ◌==◌}
 use Rattle.std.proofs.lemmas.Bool.Decides.{nat_tests}
+use Rattle.std.proofs.lemmas.Bool.{lt-ltb}
 use Rattle.std.proofs.lemmas.List.{length-append}
 use Rattle.lpc_base.specs.Births.{same_birth}
 use Rattle.lpc_base.specs.declared.birth.Birth.{Birth}
@@ -16,10 +17,10 @@ use Rattle.lpc_procs.specs.declared.rows.ProcessRow.{ProcessRow}
 use Rattle.lpc_procs.specs.declared.rows.Registration.{Registration}
 use Rattle.lpc_procs.specs.declared.rows.ThreadRow.{ThreadRow}
 use Rattle.lpc_procs.specs.declared.rows.UsedThread.{UsedThread}
-use Rattle.lpc_procs.specs.Kept.{AreKept, are_apart, counting, has_name, has_number, is_counted, is_limited, is_of_used, is_used_row, process_name, process_rows, thread_name}
+use Rattle.lpc_procs.specs.Kept.{AreKept, IsStored, are_apart, counting, has_name, has_number, is_counted, is_doomed_row, is_limited, is_low, is_of_used, is_used_row, process_name, process_rows, thread_name}
 use Rattle.lpc_procs.specs.Procs.{HasRegistrationLeft, all_registrations, ended, is_life, is_of_birth, is_process, is_thread, is_thread_born, is_used_thread, lives_in, registering, unregistering}
 use Rattle.lpc_procs.proofs.Counts.{count-set, counts-ended, counts-less, counts-process, counts-set, counts-thread}
-use Rattle.lpc_procs.proofs.Few.{few}
+use Rattle.lpc_procs.proofs.Few.{few, few_processes}
 use Rattle.lpc_procs.proofs.Keeping.{KeepsNumbers, changed_at, kept-at, kept-push, kept-without, row_is}
 
 -- a name is the name asked for
@@ -102,6 +103,9 @@ module _ (pid live : ℕ) where
   used-counting : (ns : List ℕ) (ps : List Counted) → every (is_used_row ns) ps ≡ true → every (is_used_row ns) (change (has_number pid) (counting live) ps) ≡ true
   used-counting ns ps used = every-change (is_used_row ns) (has_number pid) (counting live) (λ p h. h) ps used
 
+  low-counting : (ps : List Counted) → every (is_low 2147483648) ps ≡ true → every (is_low 2147483648) (change (has_number pid) (counting live) ps) ≡ true
+  low-counting ps low = every-change (is_low 2147483648) (has_number pid) (counting live) (λ p h. h) ps low
+
 module _ (ps : List Counted) (ts : List ThreadRow) (ns : List ℕ) (us : List UsedThread) (pn tn : List (ℕ × Birth)) (alive registered : ℕ) (kept : AreKept ps ts ns us pn tn alive registered) where
   -- a thread at its place changes
   module _ (i tid : ℕ) (row : ThreadRow) (is : position (is_thread tid) ts ≡ Some i) (read : row ≡ get_or ts i row) where
@@ -116,6 +120,7 @@ module _ (ps : List Counted) (ts : List ThreadRow) (ns : List ℕ) (us : List Us
           rows = kept-at f ts us i tid row keeps kept.rows is read;
           counts = counts-set ts i row (f row) found.here (keeps.process row) lives ps kept.counts;
           apart = kept.apart;
+          processes_low = kept.processes_low;
           owners = rw same (every-change (is_of_used ns) (is_thread tid) f owner ts kept.owners);
           processes_used = kept.processes_used;
           processes_named = kept.processes_named;
@@ -150,6 +155,7 @@ module _ (ps : List Counted) (ts : List ThreadRow) (ns : List ℕ) (us : List Us
           rows = kept-at ended ts us i tid row (record { number = λ t. refl; process = λ t. refl }) kept.rows is read;
           counts = rw is_live (counts-ended ts i row (ended row) found.here refl ps kept.counts);
           apart = apart-counting row.process live ps kept.apart;
+          processes_low = low-counting row.process live ps kept.processes_low;
           owners = kept'.0;
           processes_used = used-counting row.process live ns ps kept.processes_used;
           processes_named = kept.processes_named ∙ sym (names-counting row.process live ps);
@@ -180,6 +186,7 @@ module _ (ps : List Counted) (ts : List ThreadRow) (ns : List ℕ) (us : List Us
         rows = kept-push ts us t kept.rows within new;
         counts = rw is_live (counts-thread ts t ps kept.counts);
         apart = apart-counting t.process live ps kept.apart;
+        processes_low = low-counting t.process live ps kept.processes_low;
         owners = every-push (is_of_used ns) ts t kept.owners (owned ps kept.processes_used home);
         processes_used = used-counting t.process live ns ps kept.processes_used;
         processes_named = kept.processes_named ∙ sym (names-counting t.process live ps);
@@ -200,14 +207,15 @@ module _ (ps : List Counted) (ts : List ThreadRow) (ns : List ℕ) (us : List Us
           at false off rest = rest (rw off at home)
 
   -- a further process, under a number that none had
-  pub kept-process : (row : ProcessRow) → has (λ n. n == row.number) ns ≡ false
+  pub kept-process : (row : ProcessRow) → row.number < 2147483648 → has (λ n. n == row.number) ns ≡ false
       → AreKept (ps ++ (record { row = row; live = 0 }) ∷ []) ts (ns ++ row.number ∷ []) us (pn ++ (row.number, row.birth) ∷ []) tn alive registered
-  kept-process row new =
+  kept-process row within new =
       let p : Counted = record { row = row; live = 0 } in
       record {
         rows = kept.rows;
         counts = counts-process ts row 0 (sym (none-owned row.number ns ts new kept.owners)) ps kept.counts;
         apart = differ-push (λ (q : Counted). q.row.number) ps p kept.apart (process-unused row.number ns ps new kept.processes_used);
+        processes_low = every-push (is_low 2147483648) ps p kept.processes_low (lt-ltb row.number 2147483648 within);
         owners = every-more (is_of_used ns) (is_of_used (ns ++ row.number ∷ [])) (λ t h. has-more t.process ns h) ts kept.owners;
         processes_used = every-push (is_used_row (ns ++ row.number ∷ [])) ps p (every-more (is_used_row ns) (is_used_row (ns ++ row.number ∷ [])) (λ q h. has-more q.row.number ns h) ps kept.processes_used) (has-last ns);
         processes_named = ap (λ xs. xs ++ (row.number, row.birth) ∷ []) kept.processes_named ∙ sym (push-map process_name ps p);
@@ -231,6 +239,7 @@ module _ (ps : List Counted) (ts : List ThreadRow) (ns : List ℕ) (us : List Us
     rows = kept.rows;
     counts = every-without (is_counted ts) (has_name b) ps kept.counts;
     apart = differ-without (λ (q : Counted). q.row.number) (has_name b) ps kept.apart;
+    processes_low = every-without (is_low 2147483648) (has_name b) ps kept.processes_low;
     owners = kept.owners;
     processes_used = every-without (is_used_row ns) (has_name b) ps kept.processes_used;
     processes_named = ap (without (is_named b)) kept.processes_named ∙ sym (without-map process_name (λ p. true) (has_name b) (is_named b) (λ p _. refl) ps (every-true ps));
@@ -246,6 +255,7 @@ module _ (ps : List Counted) (ts : List ThreadRow) (ns : List ℕ) (us : List Us
     rows = kept-without (is_thread_born b) ts us kept.rows;
     counts = counts-less ts b none ps kept.counts;
     apart = kept.apart;
+    processes_low = kept.processes_low;
     owners = every-without (is_of_used ns) (is_thread_born b) ts kept.owners;
     processes_used = kept.processes_used;
     processes_named = kept.processes_named;
@@ -264,6 +274,11 @@ module _ (ps : List Counted) (ts : List ThreadRow) (ns : List ℕ) (us : List Us
 
   pub alive-few : alive ≤ 2147483648
   alive-few = omega (arith, kept.living, count-bound (λ (t : ThreadRow). t.live) ts, threads-few)
+
+-- and few processes, so few that are to end
+pub dooms-few : (ps : List Counted) (ts : List ThreadRow) (ns : List ℕ) (us : List UsedThread) (pn tn : List (ℕ × Birth)) (alive registered dooms : ℕ) → IsStored ps ts ns us pn tn alive registered dooms → dooms < 4294967296
+dooms-few ps ts ns us pn tn alive registered dooms stored =
+    omega (arith, stored.doomed, count-bound is_doomed_row ps, few_processes 2147483648 ps stored.all.apart stored.all.processes_low)
 
 -- a live thread is counted
 pub live-there : (ts : List ThreadRow) (i : ℕ) (row : ThreadRow) → slice_get ts i ≡ Some row → row.live ≡ true → (1 ≤ count (lives_in row.process) ts) × (1 ≤ count (λ t. t.live) ts)

@@ -1,13 +1,14 @@
 -- What the table keeps of its rows and numbers.
-use Rattle.std.specs.Prelude.{ℕ, ◌≡◌, ◌==◌, ◌&&◌, Bool, true, false, length, map, nat_le, nat_lt, List, Option, Some, None}
+use Rattle.std.specs.Prelude.{ℕ, ◌≡◌, ◌==◌, ◌&&◌, Bool, true, false, is_some, length, map, nat_le, nat_lt, List, Option, Some, None, if◌then◌else◌}
 use Rattle.lpc_base.specs.declared.birth.Birth.{Birth}
 use Rattle.lpc_base.specs.Rows.{change, count, differ_by, every, first, has}
 use Rattle.lpc_base.specs.declared.limits.TheConstants.{REGISTRATION_LIMIT}
 use Rattle.lpc_procs.specs.declared.rows.Counted.{Counted}
+use Rattle.lpc_procs.specs.declared.rows.Doomed.{Doomed}
 use Rattle.lpc_procs.specs.declared.rows.ProcessRow.{ProcessRow}
 use Rattle.lpc_procs.specs.declared.rows.ThreadRow.{ThreadRow}
 use Rattle.lpc_procs.specs.declared.rows.UsedThread.{UsedThread}
-use Rattle.lpc_procs.specs.Procs.{all_registrations, is_made_by, is_process, is_process_born, is_used_thread, lives_in}
+use Rattle.lpc_procs.specs.Procs.{all_registrations, doomed_as, is_made_by, is_process, is_process_born, is_used_thread, lives_in}
 
 -- a used number is of a process
 abbrev pub is_of : ℕ → Option UsedThread → Bool
@@ -61,6 +62,19 @@ counting live p = record p { live = live }
 abbrev pub recounted : List ThreadRow → ℕ → List Counted → List Counted
 recounted threads pid rows = change (has_number pid) (counting (count (lives_in pid) threads)) rows
 
+-- a process is to end, and is live, as its count tells; and then its number with its code
+abbrev pub is_doomed_row : Counted → Bool
+is_doomed_row p = is_some p.row.doom && is_peopled p
+
+abbrev pub doomed_in : Counted → Option Doomed
+doomed_in p = if is_doomed_row p then Some (doomed_as p.row) else None
+
+-- of two that are to end the one of the lesser number
+abbrev pub lesser_doomed : Option Doomed → Option Doomed → Option Doomed
+lesser_doomed None other = other
+lesser_doomed (Some d) None = Some d
+lesser_doomed (Some d) (Some e) = if nat_lt e.number d.number then Some e else Some d
+
 -- each thread's number is noted and below the limit of numbers, and no two threads have one
 pub record IsKept (threads : List ThreadRow) (used : List UsedThread) : Type 0 where
   pub noted : every (is_noted used) threads ≡ true
@@ -89,17 +103,22 @@ is_used_row used p = has (λ n. n == p.row.number) used
 abbrev pub are_apart : List Counted → Bool
 are_apart processes = differ_by (λ p. p.row.number) processes
 
+-- a process's number is below a limit
+abbrev pub is_low : ℕ → Counted → Bool
+is_low n p = nat_lt p.row.number n
+
 -- a thread has no more registrations than it may have
 abbrev pub is_limited : ThreadRow → Bool
 is_limited t = nat_le (length t.registered.items) REGISTRATION_LIMIT
 
--- What the table keeps: that; the counts beside the processes; that no two processes have one number, and that each
--- number of one, and each thread's process, was used; the names under their numbers, in the order of the rows; how many
+-- What the table keeps: that; the counts beside the processes; that no two processes have one number, that each number of
+-- one is below the limit of numbers, and that it, and each thread's process, was used; the names under their numbers, in the order of the rows; how many
 -- threads are live, and how many registrations there are.
 pub record AreKept (processes : List Counted) (threads : List ThreadRow) (numbers : List ℕ) (used : List UsedThread) (process_names thread_names : List (ℕ × Birth)) (alive registered : ℕ) : Type 0 where
   pub rows : IsKept threads used
   pub counts : every (is_counted threads) processes ≡ true
   pub apart : are_apart processes ≡ true
+  pub processes_low : every (is_low 2147483648) processes ≡ true
   pub owners : every (is_of_used numbers) threads ≡ true
   pub processes_used : every (is_used_row numbers) processes ≡ true
   pub processes_named : process_names ≡ map process_name processes
@@ -107,3 +126,8 @@ pub record AreKept (processes : List Counted) (threads : List ThreadRow) (number
   pub limited : every is_limited threads ≡ true
   pub living : alive ≡ count (λ t. t.live) threads
   pub told : registered ≡ length (all_registrations threads)
+
+-- What the table keeps: all that, and how many live processes are to end.
+pub record IsStored (processes : List Counted) (threads : List ThreadRow) (numbers : List ℕ) (used : List UsedThread) (process_names thread_names : List (ℕ × Birth)) (alive registered dooms : ℕ) : Type 0 where
+  pub all : AreKept processes threads numbers used process_names thread_names alive registered
+  pub doomed : dooms ≡ count is_doomed_row processes

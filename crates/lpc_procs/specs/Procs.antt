@@ -1,13 +1,14 @@
 -- What contracts see of processes and threads.
-use Rattle.std.specs.Prelude.{ℕ, ◌+◌, ◌-◌, ◌^◌, ◌<◌, ◌≤◌, ◌==◌, ◌&&◌, ◌++◌, ◌∷◌, Bool, false, List, [], is_some, length, max, not, option_and_then, option_map, Option, slice_get}
+use Rattle.std.specs.Prelude.{ℕ, ◌+◌, ◌-◌, ◌^◌, ◌<◌, ◌≤◌, ◌==◌, ◌&&◌, ◌++◌, ◌∷◌, Bool, false, List, [], is_some, length, max, nat_lt, not, option_and_then, option_map, option_to_list, None, Option, Some, slice_get, if◌then◌else◌}
 use Rattle.lpc_base.specs.Births.{same_birth}
-use Rattle.lpc_base.specs.Rows.{change, each, first, has, passes, when, without}
+use Rattle.lpc_base.specs.Rows.{change, each, first, has, passes, when, which, without}
 use Rattle.lpc_base.specs.declared.birth.Birth.{Birth}
 use Rattle.lpc_base.specs.declared.limits.TheConstants.{REGISTRATION_LIMIT}
 use Rattle.lpc_message.specs.declared.message.ClientId.{ClientId}
 use Rattle.lpc_slots.specs.declared.Key.{Key}
 use Rattle.lpc_tokens.specs.declared.effective.Impersonation.{Impersonation}
 use Rattle.lpc_procs.specs.declared.rows.BornThread.{BornThread}
+use Rattle.lpc_procs.specs.declared.rows.Doomed.{Doomed}
 use Rattle.lpc_procs.specs.declared.rows.Life.{Life}
 use Rattle.lpc_procs.specs.declared.rows.Number.{Number}
 use Rattle.lpc_procs.specs.declared.rows.Number.TheVariants as number
@@ -166,6 +167,60 @@ registering r t = record t { registered = record { items = t.registered.items ++
 
 abbrev pub unregistering : Birth → ThreadRow → ThreadRow
 unregistering b t = record t { registered = record { items = without (is_of_birth b) t.registered.items } }
+
+-- Exceptions
+-- a process with its debug port, with its exception port, and without either
+abbrev pub debugged : Registration → ProcessRow → ProcessRow
+debugged r p = record p { debug_port = Some r }
+
+abbrev pub excepted : Registration → ProcessRow → ProcessRow
+excepted r p = record p { exception_port = Some r }
+
+abbrev pub portless : ProcessRow → ProcessRow
+portless p = record p { debug_port = None; exception_port = None }
+
+-- the ports that are told of the exceptions of a process, and of all processes
+abbrev pub event_ports_of : ProcessRow → List Registration
+event_ports_of p = option_to_list p.debug_port ++ option_to_list p.exception_port
+
+abbrev pub event_ports : List ProcessRow → List Registration
+event_ports processes = each event_ports_of processes
+
+-- the port with a birth is among those of a process
+abbrev pub has_event_port : Birth → ProcessRow → Bool
+has_event_port b p = has (is_of_birth b) (event_ports_of p)
+
+-- the code with which a process is to end: the first stays
+abbrev pub first_code : ℕ → Option ℕ → ℕ
+first_code code None = code
+first_code code (Some first) = first
+
+-- a process that is to end with a code; one that is to end, and is live
+abbrev pub doomed : ℕ → ProcessRow → ProcessRow
+doomed code p = record p { doom = Some (first_code code p.doom) }
+
+abbrev pub is_doomed : List ThreadRow → ProcessRow → Bool
+is_doomed threads p = is_some p.doom && has (lives_in p.number) threads
+
+-- the process of the least number
+abbrev pub lesser : ProcessRow → Option ProcessRow → ProcessRow
+lesser p None = p
+lesser p (Some q) = if nat_lt q.number p.number then q else p
+
+abbrev pub least : List ProcessRow → Option ProcessRow
+least [] = None
+least (p ∷ ps) = Some (lesser p (least ps))
+
+-- of those that are to end and are live it is the next to end: its number, and its code
+abbrev pub doomed_as : ProcessRow → Doomed
+doomed_as p = record { number = p.number; code = first_code 0 p.doom }
+
+abbrev pub least_doomed : Table → Option Doomed
+least_doomed s = option_map doomed_as (least (which (is_doomed s.threads) s.processes))
+
+-- the table with the process of a number changed
+abbrev pub with_process : Table → ℕ → (ProcessRow → ProcessRow) → Table
+with_process s pid f = record s { processes = change (is_process pid) f s.processes }
 
 -- Tokens
 -- a thread with the token as which it acts for a client, none where it acts with that of its process

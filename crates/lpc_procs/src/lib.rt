@@ -1,7 +1,9 @@
-//! Processes and threads, the numbers that were ever used, what threads draw, and the ports that they registered.
+//! Processes and threads, the numbers that were ever used, what threads draw, the ports that they registered, and the
+//! ports that are told of the processes' exceptions.
 #![tactic(auto)]
 
 mod births;
+mod exceptions;
 mod lists;
 mod numbered;
 mod procs;
@@ -9,4 +11,6 @@ mod registrations;
 mod rows;
 
 pub use procs::Procs;
-pub use rows::{BornThread, Caller, Life, Number, ProcessRow, Registration, ThreadRow, UsedThread};
+pub use rows::{
+    BornThread, Caller, Doomed, Life, Number, ProcessRow, Registration, ThreadRow, UsedThread,
+};

@@ -1,14 +1,14 @@
 // Searches and changes of plain lists of rows.
-ghost use Rattle.std.specs.Prelude.{◌≡◌, true, None, Some, if◌then◌else◌, map, option_map, vec_len, vec_capacity};
+ghost use Rattle.std.specs.Prelude.{◌≡◌, ◌<◌, ◌^◌, true, None, Some, if◌then◌else◌, map, option_map, vec_len, vec_capacity};
 ghost use Rattle.lpc_base.specs.Rows.{change, count, first};
 ghost use Rattle.lpc_procs.specs.Callers as callers;
-ghost use Rattle.lpc_procs.specs.Kept.{are_apart, counting, has_number, process_name};
+ghost use Rattle.lpc_procs.specs.Kept.{are_apart, counting, has_number, is_doomed_row, process_name};
 ghost use Rattle.lpc_procs.specs.Procs as procs;
 ghost use Rattle.lpc_procs.specs.Procs.{is_live_client, lives_in};
 
 use crate::numbered::Numbered;
 use crate::rows::Counted;
-use crate::{Caller, ThreadRow};
+use crate::{Caller, ThreadRow, exceptions};
 use lpc_base::Birth;
 use lpc_message::ClientId;
 
@@ -62,17 +62,32 @@ pub fn first_live(threads: &[ThreadRow], pid: u32) -> Option<u32>
 }
 
 /// Writes the count of live threads beside the process of the number, where it has a row. The names stand under the
-/// numbers of the rows, in their order.
-pub fn recount(rows: &mut Vec<Counted>, names: &Numbered<Birth>, pid: u32, live: usize)
+/// numbers of the rows, in their order. So many live processes are to end, fewer than
+/// 2^32, and the result is how many are then.
+pub fn recount(
+    rows: &mut Vec<Counted>,
+    names: &Numbered<Birth>,
+    pid: u32,
+    live: usize,
+    dooms: usize,
+) -> usize
     requires named { names.now.entries ≡ map process_name rows.old.items }
     requires apart { are_apart rows.old.items ≡ true }
+    requires dooms { dooms ≡ count is_doomed_row rows.old.items }
+    requires few { dooms < 2 ^ 32 }
     ensures rows { rows.new.items ≡ change (has_number pid) (counting live) rows.old.items }
     ensures len { vec_len rows.new ≡ vec_len rows.old }
     ensures room { vec_capacity rows.new ≡ vec_capacity rows.old }
+    ensures dooms { result ≡ count is_doomed_row rows.new.items }
 {
     match names.place(pid) {
-        Some(place) => rows[place].live = live,
-        None => {}
+        Some(place) => {
+            let process = &mut rows[place];
+            let others = dooms - exceptions::doomed_count(process);
+            process.live = live;
+            others + exceptions::doomed_count(process)
+        }
+        None => dooms,
     }
 }
 

@@ -6,13 +6,13 @@ ghost use Rattle.lpc_base.specs.Rows.{count, first, has};
 ghost use Rattle.lpc_base.specs.declared.limits.TheConstants.{REGISTRATION_LIMIT};
 ghost use Rattle.lpc_procs.specs.Callers.{caller_of};
 ghost use Rattle.lpc_procs.specs.Procs as procs;
-ghost use Rattle.lpc_procs.specs.Procs.{HasIdentifierLeft, HasOrdinalLeft, HasRegistrationLeft, IsNumber, acting, all_registrations, birth_of, ended, first_process, first_thread, first_untold, has_registered, is_life, is_live_child, is_live_client, is_live_thread, is_of_birth, is_process_born, is_thread, live_registrations, lives_by, lives_in, most_rows, nothing, past_birth, past_identifier, process_at, process_life, registering, registration, thread_at, thread_born, thread_life, unregistering, used_process, with_room, with_thread, without_process_born, without_thread_born};
+ghost use Rattle.lpc_procs.specs.Procs.{HasIdentifierLeft, HasOrdinalLeft, HasRegistrationLeft, IsNumber, acting, all_registrations, birth_of, debugged, doomed, ended, event_ports, excepted, first_process, first_thread, first_untold, has_event_port, has_registered, is_life, is_live_child, is_live_client, is_live_thread, is_of_birth, is_process, is_process_born, is_thread, least_doomed, live_registrations, lives_by, lives_in, most_rows, nothing, past_birth, past_identifier, portless, process_at, process_life, registering, registration, thread_at, thread_born, thread_life, unregistering, used_process, with_process, with_room, with_thread, without_process_born, without_thread_born};
 
 use crate::numbered::Numbered;
 use crate::rows::Counted;
 use crate::{
-    BornThread, Caller, Life, Number, ProcessRow, Registration, ThreadRow, UsedThread, births,
-    lists, registrations,
+    BornThread, Caller, Doomed, Life, Number, ProcessRow, Registration, ThreadRow, UsedThread,
+    births, exceptions, lists, registrations,
 };
 use arrayvec::ArrayVec;
 use lpc_base::{Birth, OutOfMemory, reserve_rows};
@@ -27,8 +27,8 @@ use std::marker::Model;
 ///
 /// A number is used once. It stays used when the row of its process or thread goes, so no number names two things in
 /// a run. Contracts see the rows in order of making, the used numbers, and the room; they don't see the maps by which a
-/// number leads to its row, nor the counts that are kept: of live threads, of those of each process, and of
-/// registrations.
+/// number leads to its row, nor the counts that are kept: of live threads, of those of each process, of registrations,
+/// and of live processes that are to end.
 pub struct Procs {
     processes: Vec<Counted>,
     threads: Vec<ThreadRow>,
@@ -38,12 +38,13 @@ pub struct Procs {
     used_threads: Numbered<u32>,
     alive: usize,
     registered: usize,
+    dooms: usize,
 }
 
 impl Model for Procs {
     ghost use Rattle.std.specs.Prelude.{◌-◌, min, vec_len, vec_capacity};
     ghost use Rattle.lpc_procs.specs.Procs.{Table};
-    ghost use Rattle.lpc_procs.specs.Kept.{AreKept, process_rows, used_rows};
+    ghost use Rattle.lpc_procs.specs.Kept.{IsStored, process_rows, used_rows};
     ghost use Rattle.lpc_procs.specs.Numbered.{numbers};
 
     ghost Value = { Table };
@@ -57,7 +58,7 @@ impl Model for Procs {
       thread_room = min (vec_capacity s.threads - vec_len s.threads) (min s.thread_names.room s.used_threads.room);
     } };
 
-    ghost invariant = { λ s. AreKept s.processes.items s.threads.items (numbers s.used_processes.entries) (used_rows s.used_threads.entries) s.process_names.entries s.thread_names.entries s.alive s.registered };
+    ghost invariant = { λ s. IsStored s.processes.items s.threads.items (numbers s.used_processes.entries) (used_rows s.used_threads.entries) s.process_names.entries s.thread_names.entries s.alive s.registered s.dooms };
 }
 
 // Written out, so that a proof about what holds these tables lets them go in one step, and not map by map.
@@ -72,6 +73,7 @@ impl Drop for Procs {
             used_threads: _,
             alive: _,
             registered: _,
+            dooms: _,
         } = self;
     }
 }
@@ -90,6 +92,7 @@ impl Procs {
             used_threads: Numbered::new(alloc),
             alive: 0,
             registered: 0,
+            dooms: 0,
         }
     }
 
@@ -123,14 +126,22 @@ impl Procs {
     }
 
     /// Adds a process under a number that no process ever had, made by the process `maker` or by a directive, with a
-    /// copy of the token. There is spare room for it, and the number is from 1 to 2,147,483,647.
+    /// copy of the token. No port is told of its exceptions, and it isn't to end. There is spare room for it, and the
+    /// number is from 1 to 2,147,483,647.
     pub fn add_process(&mut self, pid: u32, maker: Option<u32>, birth: Birth, token: &Token)
         requires room { 0 < self.old.process_room }
         requires number { IsNumber pid }
         requires new { procs.was_used self.old (Number.Process pid) ≡ false }
         ensures table { self.new ≡ record self.old {
-          processes = self.old.processes
-              ++ (record { number = pid; maker = maker; birth = birth; token = token.now }) ∷ [];
+          processes = self.old.processes ++ (record {
+            number = pid;
+            maker = maker;
+            birth = birth;
+            token = token.now;
+            debug_port = None;
+            exception_port = None;
+            doom = None;
+          }) ∷ [];
           used_processes = self.old.used_processes ++ pid ∷ [];
           process_room = self.old.process_room - 1;
         } }
@@ -140,6 +151,9 @@ impl Procs {
             maker,
             birth,
             token: token.copy(),
+            debug_port: None,
+            exception_port: None,
+            doom: None,
         };
         self.processes.push_reserved(Counted { row, live: 0 });
         self.process_names.add(pid, birth);
@@ -170,7 +184,13 @@ impl Procs {
         } }
     {
         let live = self.live_count(pid) + 1;
-        lists::recount(&mut self.processes, &self.process_names, pid, live);
+        self.dooms = lists::recount(
+            &mut self.processes,
+            &self.process_names,
+            pid,
+            live,
+            self.dooms,
+        );
         self.threads.push_reserved(ThreadRow {
             number: tid,
             process: pid,
@@ -224,6 +244,101 @@ impl Procs {
             Some(place) => lists::live_caller(&self.threads[place]),
             None => None,
         }
+    }
+
+    /// The port that is told of the exceptions of a process that has a row, before its frame handlers are, and again
+    /// behind them: None until it is set.
+    pub fn debug_port(&self, pid: u32) -> Option<Registration>
+        requires present { is_some (process_at self.now pid) ≡ true }
+        ensures port { option_map (λ p. p.debug_port) (process_at self.now pid) ≡ Some result }
+    {
+        self.process(pid).debug_port
+    }
+
+    /// The port that is told at last of the exceptions of a process that has a row: None until it is set.
+    pub fn exception_port(&self, pid: u32) -> Option<Registration>
+        requires present { is_some (process_at self.now pid) ≡ true }
+        ensures port { option_map (λ p. p.exception_port) (process_at self.now pid)
+            ≡ Some result }
+    {
+        self.process(pid).exception_port
+    }
+
+    /// The code with which a process that has a row is to end: None where it isn't.
+    pub fn doom(&self, pid: u32) -> Option<u32>
+        requires present { is_some (process_at self.now pid) ≡ true }
+        ensures code { option_map (λ p. p.doom) (process_at self.now pid) ≡ Some result }
+    {
+        self.process(pid).doom
+    }
+
+    /// Gives a process, which has a row, its debug port, by its key and its birth.
+    pub fn set_debug_port(&mut self, pid: u32, port: Key, birth: Birth)
+        requires present { is_some (process_at self.old pid) ≡ true }
+        ensures table { let r = registration port birth in
+            self.new ≡ with_process self.old pid (debugged r) }
+    {
+        let place = self.process_place(pid);
+        self.processes[place].row.debug_port = Some(Registration { port, birth });
+    }
+
+    /// Gives a process, which has a row, its exception port, by its key and its birth.
+    pub fn set_exception_port(&mut self, pid: u32, port: Key, birth: Birth)
+        requires present { is_some (process_at self.old pid) ≡ true }
+        ensures table { let r = registration port birth in
+            self.new ≡ with_process self.old pid (excepted r) }
+    {
+        let place = self.process_place(pid);
+        self.processes[place].row.exception_port = Some(Registration { port, birth });
+    }
+
+    /// Takes its debug port and its exception port from a process, which has a row.
+    pub fn let_go(&mut self, pid: u32)
+        requires present { is_some (process_at self.old pid) ≡ true }
+        ensures table { self.new ≡ with_process self.old pid portless }
+    {
+        let place = self.process_place(pid);
+        let row = &mut self.processes[place].row;
+        row.debug_port = None;
+        row.exception_port = None;
+    }
+
+    /// Notes the code with which a process, which has a row, is to end. Of several codes the first stays.
+    pub fn set_doom(&mut self, pid: u32, code: u32)
+        requires present { is_some (process_at self.old pid) ≡ true }
+        ensures table { self.new ≡ with_process self.old pid (doomed code) }
+    {
+        let place = self.process_place(pid);
+        let process = &mut self.processes[place];
+        let others = self.dooms - exceptions::doomed_count(process);
+        process.row.doom = Some(exceptions::first_code(code, process.row.doom));
+        self.dooms = others + exceptions::doomed_count(process);
+    }
+
+    /// The port with a birth is told of the exceptions of a process.
+    pub fn is_event_port(&self, birth: Birth) -> bool
+        ensures told { result ≡ has (has_event_port birth) self.now.processes }
+    {
+        exceptions::is_event_port(&self.processes, birth)
+    }
+
+    /// How many debug ports and exception ports of processes are the port with a birth.
+    pub fn event_ports_to(&self, birth: Birth) -> usize
+        ensures count { result ≡ count (is_of_birth birth) (event_ports self.now.processes) }
+        ensures bound { result ≤ 2 * length self.now.processes }
+    {
+        exceptions::event_ports_to(&self.processes, birth)
+    }
+
+    /// Of the processes that are to end and are live the one of the least number, with its code: None exactly where there
+    /// is none.
+    pub fn least_doomed(&self) -> Option<Doomed>
+        ensures process { result ≡ least_doomed self.now }
+    {
+        if self.dooms == 0 {
+            return None;
+        }
+        exceptions::least_doomed(&self.processes)
     }
 
     /// The process has a live thread.
@@ -314,7 +429,13 @@ impl Procs {
         }
         let pid = row.process;
         let live = self.live_count(pid) - 1;
-        lists::recount(&mut self.processes, &self.process_names, pid, live);
+        self.dooms = lists::recount(
+            &mut self.processes,
+            &self.process_names,
+            pid,
+            live,
+            self.dooms,
+        );
         self.threads[place].live = false;
         self.alive -= 1;
     }
@@ -527,6 +648,7 @@ impl Procs {
     {
         births::remove_processes(&mut self.processes, birth);
         self.process_names.remove_name(birth);
+        self.dooms = exceptions::dooms(&self.processes);
     }
 
     /// Removes the rows of the threads that were made under the name, of which none is live. Their numbers stay used,
@@ -543,15 +665,23 @@ impl Procs {
         self.registered = registrations::total(&self.threads);
     }
 
+    // Where the row of a process that is present stands.
+    fn process_place(&self, pid: u32) -> usize
+        requires { is_some (process_at self.now pid) ≡ true }
+        ensures { Some result ≡ position (is_process pid) self.now.processes }
+    {
+        match self.process_names.place(pid) {
+            Some(place) => place,
+            None => unreachable!(),
+        }
+    }
+
     // The row of a process that is present.
     fn process(&self, pid: u32) -> &ProcessRow
         requires { is_some (process_at self.now pid) ≡ true }
         ensures { process_at self.now pid ≡ Some result.now }
     {
-        match self.process_names.place(pid) {
-            Some(place) => &self.processes[place].row,
-            None => unreachable!(),
-        }
+        &self.processes[self.process_place(pid)].row
     }
 
     // Where the row of a thread stands.

@@ -26,6 +26,13 @@ pub struct ProcessRow {
     pub birth: Birth,
     /// Who it is.
     pub token: Token,
+    /// The port that is told of its exceptions before its frame handlers are, and again behind them; None until it is
+    /// set.
+    pub debug_port: Option<Registration>,
+    /// The port that is told of its exceptions at last; None until it is set.
+    pub exception_port: Option<Registration>,
+    /// The code with which it is to end; None until one of its exceptions was handled by nobody.
+    pub doom: Option<u32>,
 }
 
 /// A process, and beside it the count of its live threads.
@@ -57,7 +64,16 @@ pub struct BornThread {
     pub live: bool,
 }
 
-/// A port that is to be told of a thread's end.
+/// A process that is to end.
+#[derive(Clone, Copy)]
+pub struct Doomed {
+    /// From 1 to 2147483647.
+    pub number: u32,
+    /// The code with which it is to end.
+    pub code: u32,
+}
+
+/// A port that is to be told of a thread's end, or of a process's exceptions.
 #[derive(Clone, Copy, Default)]
 pub struct Registration {
     /// Its key.

@@ -5,7 +5,9 @@ ghost use Rattle.lpc_ports.specs.Table.{row_at};
 use crate::common::guest;
 use lpc_base::Birth;
 use lpc_message::ClientId;
-use lpc_message::kind::{CONNECTION_REQUEST, DATAGRAM, PORT_CLOSED, REPLY, REQUEST};
+use lpc_message::kind::{
+    CONNECTION_REQUEST, DATAGRAM, DEBUG_EVENT, EXCEPTION, PORT_CLOSED, REPLY, REQUEST,
+};
 use lpc_ports::{Creator, Message, PortKind, Ports};
 use lpc_sid::Dacl;
 use lpc_slots::Key;
@@ -253,24 +255,26 @@ fn datagrams_are_counted_by_their_senders(rt: HostRuntime) -> Result<(), Fail> {
     counts_datagrams(&rt, &mut ports, one, two)
 }
 
-// Four messages of as many types enter a queue, where none stood before: two of them ask.
+// Six messages of as many types enter a queue, where none stood before: four of them ask.
 fn counts_asking(rt: &impl Abort, ports: &mut Ports, port: Key) -> Result<(), Fail>
     requires port { IsSome (row_at ports.old.ports port) }
     requires few { ports.old.messages_made < 100 }
 {
     assert!(rt; ports.asking() == 0);
-    ports.reserve(0, 4)?;
+    ports.reserve(0, 6)?;
     sends(ports, port, port, REQUEST);
     sends(ports, port, port, DATAGRAM);
     sends(ports, port, port, CONNECTION_REQUEST);
     sends(ports, port, port, REPLY);
-    assert!(rt; ports.asking() == 2);
+    sends(ports, port, port, EXCEPTION);
+    sends(ports, port, port, DEBUG_EVENT);
+    assert!(rt; ports.asking() == 4);
     Ok(())
 }
 
 #[test]
 #[tactic(auto, using(lpc_slots::proofs::Keys::key_itself))]
-fn requests_and_connection_requests_ask(rt: HostRuntime) -> Result<(), Fail> {
+fn requests_connection_requests_and_events_ask(rt: HostRuntime) -> Result<(), Fail> {
     let mut ports = Ports::new(rt.alloc());
     ports.reserve(1, 0)?;
     let port = ports.add(PortKind::Connection, birth(1), None);

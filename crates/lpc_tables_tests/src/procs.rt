@@ -307,3 +307,75 @@ fn thread_acts_with_a_token_of_its_own_until_it_is_taken_away(rt: HostRuntime) -
     shows_tokens(&rt, &procs, false);
     Ok(())
 }
+
+// Whether process 20 has a debug port and an exception port, and how many of the two are the first port.
+fn shows_event_ports(rt: &impl Abort, procs: &Procs, set: (bool, bool), first: usize)
+    requires { is_some (process_at procs.now 20) ≡ true }
+{
+    let (debug, exception) = (procs.debug_port(20), procs.exception_port(20));
+    assert!(rt; (debug.is_some(), exception.is_some()) == set);
+    assert!(rt; procs.event_ports_to(made(4)) == first);
+    assert!(rt; procs.is_event_port(made(4)) == (first > 0));
+}
+
+// The debug port of process 20 is the first port.
+fn shows_its_debug_port(rt: &impl Abort, procs: &Procs)
+    requires { is_some (process_at procs.now 20) ≡ true }
+{
+    let port = procs.debug_port(20).unwrap_or_default();
+    assert!(rt; port.port == key(1) && port.birth == made(4));
+}
+
+#[test]
+fn process_has_event_ports_until_it_lets_them_go(rt: HostRuntime) -> Result<(), Fail> {
+    let mut procs = Procs::new(rt.alloc());
+    procs.reserve(1, 0)?;
+    procs.add_process(20, None, made(20), &guest());
+    shows_event_ports(&rt, &procs, (false, false), 0);
+    procs.set_debug_port(20, key(1), made(4));
+    shows_event_ports(&rt, &procs, (true, false), 1);
+    procs.set_exception_port(20, key(1), made(4));
+    shows_event_ports(&rt, &procs, (true, true), 2);
+    shows_its_debug_port(&rt, &procs);
+    procs.let_go(20);
+    shows_event_ports(&rt, &procs, (false, false), 0);
+    Ok(())
+}
+
+// This process is the next to end, with this code.
+fn ends_next(rt: &impl Abort, procs: &Procs, number: u32, code: u32) {
+    let Some(next) = procs.least_doomed() else {
+        assert!(rt; false);
+        return;
+    };
+    assert!(rt; (next.number, next.code) == (number, code));
+}
+
+// The codes with which processes 28 and 20 are to end.
+fn shows_dooms(rt: &impl Abort, procs: &Procs, first: Option<u32>, second: Option<u32>)
+    requires first { is_some (process_at procs.now 28) ≡ true }
+    requires second { is_some (process_at procs.now 20) ≡ true }
+{
+    assert!(rt; procs.doom(28) == first);
+    assert!(rt; procs.doom(20) == second);
+}
+
+#[test]
+fn process_of_the_least_number_ends_next_with_its_first_code(rt: HostRuntime) -> Result<(), Fail> {
+    let mut procs = Procs::new(rt.alloc());
+    procs.reserve(2, 2)?;
+    procs.add_process(28, None, made(28), &guest());
+    procs.add_process(20, None, made(20), &guest());
+    procs.add_thread(32, 28, made(32));
+    procs.add_thread(24, 20, made(24));
+    assert!(rt; procs.least_doomed().is_none());
+    shows_dooms(&rt, &procs, None, None);
+    procs.set_doom(28, 5);
+    procs.set_doom(20, 6);
+    procs.set_doom(20, 7);
+    shows_dooms(&rt, &procs, Some(5), Some(6));
+    ends_next(&rt, &procs, 20, 6);
+    procs.end_thread(24);
+    ends_next(&rt, &procs, 28, 5);
+    Ok(())
+}

@@ -4,7 +4,7 @@ ghost use Rattle.lpc_waits.specs.Table.{row_of};
 
 use arrayvec::ArrayVec;
 use lpc_slots::Key;
-use lpc_waits::{Accepted, Wait, WaitKind, Waits};
+use lpc_waits::{Accepted, Chance, Raised, Wait, WaitKind, Waits};
 use std::process::Abort;
 use std::test::Fail;
 
@@ -214,5 +214,57 @@ fn waits_are_found_by_port_and_queue(rt: HostRuntime) -> Result<(), Fail> {
     waits.add(4, wait(WaitKind::Request, 7));
     waits.add(5, wait(WaitKind::Receive, 0));
     waits_are_found(&rt, &mut waits);
+    Ok(())
+}
+
+// An exception at its first chance.
+fn raised(code: u32) -> Raised {
+    Raised {
+        code,
+        handled: false,
+        chance: Chance::FirstDebug,
+    }
+}
+
+// The first event that was sent on port 1, and the first in queue 2 that isn't received, but for the marked ones.
+fn event_is_found(
+    rt: &impl Abort,
+    waits: &Waits,
+    marks: &[u32],
+    sent: Option<u32>,
+    unreceived: Option<u32>,
+) {
+    assert!(rt; waits.event_on(key(1), marks) == sent && waits.event_on(key(2), marks) == None);
+    assert!(rt; waits.unreceived_event_in(key(2), marks) == unreceived);
+    assert!(rt; waits.unreceived_event_in(key(1), marks) == None);
+}
+
+// Threads 4 and 5 wait for what is made of their events, which were sent on port 1 into queue 2.
+fn events_are_found(rt: &impl Abort, waits: &mut Waits)
+    requires { IsSome (row_of waits.now 4) }
+{
+    event_is_found(rt, waits, &[], Some(4), Some(4));
+    event_is_found(rt, waits, &[6, 4], Some(5), Some(5));
+    event_is_found(rt, waits, &[5, 4], None, None);
+    waits.receive(4);
+    event_is_found(rt, waits, &[], Some(4), Some(5));
+}
+
+// They are no requests, and name their ports as these do. Thread 6 waits for none.
+fn events_are_waits(rt: &impl Abort, waits: &Waits) {
+    assert!(rt; waits.request_on(key(1)) == None && waits.unreceived_request_in(key(2)) == None);
+    assert!(rt; waits.made_on(key(1)) == 3 && waits.is_named(key(2)));
+    assert!(rt; waits.raised(5) == Some(raised(8)) && waits.raised(6) == None);
+}
+
+#[test]
+fn events_are_found_until_they_are_marked(rt: HostRuntime) -> Result<(), Fail> {
+    let mut waits = Waits::new(rt.alloc());
+    waits.reserve(3)?;
+    waits.add(4, wait(WaitKind::Event(raised(7)), 1));
+    waits.add(5, wait(WaitKind::Event(raised(8)), 1));
+    waits.add(6, wait(WaitKind::Receive, 0));
+    events_are_waits(&rt, &waits);
+    events_are_found(&rt, &mut waits);
     Ok(())
 }

@@ -1,13 +1,14 @@
 -- What contracts see of the waits: the rows in the order of waiting.
 use Rattle.std.specs.Prelude.{ℕ, ◌+◌, ◌-◌, ◌==◌, ◌&&◌, ◌||◌, ◌++◌, ◌∷◌, Bool, true, false, List, [], Option, Some, None, is_some, not, option_and_then, option_map, if◌then◌else◌}
-use Rattle.lpc_base.specs.Rows.{change, differ_by, first, passes}
+use Rattle.lpc_base.specs.Rows.{change, differ_by, first, has, passes}
 use Rattle.lpc_slots.specs.Table.{is_key}
 use Rattle.lpc_slots.specs.declared.Key.{Key}
 use Rattle.lpc_waits.specs.declared.Accepted.{Accepted}
 use Rattle.lpc_waits.specs.declared.Offer.{Offer}
+use Rattle.lpc_waits.specs.declared.Raised.{Raised}
 use Rattle.lpc_waits.specs.declared.Wait.{Wait}
 use Rattle.lpc_waits.specs.declared.WaitKind.{WaitKind}
-use Rattle.lpc_waits.specs.declared.WaitKind.TheVariants.{Connect, Listen, Receive, Request}
+use Rattle.lpc_waits.specs.declared.WaitKind.TheVariants.{Connect, Event, Listen, Receive, Request}
 use Rattle.lpc_waits.specs.declared.WaitRow.{WaitRow}
 
 -- the rows, how many more go in without memory, and how many were ever made
@@ -52,6 +53,7 @@ is_receive Request = false
 is_receive Receive = true
 is_receive Listen = false
 is_receive Connect = false
+is_receive (Event raised) = false
 
 -- the wait is a listen
 abbrev pub is_listen : WaitKind → Bool
@@ -59,6 +61,7 @@ is_listen Request = false
 is_listen Receive = false
 is_listen Listen = true
 is_listen Connect = false
+is_listen (Event raised) = false
 
 -- the wait is a request, and a connect
 abbrev pub is_request : WaitKind → Bool
@@ -66,12 +69,38 @@ is_request Request = true
 is_request Receive = false
 is_request Listen = false
 is_request Connect = false
+is_request (Event raised) = false
 
 abbrev pub is_connect : WaitKind → Bool
 is_connect Request = false
 is_connect Receive = false
 is_connect Listen = false
 is_connect Connect = true
+is_connect (Event raised) = false
+
+-- the exception of whose event the wait is
+abbrev pub raised_in : WaitKind → Option Raised
+raised_in Request = None
+raised_in Receive = None
+raised_in Listen = None
+raised_in Connect = None
+raised_in (Event raised) = Some raised
+
+-- the wait is for what is made of an event
+abbrev pub is_event : WaitKind → Bool
+is_event Request = false
+is_event Receive = false
+is_event Listen = false
+is_event Connect = false
+is_event (Event raised) = true
+
+-- the wait is for the reply to what was sent: to a request, or to an event, which is sent as one
+abbrev pub is_asking : WaitKind → Bool
+is_asking kind = is_request kind || is_event kind
+
+-- the exception of whose event a thread waits
+abbrev pub raised_by : WaitTable → ℕ → Option Raised
+raised_by s tid = option_and_then (λ row. raised_in row.wait.kind) (row_of s tid)
 
 -- a connect of a process
 abbrev pub is_connect_of : ℕ → WaitRow → Bool
@@ -133,6 +162,25 @@ abbrev pub is_unreceived_request_in : Key → WaitRow → Bool
 is_unreceived_request_in queue row =
     is_request row.wait.kind && (is_key row.wait.queue queue && not row.wait.received)
 
+-- a thread is this one of the marked ones, and is among them
+abbrev pub is_mark : ℕ → ℕ → Bool
+is_mark tid mark = mark == tid
+
+abbrev pub is_marked : List ℕ → WaitRow → Bool
+is_marked marks row = has (is_mark row.thread) marks
+
+-- an event whose thread isn't among the marked ones
+abbrev pub is_unmarked_event : List ℕ → WaitRow → Bool
+is_unmarked_event marks row = is_event row.wait.kind && not (is_marked marks row)
+
+-- such an event that was sent on this port, and one on this queue that isn't received
+abbrev pub is_event_on : List ℕ → Key → WaitRow → Bool
+is_event_on marks port row = is_unmarked_event marks row && is_key row.wait.port port
+
+abbrev pub is_unreceived_event_in : List ℕ → Key → WaitRow → Bool
+is_unreceived_event_in marks queue row =
+    is_unmarked_event marks row && (is_key row.wait.queue queue && not row.wait.received)
+
 -- a connect that isn't accepted, and one that is on this queue
 abbrev pub is_offered : WaitRow → Bool
 is_offered row = is_connect row.wait.kind && not (is_some row.accepted)
@@ -156,7 +204,7 @@ begun s tid wait = record {
   made = s.made + 1;
 }
 
--- a row whose request is received
+-- a row whose request or event is received
 abbrev pub received : WaitRow → WaitRow
 received row = record row { wait = record row.wait { received = true } }
 

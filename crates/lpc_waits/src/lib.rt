@@ -6,13 +6,35 @@ ghost use Rattle.std.specs.List.{position};
 ghost use Rattle.lpc_base.specs.Room.{grown_room};
 ghost use Rattle.lpc_base.specs.Rows.{count, without, has};
 ghost use Rattle.lpc_base.specs.declared.limits.TheConstants.{MESSAGE_LIMIT};
-ghost use Rattle.lpc_waits.specs.Table.{accepted_of, accepted_port, accepted_port_in, begun, first_thread, is_accepted, is_accepted_at, is_accepted_on, is_connect, is_connect_of, is_made_at, is_made_on, is_of, is_offered, is_offered_to, is_offering, is_receive_on, is_receiver_at, is_request_on, is_taker_on, is_unreceived_request_in, is_wait_at, message_of, offer_of, received, row_of, takes, with_accepted, with_message, with_offer, with_row};
+ghost use Rattle.lpc_waits.specs.Table.{accepted_of, accepted_port, accepted_port_in, begun, first_thread, is_accepted, is_accepted_at, is_accepted_on, is_connect, is_connect_of, is_event, is_event_on, is_made_at, is_made_on, is_mark, is_of, is_offered, is_offered_to, is_offering, is_receive, is_receive_on, is_receiver_at, is_request, is_request_on, is_taker_on, is_unmarked_event, is_unreceived_event_in, is_unreceived_request_in, is_wait_at, message_of, offer_of, raised_by, raised_in, received, row_of, takes, with_accepted, with_message, with_offer, with_row};
 
 use arrayvec::ArrayVec;
 use lpc_base::{OutOfMemory, held, reserve_rows};
 use lpc_slots::Key;
 use std::alloc::Global;
 use std::marker::Model;
+
+/// A chance that an exception has at a port. The frame handlers of its thread come between the first and the second.
+#[derive(Clone, Copy, PartialEq, Eq)]
+pub enum Chance {
+    /// The first at the debug port.
+    FirstDebug,
+    /// The second at the debug port.
+    LastDebug,
+    /// The one at the exception port, behind which there is none.
+    LastException,
+}
+
+/// An exception that a thread raised, as far as it has come.
+#[derive(Clone, Copy, PartialEq, Eq)]
+pub struct Raised {
+    /// Its code.
+    pub code: u32,
+    /// The frame handlers of its thread handle it, where it comes to them.
+    pub handled: bool,
+    /// The chance that it has now, of which its event tells.
+    pub chance: Chance,
+}
 
 /// What a thread waits for.
 #[derive(Clone, Copy, PartialEq, Eq)]
@@ -25,6 +47,8 @@ pub enum WaitKind {
     Listen,
     /// The connection that it asked for.
     Connect,
+    /// What is made of the event of the exception that it raised.
+    Event(Raised),
 }
 
 impl WaitKind {
@@ -35,17 +59,45 @@ impl WaitKind {
         match self {
             WaitKind::Receive => true,
             WaitKind::Listen => with_listens,
-            WaitKind::Request | WaitKind::Connect => false,
+            WaitKind::Request | WaitKind::Connect | WaitKind::Event(_) => false,
         }
+    }
+
+    // A wait of this kind is a request.
+    fn is_request(self) -> bool
+        ensures { result ≡ is_request self }
+    {
+        matches!(self, WaitKind::Request)
+    }
+
+    // A wait of this kind is a receive.
+    fn is_receive(self) -> bool
+        ensures { result ≡ is_receive self }
+    {
+        matches!(self, WaitKind::Receive)
     }
 
     // A wait of this kind is a connect.
     fn is_connect(self) -> bool
         ensures { result ≡ is_connect self }
     {
+        matches!(self, WaitKind::Connect)
+    }
+
+    // A wait of this kind is for what is made of an event.
+    fn is_event(self) -> bool
+        ensures { result ≡ is_event self }
+    {
+        self.raised().is_some()
+    }
+
+    // The exception of whose event a wait of this kind is.
+    fn raised(self) -> Option<Raised>
+        ensures { result ≡ raised_in self }
+    {
         match self {
-            WaitKind::Connect => true,
-            WaitKind::Request | WaitKind::Receive | WaitKind::Listen => false,
+            WaitKind::Event(raised) => Some(raised),
+            WaitKind::Request | WaitKind::Receive | WaitKind::Listen | WaitKind::Connect => None,
         }
     }
 }
@@ -59,12 +111,12 @@ pub struct Wait {
     pub kind: WaitKind,
     /// The port on which the call was made; for a connect its client port.
     pub port: Key,
-    /// The port whose queue the request or the connection request entered, or on whose queue a receive or a listen
-    /// waits.
+    /// The port whose queue the request, the event or the connection request entered, or on whose queue a receive or a
+    /// listen waits.
     pub queue: Key,
-    /// The identifier of the request or the connection request; 0 for a receive and a listen.
+    /// The identifier of the request, the event or the connection request; 0 for a receive and a listen.
     pub identifier: u32,
-    /// A thread took the request or the connection request from its queue.
+    /// A thread took the request, the event or the connection request from its queue.
     pub received: bool,
 }
 
@@ -217,7 +269,7 @@ impl Waits {
         Some(row.wait)
     }
 
-    /// Marks the request or the connection request of a waiting thread as received.
+    /// Notes that the request, the event or the connection request of a waiting thread is received.
     pub fn receive(&mut self, tid: u32)
         requires waits { IsSome (row_of self.old tid) }
         ensures table { self.new ≡ with_row self.old tid received }
@@ -299,7 +351,7 @@ impl Waits {
         ensures { result ≡ first_thread (is_receive_on port) self.now }
     {
         for row in &self.rows {
-            if row.wait.kind == WaitKind::Receive && row.wait.port == port {
+            if row.wait.kind.is_receive() && row.wait.port == port {
                 return Some(row.thread);
             }
         }
@@ -312,7 +364,7 @@ impl Waits {
         ensures { result ≡ first_thread (is_request_on port) self.now }
     {
         for row in &self.rows {
-            if row.wait.kind == WaitKind::Request && row.wait.port == port {
+            if row.wait.kind.is_request() && row.wait.port == port {
                 return Some(row.thread);
             }
         }
@@ -325,8 +377,46 @@ impl Waits {
         ensures { result ≡ first_thread (is_unreceived_request_in queue) self.now }
     {
         for row in &self.rows {
-            if row.wait.kind == WaitKind::Request && row.wait.queue == queue && !row.wait.received {
+            if row.wait.kind.is_request() && row.wait.queue == queue && !row.wait.received {
                 return Some(row.thread);
+            }
+        }
+        None
+    }
+
+    /// The thread that waits with an event sent on a port, received or not, and isn't among the marked ones, the one
+    /// that has waited longest: None exactly where there is none.
+    pub fn event_on(&self, port: Key, marks: &[u32]) -> Option<u32>
+        ensures { result ≡ first_thread (is_event_on marks.now port) self.now }
+    {
+        for row in &self.rows {
+            if row.wait.port == port && is_unmarked_event(row, marks) {
+                return Some(row.thread);
+            }
+        }
+        None
+    }
+
+    /// The thread that waits with an event on a queue that isn't received, and isn't among the marked ones, the one that
+    /// has waited longest: None exactly where there is none.
+    pub fn unreceived_event_in(&self, queue: Key, marks: &[u32]) -> Option<u32>
+        ensures { result ≡ first_thread (is_unreceived_event_in marks.now queue) self.now }
+    {
+        for row in &self.rows {
+            if row.wait.queue == queue && !row.wait.received && is_unmarked_event(row, marks) {
+                return Some(row.thread);
+            }
+        }
+        None
+    }
+
+    /// The exception of whose event a thread waits: None exactly where the thread doesn't wait for one.
+    pub fn raised(&self, tid: u32) -> Option<Raised>
+        ensures raised { result ≡ raised_by self.now tid }
+    {
+        for row in &self.rows {
+            if row.thread == tid {
+                return row.wait.kind.raised();
             }
         }
         None
@@ -370,7 +460,7 @@ impl Waits {
     {
         self.rows
             .iter()
-            .filter(|row| row.wait.kind == WaitKind::Connect && row.wait.process == process)
+            .filter(|row| row.wait.kind.is_connect() && row.wait.process == process)
             .count()
     }
 
@@ -455,6 +545,25 @@ impl Waits {
             None => unreachable!(),
         }
     }
+}
+
+// The thread is among the marked ones.
+fn is_mark(marks: &[u32], tid: u32) -> bool
+    ensures { result ≡ has (is_mark tid) marks.now }
+{
+    for mark in marks {
+        if *mark == tid {
+            return true;
+        }
+    }
+    false
+}
+
+// The row is of an event whose thread isn't among the marked ones.
+fn is_unmarked_event(row: &WaitRow, marks: &[u32]) -> bool
+    ensures { result ≡ is_unmarked_event marks.now row.now }
+{
+    row.wait.kind.is_event() && !is_mark(marks, row.thread)
 }
 
 // The row is of a connect that was accepted.

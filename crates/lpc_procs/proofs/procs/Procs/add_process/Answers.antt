@@ -1,7 +1,8 @@
-use Rattle.std.proofs.Common.{refl, sym, ◌∙◌}
+use Rattle.std.proofs.Common.{None, refl, sym, ◌∙◌, arith}
 use Rattle.lpc_base.proofs.RowMaps.{push-map}
+use Rattle.lpc_base.proofs.RowWords.{count-push}
 use Rattle.lpc_procs.specs.declared.rows.ProcessRow.{ProcessRow}
-use Rattle.lpc_procs.specs.Kept.{has_number, process_name, used_rows}
+use Rattle.lpc_procs.specs.Kept.{has_number, is_doomed_row, process_name, used_rows}
 use Rattle.lpc_procs.specs.Numbered.{numbers}
 use Rattle.lpc_procs.proofs.Placed.{names-new, numbers-has}
 use Rattle.lpc_procs.proofs.Stored.{kept-process, process-unused}
@@ -10,7 +11,7 @@ use Rattle.lpc_procs.proofs.procs.Procs.add_process.Goals as goal
 pub add-requires-clause-new : goal.add-requires-clause-new
 add-requires-clause-new c =
     let new = rw (← c.self.view_is) at c.requires.new in
-    names-new process_name (has_number c.args.pid) c.args.pid (λ p. refl) c.self.inside.processes.items c.self.inside.process_names.entries c.self.invariant.processes_named (process-unused c.args.pid (numbers c.self.inside.used_processes.entries) c.self.inside.processes.items new c.self.invariant.processes_used)
+    names-new process_name (has_number c.args.pid) c.args.pid (λ p. refl) c.self.inside.processes.items c.self.inside.process_names.entries c.self.invariant.all.processes_named (process-unused c.args.pid (numbers c.self.inside.used_processes.entries) c.self.inside.processes.items new c.self.invariant.all.processes_used)
 
 pub add-requires-2-clause-new : goal.add-requires-2-clause-new
 add-requires-2-clause-new c =
@@ -19,6 +20,9 @@ add-requires-2-clause-new c =
 
 pub invariant_of-self : goal.invariant_of-self
 invariant_of-self c =
-    let row : ProcessRow = record { number = c.args.pid; maker = c.args.maker; birth = c.args.birth; token = c.copy.result } in
+    let row : ProcessRow = record { number = c.args.pid; maker = c.args.maker; birth = c.args.birth; token = c.copy.result; debug_port = None; exception_port = None; doom = None } in
     let new = rw (← c.self.view_is) at c.requires.new in
-    rw (c.push_reserved.ensures.items, c.add.ensures.entries, c.add-2.ensures.entries, push-map) (kept-process c.self.inside.processes.items c.self.inside.threads.items (numbers c.self.inside.used_processes.entries) (used_rows c.self.inside.used_threads.entries) c.self.inside.process_names.entries c.self.inside.thread_names.entries c.self.inside.alive c.self.inside.registered c.self.invariant row new)
+    record {
+      all = rw (c.push_reserved.ensures.items, c.add.ensures.entries, c.add-2.ensures.entries, push-map) (kept-process c.self.inside.processes.items c.self.inside.threads.items (numbers c.self.inside.used_processes.entries) (used_rows c.self.inside.used_threads.entries) c.self.inside.process_names.entries c.self.inside.thread_names.entries c.self.inside.alive c.self.inside.registered c.self.invariant.all row c.requires.number.below new);
+      doomed = rw (c.push_reserved.ensures.items) (c.self.invariant.doomed ∙ omega (arith, count-push is_doomed_row c.self.inside.processes.items (record { row = row; live = 0 })));
+    }

@@ -7,7 +7,10 @@ use Rattle.lpc_procs.proofs.procs.Procs.free_process_born.Goals as goal
 
 pub invariant_of-self : goal.invariant_of-self
 invariant_of-self c =
-    rw (c.remove_processes.ensures.rows, c.remove_name.ensures.entries) (kept-processes_left c.self.inside.processes.items c.self.inside.threads.items (numbers c.self.inside.used_processes.entries) (used_rows c.self.inside.used_threads.entries) c.self.inside.process_names.entries c.self.inside.thread_names.entries c.self.inside.alive c.self.inside.registered c.self.invariant c.args.birth)
+    record {
+      all = rw (c.remove_processes.ensures.rows, c.remove_name.ensures.entries) (kept-processes_left c.self.inside.processes.items c.self.inside.threads.items (numbers c.self.inside.used_processes.entries) (used_rows c.self.inside.used_threads.entries) c.self.inside.process_names.entries c.self.inside.thread_names.entries c.self.inside.alive c.self.inside.registered c.self.invariant.all c.args.birth);
+      doomed = rw (c.deref.ensures.value) at c.dooms-self-inside.ensures;
+    }
 
 pub returns-clause-table : goal.returns-clause-table
 returns-clause-table c = rw (← c.self.view_is, c.remove_processes.ensures.rows, rows-less) refl

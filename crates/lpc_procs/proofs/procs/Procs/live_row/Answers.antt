@@ -11,7 +11,7 @@ returns-in-Some c =
     let ts = c.self.inside.threads.items in
     let row = c.index.result.now in
     let found = row_is ts c.in-Some.place c.args.tid row (sym (rw (← c.self.view_is) at c.position.ensures) ∙ c.in-Some.is) c.index.ensures in
-    let one = first-one (is_live_thread c.args.tid) c.args.tid (λ x off. rw off refl) ts row c.self.invariant.rows.single found.is_first in
+    let one = first-one (is_live_thread c.args.tid) c.args.tid (λ x off. rw off refl) ts row c.self.invariant.all.rows.single found.is_first in
     record { row = rw (← c.self.view_is) (c.live_caller.ensures ∙ sym (ap (option_map caller_of) one ∙ live-told c.args.tid row found.own)) }
 
 pub returns-in-None : goal.returns-in-None

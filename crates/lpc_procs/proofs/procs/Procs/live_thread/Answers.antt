@@ -10,7 +10,7 @@ returns-in-Some c =
     let ts = c.self.inside.threads.items in
     let row = c.index.result.now in
     let found = row_is ts c.in-Some.place c.args.client.thread row (sym (rw (← c.self.view_is) at c.position.ensures) ∙ c.in-Some.is) c.index.ensures in
-    let one = first-one (is_live_client c.args.client) c.args.client.thread (λ x off. rw off refl) ts row c.self.invariant.rows.single found.is_first in
+    let one = first-one (is_live_client c.args.client) c.args.client.thread (λ x off. rw off refl) ts row c.self.invariant.all.rows.single found.is_first in
     record { live = rw (← c.self.view_is) (c.is_client.ensures ∙ sym (ap is_some one ∙ some-if (is_live_client c.args.client row) row)) }
 
 pub returns-in-None : goal.returns-in-None

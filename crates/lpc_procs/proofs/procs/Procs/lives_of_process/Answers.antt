@@ -11,10 +11,10 @@ use Rattle.lpc_procs.proofs.procs.Procs.lives_of_process.Goals as goal
 pub returns-clause-count : goal.returns-clause-count
 returns-clause-count c =
     let one = rw (← c.self.view_is) at c.requires.one in
-    rw (← c.self.view_is, c.lives_of_process.ensures, c.deref.ensures.value) (sym (lives-of-one c.self.inside.threads.items c.args.birth c.self.inside.processes.items one c.self.invariant.counts))
+    rw (← c.self.view_is, c.lives_of_process.ensures, c.deref.ensures.value) (sym (lives-of-one c.self.inside.threads.items c.args.birth c.self.inside.processes.items one c.self.invariant.all.counts))
 
 pub returns-clause-bound : goal.returns-clause-bound
 returns-clause-bound c =
     let one = rw (← c.self.view_is) at c.requires.one in
-    rw (← c.self.view_is, c.lives_of_process.ensures, c.deref.ensures.value) (subst (λ (n : ℕ). n ≤ length c.self.inside.threads.items) (lives-of-one c.self.inside.threads.items c.args.birth c.self.inside.processes.items one c.self.invariant.counts)
+    rw (← c.self.view_is, c.lives_of_process.ensures, c.deref.ensures.value) (subst (λ (n : ℕ). n ≤ length c.self.inside.threads.items) (lives-of-one c.self.inside.threads.items c.args.birth c.self.inside.processes.items one c.self.invariant.all.counts)
     (count-bound (λ (t : ThreadRow). t.live && has (λ p. is_process_born c.args.birth p && is_process t.process p) (process_rows c.self.inside.processes.items)) c.self.inside.threads.items))

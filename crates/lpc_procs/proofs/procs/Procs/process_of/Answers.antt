@@ -11,4 +11,4 @@ returns-clause-process c = rw (← c.self.view_is) (c.get.ensures ∙ sym (used-
 
 pub returns-clause-row : goal.returns-clause-row
 returns-clause-row c =
-    rw (← c.self.view_is, c.get.ensures, ← used-at c.args.tid c.self.inside.used_threads.entries) (process-noted c.args.tid (used_rows c.self.inside.used_threads.entries) c.self.inside.threads.items (first (is_thread c.args.tid) c.self.inside.threads.items) c.self.invariant.rows.noted refl)
+    rw (← c.self.view_is, c.get.ensures, ← used-at c.args.tid c.self.inside.used_threads.entries) (process-noted c.args.tid (used_rows c.self.inside.used_threads.entries) c.self.inside.threads.items (first (is_thread c.args.tid) c.self.inside.threads.items) c.self.invariant.all.rows.noted refl)

@@ -1,0 +1,40 @@
+use Rattle.std.proofs.Common.{refl, sym, arith}
+use Rattle.lpc_procs.specs.Kept.{is_doomed_row, used_rows}
+use Rattle.lpc_procs.specs.Numbered.{numbers}
+use Rattle.lpc_procs.specs.Procs.{doomed}
+use Rattle.lpc_procs.proofs.Events.{count-written, doomed-counts}
+use Rattle.lpc_procs.proofs.ProcessRows.{kept-row, process_is, row-changed, with_row}
+use Rattle.lpc_procs.proofs.Stored.{dooms-few}
+use Rattle.lpc_procs.proofs.procs.Procs.set_doom.Goals as goal
+
+pub overflow_sub-others : goal.overflow_sub-others
+overflow_sub-others c =
+    let is = sym (rw (← c.self.view_is) at c.process_place-place.ensures) in
+    let ps = c.self.inside.processes.items in
+    let p = c.index_mut-process.result.now in
+    let found = process_is ps c.process_place-place.result c.args.pid p is c.index_mut-process.ensures.value in
+    omega (arith, c.self.invariant.doomed, c.doomed_count.ensures.count, doomed-counts ps c.process_place-place.result p found.here)
+
+pub overflow_add-self : goal.overflow_add-self
+overflow_add-self c =
+    let few = dooms-few c.self.inside.processes.items c.self.inside.threads.items (numbers c.self.inside.used_processes.entries) (used_rows c.self.inside.used_threads.entries) c.self.inside.process_names.entries c.self.inside.thread_names.entries c.self.inside.alive c.self.inside.registered c.self.inside.dooms c.self.invariant in
+    let last = c.doomed_count-2.ensures.most in
+    omega (arith, few, last)
+
+pub invariant_of-self : goal.invariant_of-self
+invariant_of-self c =
+    let is = sym (rw (← c.self.view_is) at c.process_place-place.ensures) in
+    let ps = c.self.inside.processes.items in
+    let p = c.index_mut-process.result.now in
+    let found = process_is ps c.process_place-place.result c.args.pid p is c.index_mut-process.ensures.value in
+    let written = count-written is_doomed_row ps c.process_place-place.result p (with_row (doomed c.args.code) p) found.here in
+    record {
+      all = rw (c.first_code.ensures) (kept-row (doomed c.args.code) c.self.inside.processes.items c.process_place-place.result c.args.pid c.index_mut-process.result.now is c.index_mut-process.ensures.value c.self.inside.threads.items (numbers c.self.inside.used_processes.entries) (used_rows c.self.inside.used_threads.entries) c.self.inside.process_names.entries c.self.inside.thread_names.entries c.self.inside.alive c.self.inside.registered c.self.invariant.all (record { number = λ p. refl; birth = λ p. refl }));
+      doomed = rw (c.first_code.ensures) (omega (arith, c.self.invariant.doomed, written, c.doomed_count-2.ensures.count, doomed-counts ps c.process_place-place.result p found.here, c.doomed_count.ensures.count));
+    }
+
+pub returns : goal.returns
+returns c =
+    let is = sym (rw (← c.self.view_is) at c.process_place-place.ensures) in
+    let changed = row-changed (doomed c.args.code) c.self.inside.processes.items c.process_place-place.result c.args.pid c.index_mut-process.result.now is c.index_mut-process.ensures.value c.self.inside.threads.items (numbers c.self.inside.used_processes.entries) (used_rows c.self.inside.used_threads.entries) c.self.inside.process_names.entries c.self.inside.thread_names.entries c.self.inside.alive c.self.inside.registered c.self.invariant.all in
+    record { table = rw (← c.self.view_is, c.first_code.ensures, ← changed) refl }
