@@ -5,7 +5,8 @@ use Rattle.lpc_sid.specs.WellKnown.{sid}
 use Rattle.lpc_tokens.specs.declared.qos.Qos.{Qos}
 use Rattle.lpc_tokens.specs.declared.qos.Tracking.TheVariants.{Dynamic, Static}
 use Rattle.lpc_model.specs.declared.fault.LineFault.TheVariants as fault
-use Rattle.lpc_model.specs.Lines.{boot, thread, token, dir, link, run, create_port, connect_port, listen_port, accept_connect_port, complete_connect_port, request_port, request_wait_reply_port, reply_port, reply_wait_receive_port, create_section, map_view_of_section, unmap_view_of_section, read_virtual_memory, write_virtual_memory, read_request_data, write_request_data, impersonate_client_of_port, set_information_thread, open_thread_token, open_process_token, query_information_token}
+use Rattle.lpc_model.specs.declared.line.ProcArg.TheVariants.{By, Current}
+use Rattle.lpc_model.specs.Lines.{boot, thread, token, dir, link, run, create_port, connect_port, listen_port, accept_connect_port, complete_connect_port, request_port, request_wait_reply_port, reply_port, reply_wait_receive_port, create_section, map_view_of_section, unmap_view_of_section, read_virtual_memory, write_virtual_memory, read_request_data, write_request_data, impersonate_client_of_port, set_information_thread, open_thread_token, open_process_token, query_information_token, set_information_process, raise}
 use Rattle.lpc_model.specs.Grammar.{read_line}
 
 -- the quality of service of a connect that asks for none
@@ -83,6 +84,10 @@ pub record WorkedLines : Type 0 where
   pub token_of_a_thread : read_line (codes "24 NtOpenThreadToken") ≡ Ok (Some (run 24 open_thread_token))
   pub token_of_a_process : read_line (codes "24 NtOpenProcessToken ") ≡ Ok (Some (run 24 open_process_token))
   pub class_of_a_token : read_line (codes "24 NtQueryInformationToken 4 0x9") ≡ Ok (Some (run 24 (query_information_token 4 9)))
+  pub debug_port_of_a_process : read_line (codes "24 NtSetInformationProcess 8 0x7 4") ≡ Ok (Some (run 24 (set_information_process (By 8) 7 4)))
+  pub exception_port_of_ones_own : read_line (codes "24 NtSetInformationProcess self 8 4") ≡ Ok (Some (run 24 (set_information_process Current 8 4)))
+  pub exception_that_frames_handle : read_line (codes "36 raise 0 handled") ≡ Ok (Some (run 36 (raise 0 true)))
+  pub exception_that_they_do_not : read_line (codes "36 raise 0xC0000005 unhandled") ≡ Ok (Some (run 36 (raise 3221225477 false)))
   -- lines that say nothing
   pub comment : read_line (codes "# reboot 1 2") ≡ Ok None
   pub comment_with_a_bad_byte : read_line (35 ∷ 200 ∷ []) ≡ Ok None
@@ -91,7 +96,9 @@ pub record WorkedLines : Type 0 where
   pub tabulator_is_no_space : read_line (codes "24" ++ 9 ∷ codes "NtReplyPort") ≡ Err fault.Byte
   pub blanks_and_a_bad_byte : read_line (32 ∷ 127 ∷ []) ≡ Err fault.Byte
   pub no_directive : read_line (codes "reboot 1 2") ≡ Err fault.Word
+  pub raise_of_no_thread : read_line (codes "raise 0 handled") ≡ Err fault.Word
   pub no_call : read_line (codes "24 NtFoo") ≡ Err fault.Call
+  pub raise_in_capitals : read_line (codes "36 RAISE 0 handled") ≡ Err fault.Call
   pub directory_without_a_path : read_line (codes "dir") ≡ Err fault.Count
   pub directory_of_two_paths : read_line (codes "dir \\A \\B") ≡ Err fault.Count
   pub link_to_nothing : read_line (codes "link \\A") ≡ Err fault.Count
@@ -122,6 +129,7 @@ pub record WorkedLines : Type 0 where
   pub dash_in_a_name : read_line (codes "token a-b 5") ≡ Err fault.Word
   pub name_of_33_letters : read_line (codes "boot 20 24 abcdefghijklmnopqrstuvwxyzABCDEFG") ≡ Err fault.Word
   pub no_null : read_line (codes "24 NtSetInformationThread 5 0") ≡ Err fault.Word
+  pub neither_handled_nor_unhandled : read_line (codes "36 raise 0 Handled") ≡ Err fault.Word
   pub view_before_the_info : read_line (codes "36 NtConnectPort \\P - w:4:0 x") ≡ Err fault.Word
   pub neither_accept_nor_refuse : read_line (codes "24 NtAcceptConnectPort 7 d: Accept w") ≡ Err fault.Word
   pub view_of_four_numbers : read_line (codes "24 NtAcceptConnectPort 7 d: refuse w:4:0:0:0") ≡ Err fault.Word
@@ -136,6 +144,10 @@ pub record WorkedLines : Type 0 where
   pub opening_of_self : read_line (codes "24 NtOpenProcessToken self") ≡ Err fault.Count
   pub impersonation_of_no_message : read_line (codes "24 NtImpersonateClientOfPort 8") ≡ Err fault.Count
   pub token_without_a_class : read_line (codes "24 NtQueryInformationToken 4") ≡ Err fault.Count
+  pub port_without_a_class : read_line (codes "24 NtSetInformationProcess self 4") ≡ Err fault.Count
+  pub process_of_two_ports : read_line (codes "24 NtSetInformationProcess self 7 4 8") ≡ Err fault.Count
+  pub raise_of_a_code_alone : read_line (codes "36 raise 0") ≡ Err fault.Count
+  pub raise_of_three_words : read_line (codes "36 raise x y handled") ≡ Err fault.Count
   pub thread_alone : read_line (codes "24") ≡ Err fault.Count
   pub leading_zero_of_a_handle : read_line (codes "24 NtReplyPort 08 d:") ≡ Err fault.Number
   pub leading_zero_of_a_process : read_line (codes "boot 020 24") ≡ Err fault.Number
@@ -156,6 +168,10 @@ pub record WorkedLines : Type 0 where
   pub number_before_the_name : read_line (codes "boot 20 024 a-b") ≡ Err fault.Number
   pub class_before_the_word : read_line (codes "24 NtSetInformationThread x y") ≡ Err fault.Number
   pub class_by_a_letter : read_line (codes "24 NtQueryInformationToken 4 x") ≡ Err fault.Number
+  pub process_by_another_word : read_line (codes "24 NtSetInformationProcess Self x y") ≡ Err fault.Number
+  pub class_before_the_port : read_line (codes "24 NtSetInformationProcess self debug -") ≡ Err fault.Number
+  pub port_of_self : read_line (codes "24 NtSetInformationProcess 8 7 self") ≡ Err fault.Number
+  pub code_before_the_word : read_line (codes "36 raise c0000005 x") ≡ Err fault.Number
   pub odd_number_of_digits : read_line (codes "24 NtReplyPort 4 d:4") ≡ Err fault.Hex
   pub second_colon_of_a_reply : read_line (codes "24 NtReplyPort 4 r:1.2.3:41:42") ≡ Err fault.Hex
   pub odd_number_of_digits_of_info : read_line (codes "36 NtConnectPort \\P - - d:0") ≡ Err fault.Hex

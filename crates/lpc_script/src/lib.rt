@@ -2,6 +2,7 @@
 #![tactic(auto)]
 
 mod access;
+mod exceptions;
 mod laws;
 mod line_buffer;
 mod read;

@@ -3,8 +3,8 @@ ghost use Rattle.std.specs.Prelude.{◌≡◌, ◌≤◌, ◌&&◌, codes, lengt
 ghost use Rattle.std.specs.List.{list_all};
 ghost use Rattle.std.specs.Option.{option_copied, option_map};
 ghost use Rattle.lpc_base.specs.declared.limits.TheConstants.{LINE_LIMIT};
-ghost use Rattle.lpc_model.specs.declared.entry.CallName.TheVariants.{NtAcceptConnectPort, NtConnectPort, NtCreatePort, NtCreateProcess, NtCreateSection, NtCreateThread, NtDuplicateObject, NtImpersonateClientOfPort, NtMapViewOfSection, NtQueryInformationToken, NtReadRequestData, NtReadVirtualMemory, NtSetInformationThread, NtTerminateProcess, NtTerminateThread, NtUnmapViewOfSection, NtWriteRequestData, NtWriteVirtualMemory};
-ghost use Rattle.lpc_model.specs.declared.entry.Word.TheVariants.{Boot, Resident, Thread, Token};
+ghost use Rattle.lpc_model.specs.declared.entry.CallName.TheVariants.{NtAcceptConnectPort, NtConnectPort, NtCreatePort, NtCreateProcess, NtCreateSection, NtCreateThread, NtDuplicateObject, NtImpersonateClientOfPort, NtMapViewOfSection, NtQueryInformationToken, NtReadRequestData, NtReadVirtualMemory, NtSetInformationProcess, NtSetInformationThread, NtTerminateProcess, NtTerminateThread, NtUnmapViewOfSection, NtWriteRequestData, NtWriteVirtualMemory};
+ghost use Rattle.lpc_model.specs.declared.entry.Word.TheVariants.{Boot, Thread, Token, Resident};
 ghost use Rattle.lpc_model.specs.Lines.{call_of, line_of};
 ghost use Rattle.lpc_model.specs.Words.{is_id, words};
 ghost use Rattle.lpc_model.specs.Grammar.{call_words, directive_words, has_call_ids, has_ids};
@@ -12,6 +12,7 @@ ghost use Rattle.lpc_model.specs.Grammar as grammar;
 ghost use Rattle.lpc_words.specs.Gives.{Gives};
 
 use crate::access::given_dacl;
+use crate::exceptions::raise;
 use crate::scratch::Scratch;
 use crate::tokens::{process_and_token, quality, token_words};
 use lpc_base::limits::LINE_LIMIT;
@@ -461,6 +462,22 @@ fn query_information_token<'a>(text: &[u8]) -> Result<Call<'a>, LineFault>
     Ok(Call::QueryInformationToken { handle, class })
 }
 
+#[tactic(auto, unfolding(lpc_model::specs::Grammar::call_words))]
+fn set_information_process<'a>(text: &[u8]) -> Result<Call<'a>, LineFault>
+    ensures value { Gives call_of result (call_words NtSetInformationProcess (words text.now)) }
+    ensures ids { IfOk result (λ call. IsTrue (has_call_ids (call_of call))) }
+{
+    let (word, class, port) = three_words(text)?;
+    let process = target(word)?;
+    let class = number(class)?;
+    let port = number(port)?;
+    Ok(Call::SetInformationProcess {
+        process,
+        class,
+        port,
+    })
+}
+
 /// A call by the words behind its name.
 #[tactic(auto, unfolding(lpc_model::specs::Grammar::call_words))]
 fn call<'a>(name: CallName, text: &'a [u8], scratch: &'a mut Scratch) -> Result<Call<'a>, LineFault>
@@ -531,6 +548,8 @@ fn call<'a>(name: CallName, text: &'a [u8], scratch: &'a mut Scratch) -> Result<
             Ok(Call::OpenProcessToken)
         }
         CallName::NtQueryInformationToken => query_information_token(text),
+        CallName::NtSetInformationProcess => set_information_process(text),
+        CallName::Raise => raise(text),
     }
 }
 

@@ -3,6 +3,8 @@
 #![tactic(auto)]
 
 #[cfg(test)]
+mod exceptions;
+#[cfg(test)]
 mod line_buffer;
 #[cfg(test)]
 mod memory;

@@ -1,7 +1,7 @@
 -- Entries of one line with the same text are the same.
-use Rattle.std.proofs.Common.{◌≡◌, refl, sym, ap, ◌∙◌, ℕ, zero, suc, ◌==◌, ◌<◌, ◌^◌, true, cond, ◌&&◌, List, [], ◌∷◌, ◌++◌, append_assoc, drop, arith}
+use Rattle.std.proofs.Common.{◌≡◌, refl, sym, ap, ◌∙◌, ℕ, zero, suc, ◌==◌, ◌<◌, ◌^◌, Bool, true, false, cond, ◌&&◌, ◌||◌, List, [], ◌∷◌, ◌++◌, append_assoc, drop, arith}
 use Rattle.std.specs.Prelude.{◌≢◌, codes, decimal}
-use Rattle.std.proofs.lemmas.Bool.{and_parts}
+use Rattle.std.proofs.lemmas.Bool.{and_parts, or_parts}
 use Rattle.std.proofs.lemmas.Bool.Decides.{nat_tests}
 use Rattle.std.proofs.lemmas.Fmt.{decimal_injective}
 use Rattle.std.proofs.lemmas.List.{append_cancel_left}
@@ -10,7 +10,7 @@ use Rattle.lpc_model.specs.Text.{eight_digits, call_text, name_text, value_text,
 use Rattle.lpc_model.specs.TextLaws.{sort_of, is_word, is_of_sort, is_sorted_field, is_regular, TextIsUnique}
 use Rattle.lpc_base.specs.declared.status.Status.{Status}
 use Rattle.lpc_model.specs.declared.entry.CallName.{CallName}
-use Rattle.lpc_model.specs.declared.entry.CallName.TheVariants.{NtCreatePort, NtConnectPort, NtListenPort, NtAcceptConnectPort, NtCompleteConnectPort, NtRequestPort, NtRequestWaitReplyPort, NtReplyPort, NtReplyWaitReceivePort, NtRegisterThreadTerminatePort, NtClose, NtDuplicateObject, NtQueryObject, NtCreateProcess, NtCreateThread, NtTerminateProcess, NtTerminateThread, NtCreateSection, NtMapViewOfSection, NtUnmapViewOfSection, NtReadVirtualMemory, NtWriteVirtualMemory, NtReadRequestData, NtWriteRequestData, NtImpersonateClientOfPort, NtSetInformationThread, NtOpenThreadToken, NtOpenProcessToken, NtQueryInformationToken}
+use Rattle.lpc_model.specs.declared.entry.CallName.TheVariants.{NtCreatePort, NtConnectPort, NtListenPort, NtAcceptConnectPort, NtCompleteConnectPort, NtRequestPort, NtRequestWaitReplyPort, NtReplyPort, NtReplyWaitReceivePort, NtRegisterThreadTerminatePort, NtClose, NtDuplicateObject, NtQueryObject, NtCreateProcess, NtCreateThread, NtTerminateProcess, NtTerminateThread, NtCreateSection, NtMapViewOfSection, NtUnmapViewOfSection, NtReadVirtualMemory, NtWriteVirtualMemory, NtReadRequestData, NtWriteRequestData, NtImpersonateClientOfPort, NtSetInformationThread, NtOpenThreadToken, NtOpenProcessToken, NtQueryInformationToken, NtSetInformationProcess, Raise}
 use Rattle.lpc_model.specs.declared.entry.Entry.{Entry}
 use Rattle.lpc_model.specs.declared.entry.Entry.TheVariants.{Answer, Waits, Wakes, Busy, NoThread, Died, Directive}
 use Rattle.lpc_model.specs.declared.entry.Field.{Field}
@@ -93,7 +93,11 @@ kind_of (NoThread tid) = 4
 kind_of (Died tid status) = 5
 kind_of (Directive word status) = 6
 
-call_begins : (call : CallName) → first (call_text call) ≡ 78
+-- as `busy` and `nothread` begin, and no name of a call
+abbrev begins_state : ℕ → Bool
+begins_state b = (b == 98) || (b == 110)
+
+call_begins : (call : CallName) → begins_state (first (call_text call)) ≡ false
 call_begins NtCreatePort = refl
 call_begins NtConnectPort = refl
 call_begins NtListenPort = refl
@@ -123,6 +127,8 @@ call_begins NtSetInformationThread = refl
 call_begins NtOpenThreadToken = refl
 call_begins NtOpenProcessToken = refl
 call_begins NtQueryInformationToken = refl
+call_begins NtSetInformationProcess = refl
+call_begins Raise = refl
 
 -- a thread's number stands first
 record IsNumbered (a : ℕ) : Type 0 where
@@ -139,13 +145,25 @@ numbered tid h =
       dash = figures_begin (decimal tid) 45 figures refl (λ e. omega arith);
     }
 
-told_answer : (a b c : ℕ) → IsNumbered a → b ≡ 78 → c ≢ 119 → told a b c ≡ 0
+told_answer : (a b c : ℕ) → IsNumbered a → begins_state b ≡ false → c ≢ 119 → told a b c ≡ 0
 told_answer a b c h e w =
-    let star = h.star in let tilde = h.tilde in let dash = h.dash in grind (arith, nat_tests)
+    let star = h.star in
+    let tilde = h.tilde in
+    let dash = h.dash in
+    let neither = or_parts (b == 98) (b == 110) e in
+    let busy = neither.0 in
+    let no_thread = neither.1 in
+    grind (arith, nat_tests)
 
-told_waits : (a b : ℕ) → IsNumbered a → b ≡ 78 → told a b 119 ≡ 1
+told_waits : (a b : ℕ) → IsNumbered a → begins_state b ≡ false → told a b 119 ≡ 1
 told_waits a b h e =
-    let star = h.star in let tilde = h.tilde in let dash = h.dash in grind (arith, nat_tests)
+    let star = h.star in
+    let tilde = h.tilde in
+    let dash = h.dash in
+    let neither = or_parts (b == 98) (b == 110) e in
+    let busy = neither.0 in
+    let no_thread = neither.1 in
+    grind (arith, nat_tests)
 
 told_busy : (a : ℕ) → IsNumbered a → told a 98 0 ≡ 3
 told_busy a h =

@@ -2,13 +2,13 @@ use Rattle.std.proofs.Common.{refl, arith}
 use Rattle.std.proofs.lemmas.Bool.Decides.{nat_tests}
 use Rattle.std.specs.Fmt.{digits}
 use Rattle.lpc_model.specs.Words.{words, digits_word, decimal_word, hexadecimal_word, number_word, id_word, hex_word, split_once, three_parts, reply_message, message_word, info_word}
-use Rattle.lpc_model.specs.Grammar.{two_parts, tracking_word, level_word, quality_parts, qos_word, sid_word, each_word, entry_kind, entry_form, entry_of, entries_word, dacl_word, token_word, no_words, two_or_three_words, two_and_more_words, read_line, call_named, directive_named, call_words, directive_words, call_line, directive_line, accept_word, one_word, one_or_two_words, two_words, four_words, view_numbers, view_word}
+use Rattle.lpc_model.specs.Grammar.{two_parts, tracking_word, level_word, quality_parts, qos_word, sid_word, each_word, entry_kind, entry_form, entry_of, entries_word, dacl_word, token_word, no_words, two_or_three_words, two_and_more_words, read_line, call_named, directive_named, call_words, directive_words, call_line, directive_line, accept_word, handled_word, one_word, one_or_two_words, two_words, three_words, four_words, view_numbers, view_word}
 use Rattle.lpc_sid.specs.Spelling.{sid_of, spelling}
 use Rattle.hex.specs.Hex.{decode_pairs}
 use Rattle.lpc_script.proofs.laws.law_worked_lines.Goals as goal
 
 pub returns : goal.returns
-unfolding two_parts tracking_word level_word quality_parts qos_word sid_word each_word entry_kind entry_form entry_of entries_word dacl_word token_word no_words two_or_three_words two_and_more_words sid_of spelling digits words digits_word decimal_word hexadecimal_word number_word id_word hex_word split_once three_parts reply_message message_word info_word accept_word read_line call_named directive_named call_words directive_words call_line directive_line one_word one_or_two_words two_words four_words view_numbers view_word decode_pairs
+unfolding two_parts tracking_word level_word quality_parts qos_word sid_word each_word entry_kind entry_form entry_of entries_word dacl_word token_word no_words two_or_three_words two_and_more_words sid_of spelling digits words digits_word decimal_word hexadecimal_word number_word id_word hex_word split_once three_parts reply_message message_word info_word accept_word read_line call_named directive_named call_words directive_words call_line directive_line handled_word one_word one_or_two_words two_words three_words four_words view_numbers view_word decode_pairs
 returns c = record {
   boot_of_a_process = refl;
   thread_in_hexadecimal = refl;
@@ -54,13 +54,19 @@ returns c = record {
   token_of_a_thread = refl;
   token_of_a_process = refl;
   class_of_a_token = refl;
+  debug_port_of_a_process = refl;
+  exception_port_of_ones_own = refl;
+  exception_that_frames_handle = refl;
+  exception_that_they_do_not = refl;
   comment = refl;
   comment_with_a_bad_byte = refl;
   blank_line = refl;
   tabulator_is_no_space = refl;
   blanks_and_a_bad_byte = refl;
   no_directive = refl;
+  raise_of_no_thread = refl;
   no_call = refl;
+  raise_in_capitals = refl;
   directory_without_a_path = refl;
   directory_of_two_paths = refl;
   link_to_nothing = refl;
@@ -91,6 +97,7 @@ returns c = record {
   dash_in_a_name = refl;
   name_of_33_letters = refl;
   no_null = refl;
+  neither_handled_nor_unhandled = refl;
   view_before_the_info = refl;
   neither_accept_nor_refuse = refl;
   view_of_four_numbers = refl;
@@ -105,6 +112,10 @@ returns c = record {
   opening_of_self = refl;
   impersonation_of_no_message = refl;
   token_without_a_class = refl;
+  port_without_a_class = refl;
+  process_of_two_ports = refl;
+  raise_of_a_code_alone = refl;
+  raise_of_three_words = refl;
   thread_alone = refl;
   leading_zero_of_a_handle = refl;
   leading_zero_of_a_process = refl;
@@ -125,6 +136,10 @@ returns c = record {
   number_before_the_name = refl;
   class_before_the_word = refl;
   class_by_a_letter = refl;
+  process_by_another_word = refl;
+  class_before_the_port = refl;
+  port_of_self = refl;
+  code_before_the_word = refl;
   odd_number_of_digits = refl;
   second_colon_of_a_reply = refl;
   odd_number_of_digits_of_info = refl;
