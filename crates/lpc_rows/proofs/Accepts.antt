@@ -15,16 +15,17 @@ use Rattle.lpc_waits.specs.declared.Accepted.{Accepted}
 use Rattle.lpc_waits.specs.declared.WaitKind.{WaitKind}
 use Rattle.lpc_waits.specs.declared.WaitKind.TheVariants as wait
 use Rattle.lpc_waits.specs.declared.WaitRow.{WaitRow}
-use Rattle.lpc_rows.specs.Kept.{Roomy, StaysReady, StaysUnqueued, is_pending, room_by, rows_by}
+use Rattle.lpc_rows.specs.Kept.{Roomy, StaysReady, StaysUnqueued, goes_once, goes_twice, is_pending, owed_rows, room_by, rows_by}
 use Rattle.lpc_rows.specs.Lawful.{AreLawful, IsLawful, are_single, is_quiet, IsPromised}
 use Rattle.lpc_rows.specs.Ready.{wait_in, waiter}
 use Rattle.lpc_rows.specs.Shown.{Tables, birth_of, births_of, object_stands, section_in, shown_acceptance, shown_wait, wait_refs}
 use Rattle.lpc_homes.specs.declared.object.Object.{Object}
 use Rattle.lpc_homes.specs.declared.object.Object.TheVariants as object
+use Rattle.lpc_rows.proofs.Marked as marked
 use Rattle.lpc_rows.proofs.Changes as changes
 use Rattle.lpc_rows.proofs.Drawn as drawn
 use Rattle.lpc_rows.proofs.Finished.{found-waiter}
-use Rattle.lpc_rows.proofs.Lawful.{lawful-keep}
+use Rattle.lpc_rows.proofs.Lawful.{lawful-keep, owed-kept}
 use Rattle.lpc_rows.proofs.Promised as promised
 use Rattle.lpc_rows.proofs.Readings.{first_two}
 use Rattle.lpc_rows.proofs.Rooms as rooms
@@ -77,6 +78,7 @@ module _ (f : Object → Birth) where
       by wait.Listen old off = refl
       by wait.Connect None off = refl
       by wait.Connect (Some b) off = absurd (cc)
+      by (wait.Event r) old off = refl
 
   leaves_row : (row : WaitRow) → is_accepted (shown_wait f row) ≡ false → shown_wait f (waits.with_accepted None row) ≡ shown_wait f row
   leaves_row row off = by row.wait.kind row.accepted off
@@ -87,6 +89,7 @@ module _ (f : Object → Birth) where
       by wait.Listen old off = refl
       by wait.Connect None off = refl
       by wait.Connect (Some b) off = absurd (cc)
+      by (wait.Event r) old off = refl
 
   -- what it names stood
   accepted_refs : (ok : Object → Bool) (new : Option Accepted) (row : WaitRow) → is_accepted (shown_wait f row) ≡ false → every ok (wait_refs row) ≡ true → every ok (wait_refs (waits.with_accepted new row)) ≡ true
@@ -99,6 +102,7 @@ module _ (f : Object → Birth) where
       by wait.Connect None None off all = all
       by wait.Connect None (Some a) off all = first_two ok (object.Port row.wait.port) (object.Port row.wait.queue) (section_in row.offer) all
       by wait.Connect (Some b) now off all = absurd (cc)
+      by (wait.Event r) old now off all = all
 
 -- and as the definitions have it
 accepted_pends : (a : model.Acceptance) (x : model.WaitRow) → is_pending (basics.accepted a x) ≡ is_pending x
@@ -110,6 +114,29 @@ accepted_pends a x = by x.kind
     by model.Listen = refl
     by (model.Connect m offer) = refl
     by (model.Accepted m other) = refl
+    by (model.Event r) = refl
+
+accepted_twice : (a : model.Acceptance) (x : model.WaitRow) → goes_twice (basics.accepted a x) ≡ goes_twice x
+accepted_twice a x = by x.kind
+  where
+    by : (kind : model.WaitKind) → let old : model.WaitRow = record x { kind = kind } in goes_twice (basics.accepted a old) ≡ goes_twice old
+    by (model.Request m) = refl
+    by model.Receive = refl
+    by model.Listen = refl
+    by (model.Connect m offer) = refl
+    by (model.Accepted m other) = refl
+    by (model.Event r) = refl
+
+accepted_once : (a : model.Acceptance) (x : model.WaitRow) → goes_once (basics.accepted a x) ≡ goes_once x
+accepted_once a x = by x.kind
+  where
+    by : (kind : model.WaitKind) → let old : model.WaitRow = record x { kind = kind } in goes_once (basics.accepted a old) ≡ goes_once old
+    by (model.Request m) = refl
+    by model.Receive = refl
+    by model.Listen = refl
+    by (model.Connect m offer) = refl
+    by (model.Accepted m other) = refl
+    by (model.Event r) = refl
 
 accepted_quiet : (a : model.Acceptance) (ms : List MessageRow) (x : model.WaitRow) → is_quiet ms (basics.accepted a x) ≡ is_quiet ms x
 accepted_quiet a ms x = by x.kind
@@ -120,6 +147,7 @@ accepted_quiet a ms x = by x.kind
     by model.Listen = refl
     by (model.Connect m offer) = refl
     by (model.Accepted m other) = refl
+    by (model.Event r) = refl
 
 module _ (it : Tables) (calls made who : ℕ) (is : AreLawful it calls made) where
   abbrev f : Object → Birth
@@ -168,7 +196,7 @@ module _ (it : Tables) (calls made who : ℕ) (is : AreLawful it calls made) whe
 
     rows_lawful : (new : Option Accepted) → IsLawful (rows_by (after new)) calls made it.waits.spare it.ports.message_room
     rows_lawful None = rw leaves is.lawful
-    rows_lawful (Some a) = rw (accepts a) (lawful-keep rows calls made it.waits.spare it.ports.message_room who (basics.accepted (shown_acceptance a)) (λ x. refl) (accepted_pends (shown_acceptance a)) (accepted_quiet (shown_acceptance a) rows.messages) is.lawful)
+    rows_lawful (Some a) = rw (accepts a) (lawful-keep rows calls made it.waits.spare it.ports.message_room who (basics.accepted (shown_acceptance a)) (λ x. refl) (accepted_pends (shown_acceptance a)) (accepted_quiet (shown_acceptance a) rows.messages) (accepted_twice (shown_acceptance a)) (accepted_once (shown_acceptance a)) is.lawful)
 
     accepted_connect : (a : model.Acceptance) (x : model.WaitRow) → is_connect (basics.accepted a x) ≡ is_connect x
     accepted_connect a x = by_kind x.kind
@@ -179,10 +207,18 @@ module _ (it : Tables) (calls made who : ℕ) (is : AreLawful it calls made) whe
         by_kind model.Listen = refl
         by_kind (model.Connect m offer) = refl
         by_kind (model.Accepted m other) = refl
+        by_kind (model.Event r) = refl
 
     rows_promised : (new : Option Accepted) → (let x = waiter rows who in x.received ≡ true) → has (waits_as who) rows.waits ≡ true → IsPromised (rows_by (after new)).waits (rows_by (after new)).handles it.parts
     rows_promised None took there = subst (λ (v : World). IsPromised v.waits v.handles it.parts) (sym leaves) is.promised
     rows_promised (Some a) took there = subst (λ (v : World). IsPromised v.waits v.handles it.parts) (sym (accepts a)) (promised.wait-stays rows.waits rows.handles it.parts is.promised (waits_as who) (basics.accepted (shown_acceptance a)) (accepted_connect (shown_acceptance a)) (λ x. refl) (promised.accepted-taken who (basics.accepted (shown_acceptance a)) (λ x. refl) rows.waits (waiter rows who) is.lawful.single (found-waiter rows who there) took is.promised.taken))
+
+    pub accepted_owed : (new : Option Accepted) → owed_rows (rows_by (after new)) ≡ owed_rows rows
+    accepted_owed None = ap owed_rows leaves
+    accepted_owed (Some a) =
+        let is_step = ap owed_rows (accepts a) in
+        let same = owed-kept who (basics.accepted (shown_acceptance a)) (accepted_twice (shown_acceptance a)) (accepted_once (shown_acceptance a)) rows.waits in
+        omega (arith, is_step, same)
 
     pub accepted_lawful : (new : Option Accepted) → (let x = waiter rows who in x.received ≡ true) → has (waits_as who) rows.waits ≡ true → AreLawful (after new) calls made
     accepted_lawful new took there = record {
@@ -192,6 +228,8 @@ module _ (it : Tables) (calls made who : ℕ) (is : AreLawful it calls made) whe
       lawful = rows_lawful new;
       counted = record { ports_made = is.counted.ports_made; messages_made = is.counted.messages_made; waits_made = is.counted.waits_made; tokens_made = is.counted.tokens_made };
       registered = is.registered;
+      heard = is.heard;
+      marked = marked.marked-change it.procs.threads it.waits.rows it.ports.messages it.marks who (waits.with_accepted new) (λ x. refl) (λ x. refl) is.marked;
       mapped = is.mapped;
       headed = is.headed;
       drawn = drawn.same-drawn rows _ refl refl refl refl refl is.drawn;
@@ -209,5 +247,5 @@ module _ (it : Tables) (calls made who : ℕ) (is : AreLawful it calls made) whe
   pub accepted_room : (new : Option Accepted) (places : ℕ) → Roomy (room_by rows it places) (room_by (rows_by (after new)) (after new) places)
   accepted_room new places =
       let waiting = rows_by (after new) in
-      rooms.room_keep _ _ _ _ _ _ _ _ _ _ rows _ waiting.waits
+      rooms.room_keep _ _ _ _ _ _ _ _ _ _ _ rows _ waiting.waits
       (length-changed (shown_wait f) (waits.is_of who) (waits.with_accepted new) it.waits.rows)

@@ -16,6 +16,7 @@ use Rattle.lpc_rows.specs.Kept.{registered_ports, rows_by}
 use Rattle.lpc_rows.specs.Lawful.{AreBornIn, AreLawful, draws_at_most, has_named_ports}
 use Rattle.lpc_rows.specs.Ready.{caller, thread_in}
 use Rattle.lpc_rows.specs.Shown.{Births, Tables, births_of, shown_by, shown_process, shown_thread}
+use Rattle.lpc_rows.proofs.Marked as marked
 use Rattle.lpc_rows.proofs.Born as born
 use Rattle.lpc_rows.proofs.Changes as changes
 use Rattle.lpc_rows.proofs.Drawn as drawn
@@ -43,6 +44,8 @@ module _ (it : Tables) (calls made : ℕ) (is : AreLawful it calls made) where
     lawful = rw (acts who own) (lawful.lawful-changed (basics.acting own) (λ t. refl) (λ t. refl) (λ t. refl) (λ t. refl) rows calls made it.waits.spare it.ports.message_room who is.lawful (every-change (draws_at_most (made + 1)) (is_thread who) (basics.acting own) (λ t there. there) rows.threads is.lawful.draws));
     counted = is.counted;
     registered = every-change (has_named_ports n) (procs.is_thread who) (procs.acting own) (λ t all. all) it.procs.threads is.registered;
+    heard = is.heard;
+    marked = marked.marked-thread (procs.acting own) (λ t. refl) who it.procs.threads it.waits.rows it.ports.messages it.marks is.marked;
     mapped = is.mapped;
     headed = is.headed;
     drawn = rw (acts who own) (drawn.drawn-by (basics.acting own) (λ t. refl) (λ b t h. h) rows who is.drawn);

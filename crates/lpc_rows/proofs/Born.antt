@@ -4,13 +4,13 @@ use Rattle.std.specs.Prelude.{◌==◌}
 use Rattle.std.proofs.lemmas.Bool.Decides.{nat_tests}
 use Rattle.lpc_base.specs.declared.birth.Birth.{Birth}
 use Rattle.lpc_base.specs.Rows.{change, count, every, first, has, without}
-use Rattle.lpc_base.proofs.Differ.{differ-push, differ-without}
+use Rattle.lpc_base.proofs.Differ.{differ-change, differ-push, differ-without}
 use Rattle.lpc_base.proofs.RowMaps.{every-first}
 use Rattle.lpc_base.proofs.RowWords.{count-none, count-push, every-change, every-more, every-push, every-without, has-change, has-kept, has-push}
 use Rattle.lpc_base.proofs.Births.{birth-same}
 use Rattle.lpc_base.proofs.Bools.{first-true, second-true}
 use Rattle.lpc_model.specs.Basics.{past_ordinal}
-use Rattle.lpc_model.specs.Found.{is_born_process, is_born_thread, is_thread, same_birth}
+use Rattle.lpc_model.specs.Found.{is_born_process, is_born_thread, is_process, is_thread, same_birth}
 use Rattle.lpc_model.specs.Tests.{next_birth}
 use Rattle.lpc_model.specs.World.{ProcessRow, ThreadRow, UsedThread, World}
 use Rattle.lpc_model.proofs.Steps.Rows.{count-change, count-less}
@@ -203,3 +203,16 @@ pub next-thread : (w : World) (tid : ℕ) (t : ThreadRow) → AreBornIn w → fi
 next-thread w tid t h at =
     has-change (is_born_thread (next_birth t)) (is_thread tid) past_ordinal (λ x. refl) w.threads
     ∙ none-next w.used_threads w.threads tid t at h.threads_numbered (λ (x : ThreadRow). x.number) (λ x. x.birth) w.threads h.threads_born
+
+-- a process changes, and keeps its number and its birth
+module _ (f : ProcessRow → ProcessRow) (number : (p : ProcessRow) → (f p).number ≡ p.number) (birth : (p : ProcessRow) → (f p).birth ≡ p.birth) where
+  pub born-changed : (ps : List ProcessRow) (ts : List ThreadRow) (ns : List ℕ) (used : List UsedThread) (pid : ℕ) → AreBorn ps ts ns used → AreBorn (change (is_process pid) f ps) ts ns used
+  born-changed ps ts ns used pid h = record {
+    processes_single = differ-change (λ (p : ProcessRow). p.number) (is_process pid) f number ps h.processes_single;
+    processes_noted = every-change (is_noted_process ns) (is_process pid) f (λ p is. rw (number p) is) ps h.processes_noted;
+    processes_born = every-change (λ p. is_birth_of used ts p.number p.birth) (is_process pid) f (λ p is. rw (number p, birth p) is) ps h.processes_born;
+    threads_born = h.threads_born;
+    threads_numbered = h.threads_numbered;
+    process_births = λ b. rw (count-change (is_born_process b) (is_process pid) f (λ p. rw (birth p) refl) ps) (h.process_births b);
+    thread_births = h.thread_births;
+  }

@@ -124,6 +124,8 @@ spaced_lawful it calls made space is named = record {
   lawful = lawful-names (rows_by it) (rows_by (record it { space = space })) calls made it.waits.spare it.ports.message_room refl is.lawful;
   counted = is.counted;
   registered = is.registered;
+  heard = is.heard;
+  marked = is.marked;
   headed = is.headed;
   drawn = drawn.same-drawn (rows_by it) _ refl refl refl refl refl is.drawn;
   born = is.born;

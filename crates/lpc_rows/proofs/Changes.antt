@@ -28,11 +28,11 @@ use Rattle.lpc_waits.specs.declared.Accepted.{Accepted}
 use Rattle.lpc_waits.specs.declared.WaitKind.{WaitKind}
 use Rattle.lpc_waits.specs.declared.WaitKind.TheVariants as wait
 use Rattle.lpc_waits.specs.declared.WaitRow.{WaitRow}
-use Rattle.lpc_rows.specs.Kept.{is_pending}
+use Rattle.lpc_rows.specs.Kept.{goes_once, goes_twice, is_pending, owed_rows}
 use Rattle.lpc_rows.specs.Lawful.{IsLawful, is_quiet}
-use Rattle.lpc_rows.proofs.Lawful.{lawful-keep}
+use Rattle.lpc_rows.proofs.Lawful.{lawful-keep, owed-kept}
 use Rattle.lpc_rows.specs.Names.{name_of, stands}
-use Rattle.lpc_rows.specs.Shown.{Tables, AreNamed, Births, all_pass, birth_of, births_of, message_refs, object_stands, part_refs, shown_by, shown_handle, shown_message, shown_part, shown_space, space_refs, shown_process, shown_thread, shown_used, shown_wait, wait_refs, with_message}
+use Rattle.lpc_rows.specs.Shown.{Tables, AreNamed, Births, MarkTable, all_pass, birth_of, births_of, message_refs, object_stands, part_refs, shown_by, shown_handle, shown_message, shown_part, shown_space, space_refs, shown_process, shown_thread, shown_used, shown_wait, wait_refs, with_message, without_mark}
 use Rattle.lpc_homes.specs.Parts.{handed, is_part, roomed}
 use Rattle.lpc_homes.specs.declared.object.Object.{Object}
 use Rattle.lpc_homes.specs.declared.parts.Part.{Part}
@@ -88,15 +88,15 @@ module _ (it : Tables) (is : AreNamed (births_of it) it) where
   pub awaits : (row : WaitRow) (spare made : ℕ) → shown_by n (record it { waits = record { rows = it.waits.rows ++ row ∷ []; spare = spare; made = made } }) ≡ basic rows (Awaits (shown_wait f row))
   awaits row spare made = rw (push-map (shown_wait f) it.waits.rows row) refl
 
-  pub ended : (who spare made : ℕ) → AreNamed n (record it { waits = record { rows = without (waits.is_of who) it.waits.rows; spare = spare; made = made } })
-  ended who spare made = record {
+  pub ended : (who spare made : ℕ) (marks : MarkTable) → AreNamed n (record it { waits = record { rows = without (waits.is_of who) it.waits.rows; spare = spare; made = made }; marks = marks })
+  ended who spare made marks = record {
     ports_apart = is.ports_apart;
     sections_apart = is.sections_apart;
     tokens_apart = is.tokens_apart;
     refs = record { in_handles = is.refs.in_handles; in_ports = is.refs.in_ports; in_messages = is.refs.in_messages; in_waits = every-without (all_pass wait_refs ok) (waits.is_of who) it.waits.rows is.refs.in_waits; in_names = is.refs.in_names; in_views = is.refs.in_views };
   }
 
-  pub ends : (who spare made : ℕ) → shown_by n (record it { waits = record { rows = without (waits.is_of who) it.waits.rows; spare = spare; made = made } }) ≡ record rows { waits = without (waits_as who) rows.waits }
+  pub ends : (who spare made : ℕ) → shown_by n (record it { waits = record { rows = without (waits.is_of who) it.waits.rows; spare = spare; made = made }; marks = without_mark who it.marks }) ≡ basics.left_by who rows
   ends who spare made = rw (without-map (shown_wait f) (all_pass wait_refs ok) (waits.is_of who) (waits_as who) (λ row there. refl) it.waits.rows is.refs.in_waits) refl
 
   -- a wait is changed, and what it names stands still
@@ -244,6 +244,7 @@ module _ (it : Tables) (is : AreNamed (births_of it) it) where
           by_accepted : (accepted : Option Accepted) → let old : WaitRow = record row { wait = record row.wait { kind = wait.Connect }; accepted = accepted } in shown_wait f (waits.with_message bytes old) ≡ with_message (message_of bytes) (shown_wait f old)
           by_accepted None = refl
           by_accepted (Some accepted) = refl
+      by_kind (wait.Event r) = refl
 
   pub keeps_message : (who : ℕ) (bytes : List ℕ) → shown_by n (record it { waits = record it.waits { rows = change (waits.is_of who) (waits.with_message bytes) it.waits.rows } }) ≡ record rows { waits = change (waits_as who) (with_message (message_of bytes)) rows.waits }
   keeps_message who bytes = waits_change who it.waits.spare it.waits.made (waits.with_message bytes) (with_message (message_of bytes)) (message_shown bytes)
@@ -258,6 +259,7 @@ connect_kept m x = by_kind x.kind
     by_kind model.Listen = refl
     by_kind (model.Connect other offer) = refl
     by_kind (model.Accepted other reply) = refl
+    by_kind (model.Event r) = refl
 
 -- a wait that keeps its message is accepted where it was
 pub accepted_kept : (m : Message) (x : model.WaitRow) → is_accepted (with_message m x) ≡ is_accepted x
@@ -269,6 +271,7 @@ accepted_kept m x = by_kind x.kind
     by_kind model.Listen = refl
     by_kind (model.Connect other offer) = refl
     by_kind (model.Accepted other reply) = refl
+    by_kind (model.Event r) = refl
 
 -- a wait that keeps its message is pending where it was
 pub pending_kept : (m : Message) (x : model.WaitRow) → is_pending (with_message m x) ≡ is_pending x
@@ -280,6 +283,7 @@ pending_kept m x = by_kind x.kind
     by_kind model.Listen = refl
     by_kind (model.Connect other offer) = refl
     by_kind (model.Accepted other reply) = refl
+    by_kind (model.Event r) = refl
 
 quiet_kept : (m : Message) (ms : List model.MessageRow) (x : model.WaitRow) → is_quiet ms (with_message m x) ≡ is_quiet ms x
 quiet_kept m ms x = by_kind x.kind
@@ -290,9 +294,37 @@ quiet_kept m ms x = by_kind x.kind
     by_kind model.Listen = refl
     by_kind (model.Connect other offer) = refl
     by_kind (model.Accepted other reply) = refl
+    by_kind (model.Event r) = refl
+
+-- and owes as much
+twice_kept : (m : Message) (x : model.WaitRow) → goes_twice (with_message m x) ≡ goes_twice x
+twice_kept m x = by_kind x.kind
+  where
+    by_kind : (kind : model.WaitKind) → let old : model.WaitRow = record x { kind = kind } in goes_twice (with_message m old) ≡ goes_twice old
+    by_kind (model.Request other) = refl
+    by_kind model.Receive = refl
+    by_kind model.Listen = refl
+    by_kind (model.Connect other offer) = refl
+    by_kind (model.Accepted other reply) = refl
+    by_kind (model.Event r) = refl
+
+once_kept : (m : Message) (x : model.WaitRow) → goes_once (with_message m x) ≡ goes_once x
+once_kept m x = by_kind x.kind
+  where
+    by_kind : (kind : model.WaitKind) → let old : model.WaitRow = record x { kind = kind } in goes_once (with_message m old) ≡ goes_once old
+    by_kind (model.Request other) = refl
+    by_kind model.Receive = refl
+    by_kind model.Listen = refl
+    by_kind (model.Connect other offer) = refl
+    by_kind (model.Accepted other reply) = refl
+    by_kind (model.Event r) = refl
 
 pub lawful-message : (v : World) (calls made a b who : ℕ) (bytes : List ℕ) → IsLawful v calls made a b → IsLawful (record v { waits = change (waits_as who) (with_message (message_of bytes)) v.waits }) calls made a b
-lawful-message v calls made a b who bytes h = lawful-keep v calls made a b who (with_message (message_of bytes)) (λ x. refl) (pending_kept (message_of bytes)) (quiet_kept (message_of bytes) v.messages) h
+lawful-message v calls made a b who bytes h = lawful-keep v calls made a b who (with_message (message_of bytes)) (λ x. refl) (pending_kept (message_of bytes)) (quiet_kept (message_of bytes) v.messages) (twice_kept (message_of bytes)) (once_kept (message_of bytes)) h
+
+-- and as many rows are owed
+pub message-owed : (v : World) (who : ℕ) (bytes : List ℕ) → owed_rows (record v { waits = change (waits_as who) (with_message (message_of bytes)) v.waits }) ≡ owed_rows v
+message-owed v who bytes = let same = owed-kept who (with_message (message_of bytes)) (twice_kept (message_of bytes)) (once_kept (message_of bytes)) v.waits in omega (arith, same)
 
 pub length-message : (who : ℕ) (bytes : List ℕ) (xs : List model.WaitRow) → length (change (waits_as who) (with_message (message_of bytes)) xs) ≡ length xs
 length-message who bytes xs = length-change (waits_as who) (with_message (message_of bytes)) xs

@@ -11,7 +11,7 @@ use Rattle.lpc_handles.specs.declared.table.Row.{Row}
 use Rattle.lpc_model.specs.declared.entry.CallName.{CallName}
 use Rattle.lpc_model.specs.declared.entry.CallName.TheVariants.{NtConnectPort}
 use Rattle.lpc_model.specs.Connect.{acceptance_of, is_accepted_on, no_acceptance, reaches}
-use Rattle.lpc_model.specs.Found.{is_accepted, is_connect, is_offered, offer_of, is_request, names_port, waits_as}
+use Rattle.lpc_model.specs.Found.{is_accepted, is_connect, is_event, is_offered, is_request, names_port, offer_of, waits_as}
 use Rattle.lpc_model.specs.Named.{as_status, named_port, port_found}
 use Rattle.lpc_model.specs.Then.{◌>>=◌}
 use Rattle.lpc_model.specs.World as model
@@ -83,7 +83,7 @@ module _ (it : Tables) (is : AreNamed (births_of it) it) where
 -- Waits
 -- what was received isn't pending
 pub received_off : (x : WaitRow) → x.received ≡ true → is_pending x ≡ false
-received_off x h = no (is_request x || is_connect x) x.received h
+received_off x h = no (is_request x || (is_event x || is_connect x)) x.received h
   where
     no : (a b : Bool) → b ≡ true → a && not b ≡ false
     no true true h = refl
@@ -242,6 +242,7 @@ module _ (it : Tables) (is : AreNamed (births_of it) it) where
       by wait.Request o a on all = absurd (cc)
       by wait.Receive o a on all = absurd (cc)
       by wait.Listen o a on all = absurd (cc)
+      by (wait.Event r) o a on all = absurd (cc)
 
   pub offer_is : (tid : ℕ) (o : Option Offer) → option_map (λ (r : table.WaitRow). r.offer) (row_of it.waits tid) ≡ Some o → is_offered (waiter rows tid) ≡ true → IsOffer tid o
   offer_is tid o at on =
@@ -264,6 +265,7 @@ module _ (it : Tables) (is : AreNamed (births_of it) it) where
       by model.Receive off = refl
       by model.Listen off = refl
       by (model.Accepted a b) off = refl
+      by (model.Event r) off = refl
 
   -- a handle of the process names the port
   reached_same : (key : Key) → stands m.ports key ≡ true → (row : ℕ × Row Object) → object_stands m row.1.object ≡ true → names_port (name_of m.ports key) (name_by g row.1.object) ≡ names_it (object.Port key) row

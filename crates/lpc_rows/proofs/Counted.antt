@@ -187,6 +187,7 @@ module _ (it : Tables) (is : AreNamed (births_of it) it) (key : Key) (there : st
       by wait.Connect None None all = refl
       by wait.Connect (Some o) None all = follows.agree_section it is o.section key (grind arith) there
       by wait.Connect o (Some a) all = refl
+      by (wait.Event r) o a all = refl
 
   pub offers_counted : count (found.offers_section c) (rows_by it).waits ≡ count (waits.is_offering key) it.waits.rows
   offers_counted = count-map (shown_wait h) (all_pass wait_refs standing) (waits.is_offering key) (found.offers_section c) offer_same it.waits.rows is.refs.in_waits

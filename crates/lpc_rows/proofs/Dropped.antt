@@ -109,6 +109,8 @@ module _ (it : Tables) (calls made : ℕ) (is : AreLawful it calls made) (pid va
     lawful = rw drops (lawful.lawful-drop rows calls made it.waits.spare it.ports.message_room pid value is.lawful);
     counted = is.counted;
     registered = is.registered;
+    heard = is.heard;
+    marked = is.marked;
     mapped = steps.change_mapped it.sections it.parts made pid (closed value) (λ part. refl) is.mapped;
     headed = is.headed;
     drawn = drawn.same-drawn rows _ refl refl refl refl refl is.drawn;

@@ -1,9 +1,9 @@
 -- All messages of a queue go: the tables' new rows are the step of those that stood, and stay lawful.
 use Rattle.std.proofs.Common.{◌≡◌, ℕ, true, refl, ap}
 use Rattle.lpc_base.specs.declared.birth.Birth.{Birth}
-use Rattle.lpc_base.specs.Rows.{count}
+use Rattle.lpc_base.specs.Rows.{count, without}
 use Rattle.lpc_base.proofs.RowMaps.{count-map, without-map}
-use Rattle.lpc_base.proofs.RowWords.{every-without}
+use Rattle.lpc_base.proofs.RowWords.{every-without, has_none-without}
 use Rattle.lpc_model.specs.Basics.{Empties, basic}
 use Rattle.lpc_model.specs.Found.{is_queued}
 use Rattle.lpc_model.specs.World.{World}
@@ -14,6 +14,7 @@ use Rattle.lpc_rows.specs.Lawful.{AreLawful, has_header}
 use Rattle.lpc_rows.specs.Names.{name_of, stands}
 use Rattle.lpc_rows.specs.Shown.{Births, Tables, all_pass, birth_of, births_of, message_refs, object_stands, shown_message}
 use Rattle.lpc_homes.specs.declared.object.Object.{Object}
+use Rattle.lpc_rows.proofs.Marked as marked
 use Rattle.lpc_rows.proofs.Drawn as drawn
 use Rattle.lpc_rows.proofs.Follows as follows
 use Rattle.lpc_rows.proofs.Lawful as lawful
@@ -59,6 +60,8 @@ module _ (it : Tables) (calls made : ℕ) (is : AreLawful it calls made) (queue 
     lawful = rw (empties, ← same_count) (lawful.lawful-withdraw rows calls made it.waits.spare it.ports.message_room (is_queued b) is.lawful);
     counted = record { ports_made = is.counted.ports_made; messages_made = is.counted.messages_made; waits_made = is.counted.waits_made; tokens_made = is.counted.tokens_made };
     registered = is.registered;
+    heard = is.heard;
+    marked = marked.marked-fewer it.procs.threads it.waits.rows it.ports.messages (without (ports.is_in queue) it.ports.messages) it.marks (λ n none. has_none-without (ports.is_own_of n) (ports.is_in queue) it.ports.messages none) is.marked;
     mapped = is.mapped;
     headed = every-without has_header (ports.is_in queue) it.ports.messages is.headed;
     drawn = drawn.same-drawn rows _ refl refl refl refl refl is.drawn;
@@ -67,4 +70,4 @@ module _ (it : Tables) (calls made : ℕ) (is : AreLawful it calls made) (queue 
   }
 
   pub emptied_room : (places : ℕ) → Roomy (room_by rows it places) (room_by (rows_by after) after places)
-  emptied_room places = rw (ap (λ (v : World). v.messages) empties, ← same_count) (rooms.room_withdraw _ _ _ _ _ _ _ _ _ _ rows _ (is_queued b))
+  emptied_room places = rw (ap (λ (v : World). v.messages) empties, ← same_count) (rooms.room_withdraw _ _ _ _ _ _ _ _ _ _ _ rows _ (is_queued b))

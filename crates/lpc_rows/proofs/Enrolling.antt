@@ -21,6 +21,7 @@ use Rattle.lpc_rows.specs.Lawful.{AreBornIn, AreLawful, are_single_threads, has_
 use Rattle.lpc_rows.specs.Names.{name_of, stands}
 use Rattle.lpc_rows.specs.Registered.{registrations_of, with_ended}
 use Rattle.lpc_rows.specs.Shown.{Births, Tables, births_of, shown_by, shown_thread}
+use Rattle.lpc_rows.proofs.Marked as marked
 use Rattle.lpc_rows.proofs.Born as born
 use Rattle.lpc_rows.proofs.Changes as changes
 use Rattle.lpc_rows.proofs.Drawn as drawn
@@ -74,6 +75,8 @@ module _ (it : Tables) (calls made : ℕ) (is : AreLawful it calls made) where
     lawful = rw (registers who r) (dying.lawful-register rows calls made it.waits.spare it.ports.message_room who r.birth is.lawful lt place is.drawn.threads_single stand);
     counted = is.counted;
     registered = every-change (has_named_ports n) (procs.is_thread who) (procs.registering r) (λ t all. every-push (is_under_name n) t.registered.items r all (under-name r there own)) it.procs.threads is.registered;
+    heard = is.heard;
+    marked = marked.marked-thread (procs.registering r) (λ t. refl) who it.procs.threads it.waits.rows it.ports.messages it.marks is.marked;
     mapped = is.mapped;
     headed = is.headed;
     drawn = rw (registers who r) (drawn.drawn-by (basics.registering r.birth) (λ t. refl) (λ b t h. h) rows who is.drawn);
@@ -87,6 +90,8 @@ module _ (it : Tables) (calls made : ℕ) (is : AreLawful it calls made) where
     lawful = rw (unregisters who b) (dying.lawful-unregister rows calls made it.waits.spare it.ports.message_room who b is.lawful);
     counted = is.counted;
     registered = every-change (has_named_ports n) (procs.is_thread who) (procs.unregistering b) (λ t all. every-without (is_under_name n) (procs.is_of_birth b) t.registered.items all) it.procs.threads is.registered;
+    heard = is.heard;
+    marked = marked.marked-thread (procs.unregistering b) (λ t. refl) who it.procs.threads it.waits.rows it.ports.messages it.marks is.marked;
     mapped = is.mapped;
     headed = is.headed;
     drawn = rw (unregisters who b) (drawn.drawn-by (basics.unregistering b) (λ t. refl) (λ c t h. h) rows who is.drawn);
@@ -100,6 +105,8 @@ module _ (it : Tables) (calls made : ℕ) (is : AreLawful it calls made) where
     lawful = rw (ends who) (dying.lawful-ended rows calls made it.waits.spare it.ports.message_room who is.lawful ready (ap length (registered-change basics.ended (λ t. refl) who rows.threads)));
     counted = is.counted;
     registered = every-change (has_named_ports n) (procs.is_thread who) procs.ended (λ t all. all) it.procs.threads is.registered;
+    heard = is.heard;
+    marked = marked.marked-threads it.procs.threads _ it.waits.rows it.ports.messages it.marks (marked.fewer-living procs.ended (λ t. refl) who it.procs.threads) is.marked;
     mapped = is.mapped;
     headed = is.headed;
     drawn = rw (ends who) (drawn.drawn-by basics.ended (λ t. refl) (λ b t h. h) rows who is.drawn);
@@ -132,8 +139,8 @@ module _ (it : Tables) (calls made : ℕ) (is : AreLawful it calls made) where
       has-weaker (t ∷ ts) there = grind (arith, has-weaker ts)
 
 -- The room
-module _ (y z s : ℕ) (vs : List HandleRoom) (a b c d e g : ℕ) (w : World) (hs : List HandleRoom) where
-  pub room_ended : (who : ℕ) → Roomy (room y z s vs a b c d e g w hs) (room y z s vs a b c d e g (record w { threads = change (is_thread who) basics.ended w.threads }) hs)
+module _ (j y z s : ℕ) (vs : List HandleRoom) (a b c d e g : ℕ) (w : World) (hs : List HandleRoom) where
+  pub room_ended : (who : ℕ) → Roomy (room j y z s vs a b c d e g w hs) (room j y z s vs a b c d e g (record w { threads = change (is_thread who) basics.ended w.threads }) hs)
   room_ended who =
       let alive = dying.fewer-alive who w.threads in
       let owed = ap length (registered-change basics.ended (λ t. refl) who w.threads) in
@@ -152,7 +159,7 @@ module _ (y z s : ℕ) (vs : List HandleRoom) (a b c d e g : ℕ) (w : World) (h
       }
 
   pub room_registered : (who : ℕ) (birth : Birth) → are_single_threads w.threads ≡ true → has (is_thread who) w.threads ≡ true
-      → let after = room y z s vs a b c d e g (record w { threads = change (is_thread who) (basics.registering birth) w.threads }) hs in Roomy (room y z s vs a b c d e g w hs) (record after { messages = after.messages + 1 })
+      → let after = room j y z s vs a b c d e g (record w { threads = change (is_thread who) (basics.registering birth) w.threads }) hs in Roomy (room j y z s vs a b c d e g w hs) (record after { messages = after.messages + 1 })
   room_registered who birth one there =
       let more = dying.longer-registered who birth w.threads one there in
       let alive = alive-change (basics.registering birth) (λ t. refl) who w.threads in
@@ -170,7 +177,7 @@ module _ (y z s : ℕ) (vs : List HandleRoom) (a b c d e g : ℕ) (w : World) (h
         for_views = λ pid. omega arith;
       }
 
-  pub room_unregistered : (who : ℕ) (birth : Birth) → Roomy (room y z s vs a b c d e g w hs) (room y z s vs a b c d e g (record w { threads = change (is_thread who) (basics.unregistering birth) w.threads }) hs)
+  pub room_unregistered : (who : ℕ) (birth : Birth) → Roomy (room j y z s vs a b c d e g w hs) (room j y z s vs a b c d e g (record w { threads = change (is_thread who) (basics.unregistering birth) w.threads }) hs)
   room_unregistered who birth =
       let less = dying.shorter-registered who birth w.threads in
       let alive = alive-change (basics.unregistering birth) (λ t. refl) who w.threads in

@@ -8,7 +8,7 @@ use Rattle.lpc_base.specs.Rows.{count, every, first, has}
 use Rattle.lpc_base.proofs.RowMaps.{every-first}
 use Rattle.lpc_base.proofs.RowWords.{first-passes, has-first, has_none-more}
 use Rattle.lpc_base.proofs.Bools.{number-turned}
-use Rattle.lpc_model.specs.World.{Accepted, Connect, Listen, Receive, Request, ThreadRow, WaitKind, WaitRow, World}
+use Rattle.lpc_model.specs.World.{Accepted, Connect, Event, Listen, Receive, Request, ThreadRow, WaitKind, WaitRow, World}
 use Rattle.lpc_model.specs.Found.{is_live_thread, is_process, is_table, is_thread, lives_in, live_thread, same_birth, wait_of, waits_as}
 use Rattle.lpc_model.specs.Entering.{takes_from}
 use Rattle.lpc_rows.specs.Kept.{is_alive, is_pending, is_pending_in, pends_as}
@@ -18,7 +18,7 @@ use Rattle.lpc_rows.proofs.Lawful.{place-left}
 
 -- Callers
 -- a live thread that passes is in a process that stands and has a table of handles
-housed_first : (w : World) (p : ThreadRow → Bool) (t : ThreadRow) → t.live ≡ true → every (is_housed w) w.threads ≡ true → first p w.threads ≡ Some t → (has (is_process t.process) w.processes ≡ true) × (has (is_table t.process) w.handles ≡ true)
+pub housed_first : (w : World) (p : ThreadRow → Bool) (t : ThreadRow) → t.live ≡ true → every (is_housed w) w.threads ≡ true → first p w.threads ≡ Some t → (has (is_process t.process) w.processes ≡ true) × (has (is_table t.process) w.handles ≡ true)
 housed_first w p t live all found =
     let one : is_housed w t ≡ true = every-first (is_housed w) p w.threads t all found in
     both t.live (has (is_process t.process) w.processes) (has (is_table t.process) w.handles) live one
@@ -134,7 +134,7 @@ still_found w p r one quiet is = subst (λ (o : Option ℕ). IfSome o (λ tid. i
 
 -- a receive or listen isn't pending
 taker_idle : (k : WaitKind) (b c d : Bool) → ((elim k [ Receive ↦ true | _ ↦ false ]) || ((elim k [ Listen ↦ true | _ ↦ false ]) && c)) && d ≡ true
-    → ((elim k [ Request m ↦ true | _ ↦ false ]) || ((elim k [ Connect m offer ↦ true | _ ↦ false ]) || (elim k [ Accepted m reply ↦ true | _ ↦ false ]))) && not b ≡ false
+    → ((elim k [ Request m ↦ true | _ ↦ false ]) || ((elim k [ Event r ↦ true | _ ↦ false ]) || ((elim k [ Connect m offer ↦ true | _ ↦ false ]) || (elim k [ Accepted m reply ↦ true | _ ↦ false ])))) && not b ≡ false
 taker_idle Receive b c d h = refl
 taker_idle Listen b c d h = refl
 taker_idle e b c d h = absurd (cc)

@@ -1,4 +1,5 @@
 -- A connect that is completed: the handle that was promised to it is given, and its wait ends.
+use Rattle.lpc_rows.proofs.Lawful.{owed-left}
 use Rattle.std.proofs.Common.{◌≡◌, ℕ, ◌+◌, ◌*◌, ◌<◌, ◌≤◌, List, true, false, cond, not, ◌&&◌, ◌||◌, ◌==◌, length, Option, Some, None, refl, ap, sym, subst, ◌∙◌, arith, Bool}
 use Rattle.std.specs.Prelude.{IfSome, is_some}
 use Rattle.std.proofs.lemmas.Bool.{eqb-true}
@@ -9,7 +10,7 @@ use Rattle.lpc_base.proofs.RowWords.{first-passes}
 use Rattle.lpc_handles.specs.declared.table.Row.{Row}
 use Rattle.lpc_model.specs.World as model
 use Rattle.lpc_model.specs.World.{World}
-use Rattle.lpc_model.specs.Basics.{AddsHandle, basic}
+use Rattle.lpc_model.specs.Basics.{AddsHandle, basic, left_by}
 use Rattle.lpc_model.specs.Found.{handles_of, is_accepted, is_connect, is_table, is_taken, wait_of, waits_as}
 use Rattle.lpc_model.specs.Tests.{is_connect_of}
 use Rattle.lpc_waits.specs.Table as waits
@@ -18,9 +19,10 @@ use Rattle.lpc_rows.specs.Kept.{has_queued, is_pending_in, owed_rows, rows_by}
 use Rattle.lpc_rows.specs.Lawful.{AreLawful, IsPromised}
 use Rattle.lpc_homes.specs.Parts.{handed, is_part, rows_at, spare_at}
 use Rattle.lpc_rows.specs.Ready.{wait_in, waiter}
-use Rattle.lpc_rows.specs.Shown.{AreNamed, Births, Tables, birth_of, births_of, object_stands, shown_handle}
+use Rattle.lpc_rows.specs.Shown.{AreNamed, Births, Tables, birth_of, births_of, object_stands, shown_handle, without_mark}
 use Rattle.lpc_homes.specs.declared.object.Object.{Object}
 use Rattle.lpc_homes.specs.declared.parts.Part.{Part}
+use Rattle.lpc_rows.proofs.Marked as marked
 use Rattle.lpc_rows.proofs.Changes as changes
 use Rattle.lpc_rows.proofs.Drawn as drawn
 use Rattle.lpc_rows.proofs.Lawful as lawful
@@ -84,23 +86,25 @@ module _ (it : Tables) (calls made : ℕ) (is : AreLawful it calls made) (tid pi
     given = record it { parts = more }
 
     abbrev after : Tables
-    after = record it { parts = more; waits = less }
+    after = record it { parts = more; waits = less; marks = without_mark tid it.marks }
 
     named_given : AreNamed n given
     named_given = changes.handed_named it is.named pid value row object
 
     abbrev left : World → World
-    left v = record v { waits = without (waits_as tid) v.waits }
+    left v = left_by tid v
 
-    pub rows_after : rows_by after ≡ record (basic rows (AddsHandle pid (shown_handle (birth_of n) (value, row)))) { waits = without (waits_as tid) rows.waits }
+    pub rows_after : rows_by after ≡ left_by tid (basic rows (AddsHandle pid (shown_handle (birth_of n) (value, row))))
     rows_after = changes.ends given named_given tid less.spare less.made ∙ ap left (changes.hands it is.named pid value row)
 
     pub finished : has_queued rows tid ≡ false → made + owed_rows rows < 16 * calls → AreLawful after calls made
     finished none lt = record {
-      named = changes.ended given named_given tid less.spare less.made;
+      named = changes.ended given named_given tid less.spare less.made (without_mark tid it.marks);
       lawful = rw (rows_after, ← steps.has_wait it calls made is tid) (lawful.lawful-end (record rows { handles = change (is_table pid) _ rows.handles }) calls made it.waits.spare it.ports.message_room tid (lawful.lawful-handle rows calls made it.waits.spare it.ports.message_room pid (shown_handle (birth_of n) (value, row)) is.lawful lt (steps.single_object it calls made is row.object)) none);
       counted = record { ports_made = is.counted.ports_made; messages_made = is.counted.messages_made; waits_made = is.counted.waits_made; tokens_made = is.counted.tokens_made };
       registered = is.registered;
+      heard = is.heard;
+      marked = marked.marked-end it.procs.threads it.waits.rows it.ports.messages it.marks tid is.marked;
       mapped = steps.change_mapped it.sections it.parts made pid (handed value row) (λ part. refl) is.mapped;
       headed = is.headed;
       drawn = drawn.same-drawn rows _ refl refl refl refl refl is.drawn;
@@ -110,7 +114,7 @@ module _ (it : Tables) (calls made : ℕ) (is : AreLawful it calls made) (tid pi
 
     -- and one row more is owed at most
     pub finished_owed : owed_rows (rows_by after) ≤ owed_rows rows + 1
-    finished_owed = let less = ap owed_rows rows_after in omega (arith, less, owed-handle rows pid (shown_handle (birth_of n) (value, row)) (steps.single_object it calls made is row.object))
+    finished_owed = let less = ap owed_rows rows_after in let gone = owed-left (waits_as tid) rows.waits in omega (arith, less, gone, owed-handle rows pid (shown_handle (birth_of n) (value, row)) (steps.single_object it calls made is row.object))
 
 -- a connect that is accepted was received, so it isn't pending
 module _ (it : Tables) (calls made : ℕ) (is : AreLawful it calls made) where

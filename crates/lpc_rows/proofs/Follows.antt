@@ -127,6 +127,8 @@ module _ (it : Tables) (is : AreNamed (births_of it) it) where
   kind_same wait.Connect bytes offer None false b = refl
   kind_same wait.Connect bytes offer (Some accepted) true b = refl
   kind_same wait.Connect bytes offer (Some accepted) false b = refl
+  kind_same (wait.Event r) bytes offer accepted true b = refl
+  kind_same (wait.Event r) bytes offer accepted false b = refl
 
   pub taker_same : (key : Key) (connects : Bool) → stands n.ports key ≡ true → (row : WaitRow) → all_pass wait_refs (object_stands n) row ≡ true → takes_from (name_of n.ports key) connects (shown_wait f row) ≡ waits.is_taker_on key connects row
   taker_same key connects there row ok = rw (agree row.wait.queue key (grind arith) there) (kind_same row.wait.kind row.message.items (option_map (shown_offer f) row.offer) row.accepted connects (is_key row.wait.queue key))

@@ -1,5 +1,6 @@
 -- A port less, which no row names: what else stood stands under its name, and the new rows are the step of the rows
 -- that the tables stood for.
+use Rattle.lpc_rows.proofs.Events.{heard-less}
 use Rattle.std.proofs.Common.{◌≡◌, ℕ, ◌+◌, ◌≤◌, List, Bool, true, false, not, map, refl, ap, ◌∙◌, arith, subst, sym}
 use Rattle.std.specs.Prelude.{◌&&◌}
 use Rattle.lpc_base.specs.declared.birth.Birth.{Birth}
@@ -14,7 +15,7 @@ use Rattle.lpc_ports.specs.Table.{PortTable}
 use Rattle.lpc_ports.specs.declared.Port.{Port}
 use Rattle.lpc_slots.specs.Table.{at_key}
 use Rattle.lpc_slots.specs.declared.Key.{Key}
-use Rattle.lpc_rows.specs.Held.{is_message_at, is_named, is_registered_port}
+use Rattle.lpc_rows.specs.Held.{is_event_port, is_message_at, is_named, is_registered_port}
 use Rattle.lpc_rows.specs.Kept.{HandleRoom, Roomy, owed_rows, rows_by}
 use Rattle.lpc_rows.specs.Lawful.{AreDrawn, AreLawful, IsLawful, was_drawn, IsPromised}
 use Rattle.lpc_rows.specs.Names.{KeepsOthers, name_of, stands}
@@ -151,12 +152,14 @@ drawn-free : (w : World) (p : model.PortRow → Bool) → AreDrawn w → AreDraw
 drawn-free w p h = record { threads_single = h.threads_single; threads_noted = h.threads_noted; ports_drawn = every-without (λ q. was_drawn w.used_threads w.threads q.birth) p w.ports h.ports_drawn; sections_drawn = h.sections_drawn; tokens_drawn = h.tokens_drawn }
 
 pub freed_lawful : (it : Tables) (calls made : ℕ) (key : Key) (room : ℕ) → AreLawful it calls made → stands (births_of it).ports key ≡ true → is_named_in it key ≡ false → has (has_view_with key) it.parts ≡ false
-    → has (is_sent_on (name_of (births_of it).ports key)) (rows_by it).messages ≡ false → is_registered_port (rows_by it) (name_of (births_of it).ports key) ≡ false → AreLawful (record it { ports = record it.ports { ports = without (at_key key) it.ports.ports; port_room = room } }) calls made
-freed_lawful it calls made key room is there none owned unsent unregistered = record {
+    → has (is_sent_on (name_of (births_of it).ports key)) (rows_by it).messages ≡ false → is_registered_port (rows_by it) (name_of (births_of it).ports key) ≡ false → is_event_port (rows_by it) (name_of (births_of it).ports key) ≡ false → AreLawful (record it { ports = record it.ports { ports = without (at_key key) it.ports.ports; port_room = room } }) calls made
+freed_lawful it calls made key room is there none owned unsent unregistered unheard = record {
   named = freed_named it is.named key room none owned;
   lawful = rw (frees it is.named key room none owned there) (lawful-free (rows_by it) calls made it.waits.spare it.ports.message_room (name_of (births_of it).ports key) unsent is.lawful);
   counted = record { ports_made = is.counted.ports_made; messages_made = is.counted.messages_made; waits_made = is.counted.waits_made; tokens_made = is.counted.tokens_made };
   registered = registered-less (births_of it) (births_of (record it { ports = record it.ports { ports = without (at_key key) it.ports.ports; port_room = room } })) key (keeps it is.named key room) it.procs.threads is.registered unregistered;
+  heard = heard-less (births_of it) (births_of (record it { ports = record it.ports { ports = without (at_key key) it.ports.ports; port_room = room } })) key (keeps it is.named key room) it.procs.processes is.heard unheard;
+  marked = is.marked;
   headed = is.headed;
   drawn = rw (frees it is.named key room none owned there) (drawn-free (rows_by it) (is_port (name_of (births_of it).ports key)) is.drawn);
   born = is.born;
@@ -165,8 +168,8 @@ freed_lawful it calls made key room is there none owned unsent unregistered = re
 }
 
 -- The room
-pub room_freed : (y z s : ℕ) (vs : List HandleRoom) (a b c d e g : ℕ) (w : World) (hs : List HandleRoom) (p : model.PortRow → Bool) → Roomy (room y z s vs a b c d e g w hs) (room y z s vs a b c d (e + 1) g (record w { ports = without p w.ports }) hs)
-room_freed y z s vs a b c d e g w hs p = let clients = count-left is_client_port p w.ports in record {
+pub room_freed : (j y z s : ℕ) (vs : List HandleRoom) (a b c d e g : ℕ) (w : World) (hs : List HandleRoom) (p : model.PortRow → Bool) → Roomy (room j y z s vs a b c d e g w hs) (room j y z s vs a b c d (e + 1) g (record w { ports = without p w.ports }) hs)
+room_freed j y z s vs a b c d e g w hs p = let clients = count-left is_client_port p w.ports in record {
   for_processes = omega arith;
   for_threads = omega arith;
   for_waits = omega arith;

@@ -39,9 +39,9 @@ clients_same k kinds (p ∷ ps) =
     let one : is_client_port (k p) ≡ is_client_port p = rw (kinds p) refl in
     grind (arith, one, clients_same k kinds ps)
 
-pub room_ports : (y z s : ℕ) (vs : List HandleRoom) (a b c d e g : ℕ) (w : World) (hs : List HandleRoom) (k : model.PortRow → model.PortRow) → ((p : model.PortRow) → (k p).kind ≡ p.kind)
-    → (v : World) → v.threads ≡ w.threads → v.messages ≡ w.messages → v.waits ≡ w.waits → v.ports ≡ map k w.ports → Roomy (room y z s vs a b c d e g w hs) (room y z s vs a b c d e g v hs)
-room_ports y z s vs a b c d e g w hs k kinds v ts ms xs ps = let clients = clients_same k kinds w.ports in rw (ts, ms, xs, ps) (record {
+pub room_ports : (j y z s : ℕ) (vs : List HandleRoom) (a b c d e g : ℕ) (w : World) (hs : List HandleRoom) (k : model.PortRow → model.PortRow) → ((p : model.PortRow) → (k p).kind ≡ p.kind)
+    → (v : World) → v.threads ≡ w.threads → v.messages ≡ w.messages → v.waits ≡ w.waits → v.ports ≡ map k w.ports → Roomy (room j y z s vs a b c d e g w hs) (room j y z s vs a b c d e g v hs)
+room_ports j y z s vs a b c d e g w hs k kinds v ts ms xs ps = let clients = clients_same k kinds w.ports in rw (ts, ms, xs, ps) (record {
   for_processes = omega arith;
   for_threads = omega arith;
   for_waits = omega arith;
@@ -126,6 +126,8 @@ module _ (change_row : Key × Port → Key × Port) (same_key : (row : Key × Po
         lawful = rw changes (lawful-ports (rows_by it) calls made it.waits.spare it.ports.message_room k same kinds all.lawful);
         counted = record { ports_made = all.counted.ports_made; messages_made = all.counted.messages_made; waits_made = all.counted.waits_made; tokens_made = all.counted.tokens_made };
         registered = rw births_same all.registered;
+        heard = rw births_same all.heard;
+        marked = all.marked;
         headed = all.headed;
         drawn = rw changes (drawn-ports (rows_by it) k same all.drawn);
         born = all.born;
@@ -140,7 +142,7 @@ module _ (change_row : Key × Port → Key × Port) (same_key : (row : Key × Po
       all_after = record it { ports = after }
 
       pub roomy : (places : ℕ) → ((p : model.PortRow) → (k p).kind ≡ p.kind) → Roomy (room_by (rows_by it) it places) (room_by (rows_by all_after) all_after places)
-      roomy places kinds = room_ports _ _ _ _ _ _ _ _ _ _ (rows_by it) _ k kinds (rows_by all_after) (ap (λ (v : World). v.threads) changes) (ap (λ (v : World). v.messages) changes) (ap (λ (v : World). v.waits) changes) (ap (λ (v : World). v.ports) changes)
+      roomy places kinds = room_ports _ _ _ _ _ _ _ _ _ _ _ (rows_by it) _ k kinds (rows_by all_after) (ap (λ (v : World). v.threads) changes) (ap (λ (v : World). v.messages) changes) (ap (λ (v : World). v.waits) changes) (ap (λ (v : World). v.ports) changes)
 
 -- the row of a key, changed
 abbrev pub at_row : Key → (Port → Port) → Key × Port → Key × Port

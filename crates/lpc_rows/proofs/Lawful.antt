@@ -22,11 +22,11 @@ use Rattle.lpc_model.specs.Closings.{is_closed_post}
 use Rattle.lpc_model.specs.Message.{asks}
 use Rattle.lpc_model.specs.Found.{is_client_port, is_live_thread, is_open, is_own_of, is_port, is_process, is_queued, is_queued_connect, is_table, is_thread, waits_as}
 use Rattle.lpc_model.specs.Entering.{takes}
-use Rattle.lpc_model.specs.Basics.{no_handles, no_views, past_identifier, past_ordinal, received, with_handle, without_handle}
-use Rattle.lpc_rows.specs.Kept.{is_alive, is_asking, is_pending, is_unsent, owed_messages, owed_rows, owed_waits}
+use Rattle.lpc_model.specs.Basics.{left_by, no_handles, no_views, past_identifier, past_ordinal, received, with_handle, without_handle}
+use Rattle.lpc_rows.specs.Kept.{goes_once, goes_twice, is_alive, is_asking, is_pending, is_unsent, owed_by, owed_for, owed_messages, owed_rows, owed_waits}
 use Rattle.lpc_rows.proofs.Owed.{none-taken, owed-drop, owed-handle, owed-process, owed-shut}
 use Rattle.lpc_rows.proofs.Registered.{registered-change, registered-push}
-use Rattle.lpc_rows.proofs.OwnMessages.{asking-pending, count-taken_by, own-change, own-end, own-enter, own-keep, own-take, own-wait, own-withdraw}
+use Rattle.lpc_rows.proofs.OwnMessages.{asking-pending, count-taken_by, own-change, own-end, own-enter, own-keep, own-take, own-wait, own-withdraw, unsent-left}
 use Rattle.lpc_rows.proofs.OwedClosings.{asks_no_closing, closings-fit, one-place, told-enter, told-make, told-take, told-withdraw}
 use Rattle.lpc_rows.specs.OwedClosings.{TellsOnce, closing_places, is_owed}
 use Rattle.lpc_rows.specs.Lawful.{IsLawful, are_single, draws_at_most, is_housed, is_of, is_quiet, is_used}
@@ -312,12 +312,37 @@ pub lawful-drop : (w : World) (calls made a b pid value : ℕ) → IsLawful w ca
     → IsLawful (record w { handles = change (is_table pid) (without_handle value) w.handles }) calls made a b
 lawful-drop w calls made a b pid value h = lawful-handles w calls made a b pid (without_handle value) (λ t. refl) h (omega (arith, h.budget, owed-drop w pid value))
 
-pub lawful-wait : (w : World) (calls made a b : ℕ) (x : WaitRow) → IsLawful w calls made a b → made + owed_rows w < 16 * calls
+-- what waiting events owe
+pub owed-push : (xs : List WaitRow) (x : WaitRow) → owed_for (xs ++ x ∷ []) ≡ owed_for xs + owed_by x
+owed-push xs x =
+    let twice = count-push goes_twice xs x in
+    let once = count-push goes_once xs x in
+    let one = single goes_twice in
+    let other = single goes_once in
+    omega (arith, twice, once, one, other)
+  where
+    single : (p : WaitRow → Bool) → count p (x ∷ []) ≡ cond (p x) 1 0
+    single p = grind arith
+
+pub owed-left : (p : WaitRow → Bool) (xs : List WaitRow) → owed_for (without p xs) ≤ owed_for xs
+owed-left p xs = let twice = count-left goes_twice p xs in let once = count-left goes_once p xs in omega (arith, twice, once)
+
+pub owed-kept : (tid : ℕ) (g : WaitRow → WaitRow) → ((x : WaitRow) → goes_twice (g x) ≡ goes_twice x) → ((x : WaitRow) → goes_once (g x) ≡ goes_once x) → (xs : List WaitRow) → owed_for (change (waits_as tid) g xs) ≡ owed_for xs
+owed-kept tid g twice once xs =
+    let two = kept goes_twice twice xs in
+    let one = kept goes_once once xs in
+    omega (arith, two, one)
+  where
+    kept : (p : WaitRow → Bool) → ((x : WaitRow) → p (g x) ≡ p x) → (ys : List WaitRow) → count p (change (waits_as tid) g ys) ≡ count p ys
+    kept p same [] = refl
+    kept p same (y ∷ ys) = grind (arith, same y, kept p same ys)
+
+pub lawful-wait : (w : World) (calls made a b : ℕ) (x : WaitRow) → IsLawful w calls made a b → made + owed_rows w + (1 + owed_by x) ≤ 16 * calls
     → has (is_live_thread x.thread) w.threads ≡ true → has (waits_as x.thread) w.waits ≡ false → is_quiet w.messages x ≡ true → 0 < a
     → IsLawful (record w { waits = w.waits ++ x ∷ [] }) calls (made + 1) (a - 1) b
 lawful-wait w calls made a b x h lt there none still place = record {
   few = h.few;
-  budget = omega arith;
+  budget = let owed = owed-push w.waits x in omega (arith, owed, lt);
   rows = grind (arith, h.rows);
   draws = every-more (draws_at_most (made + 1)) (draws_at_most (made + 1 + 1)) (draws-more (made + 1) (made + 1 + 1) (omega arith)) w.threads h.draws;
   housed = h.housed;
@@ -334,10 +359,10 @@ lawful-wait w calls made a b x h lt there none still place = record {
 }
 
 pub lawful-end : (w : World) (calls made a b tid : ℕ) → IsLawful w calls made a b → has (is_own_of tid) w.messages ≡ false
-    → IsLawful (record w { waits = without (waits_as tid) w.waits }) calls made (cond (has (waits_as tid) w.waits) (a + 1) a) b
+    → IsLawful (left_by tid w) calls made (cond (has (waits_as tid) w.waits) (a + 1) a) b
 lawful-end w calls made a b tid h none = record {
   few = h.few;
-  budget = h.budget;
+  budget = let less = owed-left (waits_as tid) w.waits in let paid = h.budget in omega (arith, less, paid);
   rows = h.rows;
   draws = h.draws;
   housed = h.housed;
@@ -357,7 +382,7 @@ pub lawful-receive : (w : World) (calls made a b tid : ℕ) → IsLawful w calls
     → IsLawful (record w { waits = change (waits_as tid) received w.waits }) calls made a b
 lawful-receive w calls made a b tid h none = record {
   few = h.few;
-  budget = h.budget;
+  budget = let owed = owed-kept tid received (λ x. refl) (λ x. refl) w.waits in let paid = h.budget in omega (arith, owed, paid);
   rows = h.rows;
   draws = h.draws;
   housed = h.housed;
@@ -374,11 +399,11 @@ lawful-receive w calls made a b tid h none = record {
 }
 
 -- a change of waits that keeps threads, kinds and what is received
-pub lawful-keep : (w : World) (calls made a b tid : ℕ) (g : WaitRow → WaitRow) → ((x : WaitRow) → (g x).thread ≡ x.thread) → ((x : WaitRow) → is_pending (g x) ≡ is_pending x) → ((x : WaitRow) → is_quiet w.messages (g x) ≡ is_quiet w.messages x) → IsLawful w calls made a b
+pub lawful-keep : (w : World) (calls made a b tid : ℕ) (g : WaitRow → WaitRow) → ((x : WaitRow) → (g x).thread ≡ x.thread) → ((x : WaitRow) → is_pending (g x) ≡ is_pending x) → ((x : WaitRow) → is_quiet w.messages (g x) ≡ is_quiet w.messages x) → ((x : WaitRow) → goes_twice (g x) ≡ goes_twice x) → ((x : WaitRow) → goes_once (g x) ≡ goes_once x) → IsLawful w calls made a b
     → IsLawful (record w { waits = change (waits_as tid) g w.waits }) calls made a b
-lawful-keep w calls made a b tid g same pends stills h = record {
+lawful-keep w calls made a b tid g same pends stills twice once h = record {
   few = h.few;
-  budget = h.budget;
+  budget = let owed = owed-kept tid g twice once w.waits in let paid = h.budget in omega (arith, owed, paid);
   rows = h.rows;
   draws = h.draws;
   housed = h.housed;
@@ -391,6 +416,46 @@ lawful-keep w calls made a b tid g same pends stills h = record {
   own = own-keep tid g same pends w.messages w.waits h.own;
   told = h.told;
   waits_fit = grind (arith, h.waits_fit, length-change (waits_as tid) g w.waits);
+  messages_fit = h.messages_fit;
+}
+
+-- events are marked
+pub lawful-marks : (w : World) (calls made a b : ℕ) (marks : List ℕ) → IsLawful w calls made a b → IsLawful (record w { marks = marks }) calls made a b
+lawful-marks w calls made a b marks h = record {
+  few = h.few;
+  budget = h.budget;
+  rows = h.rows;
+  draws = h.draws;
+  housed = h.housed;
+  tables_used = h.tables_used;
+  tables_single = h.tables_single;
+  tables_few = h.tables_few;
+  single = h.single;
+  threads = h.threads;
+  quiet = h.quiet;
+  own = h.own;
+  told = h.told;
+  waits_fit = h.waits_fit;
+  messages_fit = h.messages_fit;
+}
+
+-- a process changes, and keeps its number
+pub lawful-processes : (w : World) (calls made a b pid : ℕ) (f : ProcessRow → ProcessRow) → ((p : ProcessRow) → (f p).number ≡ p.number) → IsLawful w calls made a b → IsLawful (record w { processes = change (is_process pid) f w.processes }) calls made a b
+lawful-processes w calls made a b pid f same h = record {
+  few = h.few;
+  budget = h.budget;
+  rows = grind (arith, h.rows, length-change (is_process pid) f w.processes);
+  draws = h.draws;
+  housed = every-more (is_housed w) _ (λ t there. grind (arith, has-change (is_process t.process) (is_process pid) f (λ p. grind (arith, same p)) w.processes)) w.threads h.housed;
+  tables_used = h.tables_used;
+  tables_single = h.tables_single;
+  tables_few = h.tables_few;
+  single = h.single;
+  threads = h.threads;
+  quiet = h.quiet;
+  own = h.own;
+  told = h.told;
+  waits_fit = h.waits_fit;
   messages_fit = h.messages_fit;
 }
 
@@ -412,7 +477,7 @@ waits-fit ts (x ∷ xs) one all =
 pub places : (w : World) (calls made a b : ℕ) (m : MessageRow) → IsLawful w calls made a b → (is_asking m ≡ true → is_unsent w m.message.header.client.thread ≡ true) → TellsOnce w m.message m.sender
     → (count is_asking w.messages + cond (is_asking m) 1 0 ≤ count is_alive w.threads) × (count is_closed_post w.messages + cond (is_closed_post m) 1 0 ≤ count is_client_port w.ports)
 places w calls made a b m h asks once =
-    let ask = asking-pending w.waits (w.messages ++ m ∷ []) (own-enter m w.messages w.waits asks h.own) in
+    let ask = asking-pending w.waits (w.messages ++ m ∷ []) (own-enter m w.messages w.waits (λ is. unsent-left w m.message.header.client.thread (asks is)) h.own) in
     let pending = count-bound is_pending w.waits in
     let few = waits-fit w.threads w.waits h.single h.threads in
     let asked = count-push is_asking w.messages m in
@@ -442,7 +507,7 @@ lawful-enter w calls made a b m h lt place none asks once other = record {
   single = h.single;
   threads = h.threads;
   quiet = quiet-enter m w.messages w.waits h.quiet none;
-  own = own-enter m w.messages w.waits asks h.own;
+  own = own-enter m w.messages w.waits (λ is. unsent-left w m.message.header.client.thread (asks is)) h.own;
   told = told-enter m w.messages w.ports once h.told;
   waits_fit = h.waits_fit;
   messages_fit =

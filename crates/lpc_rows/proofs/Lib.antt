@@ -7,6 +7,8 @@ pub mod Callers
 pub mod Finds
 pub mod Follows
 pub mod Lawful
+pub mod Marked
+pub mod Events
 pub mod Makes
 pub mod Bound
 pub mod Capacities
@@ -19,6 +21,8 @@ pub mod Rooms
 pub mod Steps
 pub mod Tables
 pub mod Deaths
+pub mod Raising
+pub mod Raised
 pub mod Drawn
 pub mod Dying
 pub mod Enrolling

@@ -70,6 +70,7 @@ module _ (ok : Object → Bool) (f g : Object → Birth) (same : (o : Object) �
   kind_shape wait.Listen bytes o a all = refl
   kind_shape wait.Connect bytes o None all = ap (λ offer. shown_connect bytes offer None) (offer_shape o all)
   kind_shape wait.Connect bytes o (Some a) all = refl
+  kind_shape (wait.Event r) bytes o a all = refl
 
   wait_shape : (row : WaitRow) → every ok (wait_refs row) ≡ true → shown_wait f row ≡ shown_wait g row
   wait_shape row all =

@@ -57,6 +57,8 @@ named_lawful it calls made names is = record {
   lawful = lawful-named (rows_by it) (rows_by (record it { token_names = names })).token_names calls made it.waits.spare it.ports.message_room is.lawful;
   counted = is.counted;
   registered = is.registered;
+  heard = is.heard;
+  marked = is.marked;
   headed = is.headed;
   drawn = drawn.same-drawn (rows_by it) _ refl refl refl refl refl is.drawn;
   born = is.born;

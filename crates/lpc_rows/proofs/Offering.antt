@@ -14,13 +14,14 @@ use Rattle.lpc_waits.specs.declared.Offer.{Offer}
 use Rattle.lpc_waits.specs.declared.WaitKind.{WaitKind}
 use Rattle.lpc_waits.specs.declared.WaitKind.TheVariants as wait
 use Rattle.lpc_waits.specs.declared.WaitRow.{WaitRow}
-use Rattle.lpc_rows.specs.Kept.{Roomy, is_pending, room_by, rows_by}
+use Rattle.lpc_rows.specs.Kept.{Roomy, goes_once, goes_twice, is_pending, owed_rows, room_by, rows_by}
 use Rattle.lpc_rows.specs.Lawful.{AreLawful, IsPromised, is_quiet}
 use Rattle.lpc_rows.specs.Names.{some_stands}
 use Rattle.lpc_rows.specs.Shown.{Births, Tables, birth_of, births_of, object_stands, section_in, shown_offer, shown_wait, wait_refs, with_offer}
+use Rattle.lpc_rows.proofs.Marked as marked
 use Rattle.lpc_rows.proofs.Changes as changes
 use Rattle.lpc_rows.proofs.Drawn as drawn
-use Rattle.lpc_rows.proofs.Lawful.{lawful-keep}
+use Rattle.lpc_rows.proofs.Lawful.{lawful-keep, owed-kept}
 use Rattle.lpc_rows.proofs.Promised as promised
 use Rattle.lpc_rows.proofs.Rooms as rooms
 
@@ -34,6 +35,7 @@ connect_kept o x = by x.kind
     by model.Listen = refl
     by (model.Connect m old) = refl
     by (model.Accepted m a) = refl
+    by (model.Event r) = refl
 
 accepted_kept : (o : Option model.Offer) (x : model.WaitRow) → is_accepted (with_offer o x) ≡ is_accepted x
 accepted_kept o x = by x.kind
@@ -44,6 +46,7 @@ accepted_kept o x = by x.kind
     by model.Listen = refl
     by (model.Connect m old) = refl
     by (model.Accepted m a) = refl
+    by (model.Event r) = refl
 
 pending_kept : (o : Option model.Offer) (x : model.WaitRow) → is_pending (with_offer o x) ≡ is_pending x
 pending_kept o x = by x.kind
@@ -54,6 +57,7 @@ pending_kept o x = by x.kind
     by model.Listen = refl
     by (model.Connect m old) = refl
     by (model.Accepted m a) = refl
+    by (model.Event r) = refl
 
 quiet_kept : (o : Option model.Offer) (ms : List MessageRow) (x : model.WaitRow) → is_quiet ms (with_offer o x) ≡ is_quiet ms x
 quiet_kept o ms x = by x.kind
@@ -64,6 +68,29 @@ quiet_kept o ms x = by x.kind
     by model.Listen = refl
     by (model.Connect m old) = refl
     by (model.Accepted m a) = refl
+    by (model.Event r) = refl
+
+twice_kept : (o : Option model.Offer) (x : model.WaitRow) → goes_twice (with_offer o x) ≡ goes_twice x
+twice_kept o x = by x.kind
+  where
+    by : (kind : model.WaitKind) → let old : model.WaitRow = record x { kind = kind } in goes_twice (with_offer o old) ≡ goes_twice old
+    by (model.Request m) = refl
+    by model.Receive = refl
+    by model.Listen = refl
+    by (model.Connect m old) = refl
+    by (model.Accepted m a) = refl
+    by (model.Event r) = refl
+
+once_kept : (o : Option model.Offer) (x : model.WaitRow) → goes_once (with_offer o x) ≡ goes_once x
+once_kept o x = by x.kind
+  where
+    by : (kind : model.WaitKind) → let old : model.WaitRow = record x { kind = kind } in goes_once (with_offer o old) ≡ goes_once old
+    by (model.Request m) = refl
+    by model.Receive = refl
+    by model.Listen = refl
+    by (model.Connect m old) = refl
+    by (model.Accepted m a) = refl
+    by (model.Event r) = refl
 
 module _ (it : Tables) (calls made who : ℕ) (is : AreLawful it calls made) (offer : Option Offer) where
   abbrev n : Births
@@ -90,6 +117,7 @@ module _ (it : Tables) (calls made who : ℕ) (is : AreLawful it calls made) (of
       by wait.Listen a = refl
       by wait.Connect None = refl
       by wait.Connect (Some a) = refl
+      by (wait.Event r) a = refl
 
   pub offers : rows_by after ≡ record rows { waits = change (waits_as who) (with_offer shown) rows.waits }
   offers = changes.waits_change it is.named who it.waits.spare it.waits.made (waits.with_offer offer) (with_offer shown) offers_row
@@ -109,13 +137,16 @@ module _ (it : Tables) (calls made who : ℕ) (is : AreLawful it calls made) (of
         by wait.Listen a all = all
         by wait.Connect None all = let section = section_stands offer there in grind (arith, section)
         by wait.Connect (Some a) all = all
+        by (wait.Event r) a all = all
 
     pub offered_lawful : AreLawful after calls made
     offered_lawful = record {
       named = changes.waiting it is.named who it.waits.spare it.waits.made (waits.with_offer offer) refs_stand;
-      lawful = rw offers (lawful-keep rows calls made it.waits.spare it.ports.message_room who (with_offer shown) (λ x. refl) (pending_kept shown) (quiet_kept shown rows.messages) is.lawful);
+      lawful = rw offers (lawful-keep rows calls made it.waits.spare it.ports.message_room who (with_offer shown) (λ x. refl) (pending_kept shown) (quiet_kept shown rows.messages) (twice_kept shown) (once_kept shown) is.lawful);
       counted = record { ports_made = is.counted.ports_made; messages_made = is.counted.messages_made; waits_made = is.counted.waits_made; tokens_made = is.counted.tokens_made };
       registered = is.registered;
+      heard = is.heard;
+      marked = marked.marked-change it.procs.threads it.waits.rows it.ports.messages it.marks who (waits.with_offer offer) (λ x. refl) (λ x. refl) is.marked;
       mapped = is.mapped;
       headed = is.headed;
       drawn = drawn.same-drawn rows _ refl refl refl refl refl is.drawn;
@@ -123,7 +154,10 @@ module _ (it : Tables) (calls made who : ℕ) (is : AreLawful it calls made) (of
       promised = subst (λ (v : World). IsPromised v.waits v.handles it.parts) (sym offers) (promised.wait-stays rows.waits rows.handles it.parts is.promised (waits_as who) (with_offer shown) (connect_kept shown) (λ x. refl) (promised.kept-taken who (with_offer shown) (accepted_kept shown) (λ x. refl) rows.waits is.promised.taken));
     }
 
+  pub offered_owed : owed_rows (rows_by after) ≡ owed_rows rows
+  offered_owed = let is_step = ap owed_rows offers in let same = owed-kept who (with_offer shown) (twice_kept shown) (once_kept shown) rows.waits in omega (arith, is_step, same)
+
   pub offered_room : (places : ℕ) → Roomy (room_by rows it places) (room_by (rows_by after) after places)
   offered_room places =
       let waiting = rows_by after in
-      rooms.room_keep _ _ _ _ _ _ _ _ _ _ rows _ waiting.waits (ap (λ (v : World). length v.waits) offers ∙ length-change (waits_as who) (with_offer shown) rows.waits)
+      rooms.room_keep _ _ _ _ _ _ _ _ _ _ _ rows _ waiting.waits (ap (λ (v : World). length v.waits) offers ∙ length-change (waits_as who) (with_offer shown) rows.waits)

@@ -13,7 +13,7 @@ use Rattle.lpc_model.specs.Found.{has_handle_to, is_client_port, is_open, is_por
 use Rattle.lpc_model.proofs.Closings.Single.{put-none}
 use Rattle.lpc_ports.specs.declared.Port.{Port}
 use Rattle.lpc_slots.specs.declared.Key.{Key}
-use Rattle.lpc_rows.specs.Kept.{is_open_client, owed_deaths, owed_rows}
+use Rattle.lpc_rows.specs.Kept.{is_open_client, owed_deaths, owed_events, owed_rows}
 use Rattle.lpc_rows.specs.Names.{are_apart, differs, name_of, names_of, stands}
 use Rattle.lpc_rows.specs.Shown.{AreNamed, Tables, all_pass, birth_of, births_of, object_stands, part_refs, shown_handle, shown_part, shown_port}
 use Rattle.lpc_homes.specs.declared.object.Object.{Object}
@@ -47,7 +47,7 @@ shut-client w v p shut off = at (is_client_port p) (is_open w p.birth) (is_open 
 
 -- a process comes, without handles
 pub owed-process : (w : World) (pid : ℕ) → owed_rows (record w { handles = w.handles ++ no_handles pid ∷ [] }) ≡ owed_rows w
-owed-process w pid = ap (λ k. k + owed_deaths w) (same w.ports)
+owed-process w pid = ap (λ k. k + owed_deaths w + owed_events w) (same w.ports)
   where
     same : (ps : List PortRow) → count (is_open_client (record w { handles = w.handles ++ no_handles pid ∷ [] })) ps ≡ count (is_open_client w) ps
     same [] = refl
@@ -79,7 +79,7 @@ owed-free w b = let less = count-left (is_open_client w) (is_port b) w.ports in 
 
 -- ports are changed, each keeping its birth and its kind
 pub owed-map : (w : World) (k : PortRow → PortRow) → ((p : PortRow) → (k p).birth ≡ p.birth) → ((p : PortRow) → (k p).kind ≡ p.kind) → owed_rows (record w { ports = map k w.ports }) ≡ owed_rows w
-owed-map w k same kinds = ap (λ n. n + owed_deaths w) (mapped w.ports)
+owed-map w k same kinds = ap (λ n. n + owed_deaths w + owed_events w) (mapped w.ports)
   where
     mapped : (ps : List PortRow) → count (is_open_client w) (map k ps) ≡ count (is_open_client w) ps
     mapped [] = refl

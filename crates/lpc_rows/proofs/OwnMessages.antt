@@ -7,7 +7,7 @@ use Rattle.lpc_base.specs.Rows.{change, count, first, has, without, without_firs
 use Rattle.lpc_base.proofs.Differ.{one-row}
 use Rattle.lpc_base.proofs.RowWords.{count-fewer, count-has, count-left, count-none, count-push, has-push, has_none-more, none-counted}
 use Rattle.lpc_model.specs.World.{MessageRow, WaitRow, World}
-use Rattle.lpc_model.specs.Found.{is_own_of, waits_as}
+use Rattle.lpc_model.specs.Found.{is_mark, is_own_of, waits_as}
 use Rattle.lpc_rows.specs.Clauses.{HasLeft}
 use Rattle.lpc_rows.specs.Kept.{StaysUnqueued, has_queued, is_asking, is_pending, is_pending_in, is_unsent, pends_as}
 use Rattle.lpc_rows.specs.Lawful.{are_single}
@@ -43,11 +43,18 @@ module _ (tid who : ℕ) (other : (tid == who) ≡ false) where
   others-change g same [] = refl
   others-change g same (x ∷ xs) = grind (arith, off x, same x, others-change g same xs)
 
+-- rows count alike of which the first do, and the others
+counted-both : {X : Type 0} (p : X → Bool) (x y : X) (xs ys : List X) → p y ≡ p x → count p ys ≡ count p xs → count p (y ∷ ys) ≡ count p (x ∷ xs)
+counted-both p x y xs ys one rest = grind (arith, one, rest)
+
 -- a change that keeps threads and what pends
 pub pending-kept : (tid who : ℕ) (g : WaitRow → WaitRow) → ((x : WaitRow) → (g x).thread ≡ x.thread) → ((x : WaitRow) → is_pending (g x) ≡ is_pending x) → (xs : List WaitRow)
     → count (pends_as tid) (change (waits_as who) g xs) ≡ count (pends_as tid) xs
 pending-kept tid who g same pends [] = refl
-pending-kept tid who g same pends (x ∷ xs) = grind (arith, same x, pends x, pending-kept tid who g same pends xs)
+pending-kept tid who g same pends (x ∷ xs) = counted-both (pends_as tid) x (cond (waits_as who x) (g x) x) xs (change (waits_as who) g xs) one (pending-kept tid who g same pends xs)
+  where
+    one : pends_as tid (cond (waits_as who x) (g x) x) ≡ pends_as tid x
+    one = elim (waits_as who x) as (λ b. pends_as tid (cond b (g x) x) ≡ pends_as tid x) [ true ↦ rw (same x, pends x) refl | false ↦ refl ]
 
 pub pends-once : (tid : ℕ) (xs : List WaitRow) → are_single xs ≡ true → count (pends_as tid) xs ≤ 1
 pends-once tid xs one = grind (arith, fewer xs, one-row (λ (x : WaitRow). x.thread) tid xs one)
@@ -98,6 +105,30 @@ own-enter m ms xs asks own = λ tid. elim (is_own_of tid m) as (λ b. is_own_of 
       grind (arith, here, and_parts (has (pends_as tid) xs) (not (has (is_own_of tid) ms)) unsent, count-has (pends_as tid) xs, count-none (is_own_of tid) ms, count-push (is_own_of tid) ms m)
   | false ↦ λ off. grind (arith, off, own tid, count-push (is_own_of tid) ms m)
 ] refl
+
+-- what is unsent pends, and stands in no queue; and its thread isn't marked
+pub unsent-left : (w : World) (tid : ℕ) → is_unsent w tid ≡ true → (is_pending_in w tid && not (has_queued w tid)) ≡ true
+unsent-left w tid h = by (is_pending_in w tid) (has_queued w tid) (has (is_mark tid) w.marks) h
+  where
+    by : (a b c : Bool) → (a && not b && not c) ≡ true → (a && not b) ≡ true
+    by true true c h = absurd (cc)
+    by true false c h = refl
+    by false b c h = absurd (cc)
+
+pub unsent-unmarked : (w : World) (tid : ℕ) → is_unsent w tid ≡ true → has (is_mark tid) w.marks ≡ false
+unsent-unmarked w tid h = by (is_pending_in w tid) (has_queued w tid) (has (is_mark tid) w.marks) h
+  where
+    by : (a b c : Bool) → (a && not b && not c) ≡ true → c ≡ false
+    by true true c h = absurd (cc)
+    by true false true h = absurd (cc)
+    by true false false h = refl
+    by false b c h = absurd (cc)
+
+-- so the sender of a message that enters isn't marked
+pub unmarked-sender : (w : World) (m : MessageRow) (who : ℕ) → (is_asking m ≡ true → is_unsent w m.message.header.client.thread ≡ true) → is_own_of who m ≡ true → has (is_mark who) w.marks ≡ false
+unmarked-sender w m who asks own =
+    let parts = and_parts (is_asking m) (m.message.header.client.thread == who) own in
+    subst (λ n. has (is_mark n) w.marks ≡ false) (eqb-true m.message.header.client.thread who parts.1) (unsent-unmarked w m.message.header.client.thread (asks parts.0))
 
 -- What follows
 -- a thread that doesn't pend has no message of its own in a queue
@@ -152,14 +183,14 @@ unqueued-pulled q w = record { unqueued = λ tid none. gone tid w.messages none 
     gone tid (m ∷ ms) none = grind (arith, gone tid ms)
 
 -- a wait that begins for a request or connect, whose message doesn't stand yet
-pub unsent-begun : (w : World) (x : WaitRow) → AreOwn w.messages w.waits → has (waits_as x.thread) w.waits ≡ false → is_pending x ≡ true
+pub unsent-begun : (w : World) (x : WaitRow) → AreOwn w.messages w.waits → has (waits_as x.thread) w.waits ≡ false → has (is_mark x.thread) w.marks ≡ false → is_pending x ≡ true
     → is_unsent (record w { waits = w.waits ++ x ∷ [] }) x.thread ≡ true
-unsent-begun w x own ready pends =
+unsent-begun w x own ready unmarked pends =
     let idle : is_pending_in w x.thread ≡ false = has_none-more (waits_as x.thread) (pends_as x.thread) (λ y none. grind arith) w.waits ready in
     let self : (x.thread == x.thread) ≡ true = grind (arith, nat_tests) in
     let there : has (pends_as x.thread) (w.waits ++ x ∷ []) ≡ true = has-push (pends_as x.thread) w.waits x (grind (arith, self, pends)) in
     let none : has_queued w x.thread ≡ false = none-queued w x.thread own idle in
-    grind (arith, there, none)
+    grind (arith, there, none, unmarked)
 
 -- a thread that is found and doesn't pend has no message of its own in a queue
 pub none-queued_if : (w : World) (r : Option ℕ) → AreOwn w.messages w.waits → IfSome r (λ tid. is_pending_in w tid ≡ false) → IfSome r (λ tid. has_queued w tid ≡ false)

@@ -7,7 +7,7 @@ use Rattle.std.proofs.lemmas.Option.{same_Some}
 use Rattle.lpc_base.specs.declared.birth.Birth.{Birth}
 use Rattle.lpc_base.specs.Rows.{first, without, without_first}
 use Rattle.lpc_base.proofs.RowMaps.{every-first, every-without_first, first-map, without_first-map}
-use Rattle.lpc_base.proofs.RowWords.{first-passes, without_first-none}
+use Rattle.lpc_base.proofs.RowWords.{first-passes, has_none-without_first, without_first-none}
 use Rattle.lpc_base.proofs.Bools.{first-true}
 use Rattle.lpc_message.specs.Layout.{half_at}
 use Rattle.lpc_message.specs.declared.kind.TheConstants.{CONNECTION_REQUEST}
@@ -28,6 +28,7 @@ use Rattle.lpc_rows.specs.Lawful.{AreLawful, has_header}
 use Rattle.lpc_rows.specs.Names.{name_of, stands}
 use Rattle.lpc_rows.specs.Shown.{Tables, AreNamed, Births, all_pass, birth_of, births_of, message_refs, object_stands, pulled_row, shown_message}
 use Rattle.lpc_homes.specs.declared.object.Object.{Object}
+use Rattle.lpc_rows.proofs.Marked as marked
 use Rattle.lpc_rows.proofs.Drawn as drawn
 use Rattle.lpc_rows.proofs.Follows as follows
 use Rattle.lpc_rows.proofs.Lawful as lawful
@@ -37,9 +38,9 @@ use Rattle.lpc_rows.proofs.Rooms.{room}
 use Rattle.lpc_rows.specs.Kept.{HandleRoom}
 
 -- the room that a message leaves which is taken
-room_taken : (y z s : ℕ) (vs : List HandleRoom) (a b c d e g : ℕ) (w : World) (hs : List HandleRoom) (p : model.MessageRow → Bool) (m : model.MessageRow) → first p w.messages ≡ Some m → (v : World) → v.threads ≡ w.threads → v.waits ≡ w.waits → v.ports ≡ w.ports → v.messages ≡ without_first p w.messages
-    → Roomy (room y z s vs a b c d e g w hs) (room y z s vs a b c (d + 1) e g v hs)
-room_taken y z s vs a b c d e g w hs p m at v ts xs ps ms =
+room_taken : (j y z s : ℕ) (vs : List HandleRoom) (a b c d e g : ℕ) (w : World) (hs : List HandleRoom) (p : model.MessageRow → Bool) (m : model.MessageRow) → first p w.messages ≡ Some m → (v : World) → v.threads ≡ w.threads → v.waits ≡ w.waits → v.ports ≡ w.ports → v.messages ≡ without_first p w.messages
+    → Roomy (room j y z s vs a b c d e g w hs) (room j y z s vs a b c (d + 1) e g v hs)
+room_taken j y z s vs a b c d e g w hs p m at v ts xs ps ms =
     let less = lawful.owed-taken p w m at in
     rw (ts, xs, ps, ms) (record {
       for_processes = omega arith;
@@ -164,6 +165,8 @@ module _ (it : Tables) (calls made : ℕ) (is : AreLawful it calls made) (queue 
       lawful = rw pulls (lawful.lawful-take rows calls made it.waits.spare it.ports.message_room in_rows m at is.lawful);
       counted = record { ports_made = is.counted.ports_made; messages_made = is.counted.messages_made; waits_made = is.counted.waits_made; tokens_made = is.counted.tokens_made };
       registered = is.registered;
+      heard = is.heard;
+      marked = marked.marked-fewer it.procs.threads it.waits.rows it.ports.messages (without_first in_table it.ports.messages) it.marks (λ who none. has_none-without_first (ports.is_own_of who) in_table it.ports.messages none) is.marked;
       mapped = is.mapped;
       headed = every-without_first has_header in_table it.ports.messages is.headed;
       drawn = drawn.same-drawn rows _ refl refl refl refl refl is.drawn;
@@ -172,7 +175,7 @@ module _ (it : Tables) (calls made : ℕ) (is : AreLawful it calls made) (queue 
     }
 
     pub pulled_room : (places : ℕ) → Roomy (room_by rows it places) (room_by (rows_by after) after places)
-    pulled_room places = room_taken _ _ _ _ _ _ _ _ _ _ rows _ in_rows m at (rows_by after) refl refl refl (ap (λ (v : World). v.messages) pulls)
+    pulled_room places = room_taken _ _ _ _ _ _ _ _ _ _ _ rows _ in_rows m at (rows_by after) refl refl refl (ap (λ (v : World). v.messages) pulls)
 
     pub pulled_left : HasLeft (rows_by after) m.message
     pulled_left = subst (λ (v : World). HasLeft v m.message) (sym pulls) (left-pulled in_rows rows m is.lawful.own is.lawful.single at)

@@ -111,6 +111,11 @@ listen_is wait.Connect bytes offer None = refl
 listen_is wait.Connect bytes offer (Some accepted) = refl
 listen_is b bytes offer accepted = refl
 
+pub event_is : (kind : WaitKind) (bytes : List ℕ) (offer : Option model.Offer) (accepted : Option Accepted) → (elim (shown_kind kind bytes offer accepted) [ model.Event r ↦ true | _ ↦ false ]) ≡ waits.is_event kind
+event_is wait.Connect bytes offer None = refl
+event_is wait.Connect bytes offer (Some accepted) = refl
+event_is b bytes offer accepted = refl
+
 module _ (it : Tables) (is : AreNamed (births_of it) it) where
   abbrev n : Births
   n = births_of it
@@ -229,6 +234,7 @@ module _ (it : Tables) (is : AreNamed (births_of it) it) where
         process = ap (λ (y : model.WaitRow). y.process) same;
         request = ap (λ (y : model.WaitRow). found.is_request y) same ∙ request_is x.kind held.row.message.items (option_map (shown_offer f) held.row.offer) held.row.accepted;
         listen = ap (λ (y : model.WaitRow). found.is_listen y) same ∙ listen_is x.kind held.row.message.items (option_map (shown_offer f) held.row.offer) held.row.accepted;
+        event = ap (λ (y : model.WaitRow). found.is_event y) same ∙ event_is x.kind held.row.message.items (option_map (shown_offer f) held.row.offer) held.row.accepted;
         port = ap (λ (y : model.WaitRow). y.port) same;
         queue = ap (λ (y : model.WaitRow). y.queue) same;
         identifier = ap (λ (y : model.WaitRow). y.identifier) same;

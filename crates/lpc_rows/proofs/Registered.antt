@@ -44,7 +44,7 @@ registered-less_threads goes (t ∷ ts) =
 
 -- Their ports stand under their names where all do that stood
 module _ (n m : Births) (keeps : KeepsNames n.ports m.ports) where
-  under-name : (r : Registration) → is_under_name n r ≡ true → is_under_name m r ≡ true
+  pub under-name : (r : Registration) → is_under_name n r ≡ true → is_under_name m r ≡ true
   under-name r there = rw (keeps.there r.port (grind arith), keeps.name r.port (grind arith)) (grind arith)
 
   pub registered-more : (ts : List procs.ThreadRow) → every (has_named_ports n) ts ≡ true → every (has_named_ports m) ts ≡ true
@@ -64,7 +64,7 @@ module _ (n m : Births) (key : Key) (keeps : KeepsOthers key n.ports m.ports) wh
     | false ↦ λ other. rw (keeps.there r.port other (grind arith), keeps.name r.port other (grind arith)) (grind arith)
   ] refl
 
-  unders-other : (rs : List Registration) → every (is_under_name n) rs ≡ true → has (same_birth b) (map (λ (r : Registration). r.birth) rs) ≡ false → every (is_under_name m) rs ≡ true
+  pub unders-other : (rs : List Registration) → every (is_under_name n) rs ≡ true → has (same_birth b) (map (λ (r : Registration). r.birth) rs) ≡ false → every (is_under_name m) rs ≡ true
   unders-other [] all off = refl
   unders-other (r ∷ rs) all off = grind (arith, under-other r, unders-other rs)
 

@@ -7,6 +7,7 @@ use Rattle.lpc_base.proofs.Differ.{length-ended}
 use Rattle.lpc_base.proofs.RowWords.{count-push}
 use Rattle.lpc_base.proofs.Bools.{at-most-one}
 use Rattle.lpc_model.specs.World.{World, MessageRow, PortRow, ThreadRow, WaitRow}
+use Rattle.lpc_model.specs.Basics.{left_by}
 use Rattle.lpc_model.specs.Closings.{is_closed_post}
 use Rattle.lpc_model.specs.Found.{is_queued, waits_as}
 use Rattle.lpc_rows.specs.Kept.{HandleRoom, Room, Roomy, is_alive, is_asking, is_room, owed_messages, owed_waits, registered_ports, room_in}
@@ -16,11 +17,11 @@ use Rattle.lpc_rows.proofs.Lawful.{owed-port, owed-taken, owed-withdrawn}
 use Rattle.lpc_rows.proofs.Registered.{registered-push}
 
 -- the room by its numbers
-abbrev pub room : ℕ → ℕ → ℕ → List HandleRoom → ℕ → ℕ → ℕ → ℕ → ℕ → ℕ → World → List HandleRoom → Room
-room tokens token_names sections views processes threads waits messages ports names w handles = record {
+abbrev pub room : ℕ → ℕ → ℕ → ℕ → List HandleRoom → ℕ → ℕ → ℕ → ℕ → ℕ → ℕ → World → List HandleRoom → Room
+room marks tokens token_names sections views processes threads waits messages ports names w handles = record {
   processes = processes;
   threads = threads;
-  waits = waits - owed_waits w;
+  waits = min (waits - owed_waits w) (marks - count is_alive w.threads);
   messages = messages - owed_messages w;
   ports = ports;
   names = names;
@@ -36,8 +37,8 @@ pub handles_more : (rooms : List HandleRoom) (r : HandleRoom) (pid : ℕ) → ro
 handles_more [] r pid = grind arith
 handles_more (s ∷ rooms) r pid = grind (arith, handles_more rooms r pid)
 
-module _ (y z s : ℕ) (vs : List HandleRoom) (a b c d e g : ℕ) (w : World) (hs : List HandleRoom) where
-  pub room_threads : (ts : List ThreadRow) → count is_alive ts ≡ count is_alive w.threads → each (λ t. t.registrations) ts ≡ registered_ports w → Roomy (room y z s vs a b c d e g w hs) (room y z s vs a b c d e g (record w { threads = ts }) hs)
+module _ (j y z s : ℕ) (vs : List HandleRoom) (a b c d e g : ℕ) (w : World) (hs : List HandleRoom) where
+  pub room_threads : (ts : List ThreadRow) → count is_alive ts ≡ count is_alive w.threads → each (λ t. t.registrations) ts ≡ registered_ports w → Roomy (room j y z s vs a b c d e g w hs) (room j y z s vs a b c d e g (record w { threads = ts }) hs)
   room_threads ts same kept = let owed = ap length kept in record {
     for_processes = omega arith;
     for_threads = omega arith;
@@ -53,7 +54,7 @@ module _ (y z s : ℕ) (vs : List HandleRoom) (a b c d e g : ℕ) (w : World) (h
   }
 
   pub room_process : (v : World) (less : ℕ) (r q : HandleRoom) → v.threads ≡ w.threads → v.waits ≡ w.waits → v.messages ≡ w.messages → v.ports ≡ w.ports → a ≤ less + 1
-      → Roomy (room y z s vs a b c d e g w hs) (record (room y z s (vs ++ q ∷ []) less b c d e g v (hs ++ r ∷ [])) { processes = less + 1 })
+      → Roomy (room j y z s vs a b c d e g w hs) (record (room j y z s (vs ++ q ∷ []) less b c d e g v (hs ++ r ∷ [])) { processes = less + 1 })
   room_process v less r q ts ws ms ps le = rw (ts, ws, ms, ps) (record {
     for_processes = le;
     for_threads = omega arith;
@@ -69,7 +70,7 @@ module _ (y z s : ℕ) (vs : List HandleRoom) (a b c d e g : ℕ) (w : World) (h
   })
 
   pub room_thread : (v : World) (t : ThreadRow) → t.registrations ≡ [] → v.threads ≡ w.threads ++ t ∷ [] → v.waits ≡ w.waits → v.messages ≡ w.messages → v.ports ≡ w.ports
-      → let after = room y z s vs a (b - 1) c d e g v hs in Roomy (room y z s vs a b c d e g w hs) (record after { threads = after.threads + 1; waits = after.waits + 1; messages = after.messages + 1 })
+      → let after = room j y z s vs a (b - 1) c d e g v hs in Roomy (room j y z s vs a b c d e g w hs) (record after { threads = after.threads + 1; waits = after.waits + 1; messages = after.messages + 1 })
   room_thread v t none ts ws ms ps = rw (ts, ws, ms, ps) (let more = count-push is_alive w.threads t in let one = at-most-one (is_alive t) in let owed = ap length (registered-push w.threads t none) in record {
     for_processes = omega arith;
     for_threads = omega arith;
@@ -84,7 +85,7 @@ module _ (y z s : ℕ) (vs : List HandleRoom) (a b c d e g : ℕ) (w : World) (h
     for_views = λ pid. omega arith;
   })
 
-  pub room_port : (p : PortRow) → let after = room y z s vs a b c d (e - 1) g (record w { ports = w.ports ++ p ∷ [] }) hs in Roomy (room y z s vs a b c d e g w hs) (record after { ports = after.ports + 1; messages = after.messages + closing_places p.kind })
+  pub room_port : (p : PortRow) → let after = room j y z s vs a b c d (e - 1) g (record w { ports = w.ports ++ p ∷ [] }) hs in Roomy (room j y z s vs a b c d e g w hs) (record after { ports = after.ports + 1; messages = after.messages + closing_places p.kind })
   room_port p = let more = owed-port w p in record {
     for_processes = omega arith;
     for_threads = omega arith;
@@ -99,7 +100,7 @@ module _ (y z s : ℕ) (vs : List HandleRoom) (a b c d e g : ℕ) (w : World) (h
     for_views = λ pid. omega arith;
   }
 
-  pub room_enter : (m : MessageRow) → let after = room y z s vs a b c (d - 1) e g (record w { messages = w.messages ++ m ∷ [] }) hs in Roomy (room y z s vs a b c d e g w hs) (record after { messages = after.messages + 1 })
+  pub room_enter : (m : MessageRow) → let after = room j y z s vs a b c (d - 1) e g (record w { messages = w.messages ++ m ∷ [] }) hs in Roomy (room j y z s vs a b c d e g w hs) (record after { messages = after.messages + 1 })
   room_enter m =
       let asked = count-push is_asking w.messages m in
       let told = count-push is_closed_post w.messages m in
@@ -117,7 +118,7 @@ module _ (y z s : ℕ) (vs : List HandleRoom) (a b c d e g : ℕ) (w : World) (h
         for_views = λ pid. omega arith;
       }
 
-  pub room_take : (q : Birth) (m : MessageRow) → first (is_queued q) w.messages ≡ Some m → Roomy (room y z s vs a b c d e g w hs) (room y z s vs a b c (d + 1) e g (record w { messages = without_first (is_queued q) w.messages }) hs)
+  pub room_take : (q : Birth) (m : MessageRow) → first (is_queued q) w.messages ≡ Some m → Roomy (room j y z s vs a b c d e g w hs) (room j y z s vs a b c (d + 1) e g (record w { messages = without_first (is_queued q) w.messages }) hs)
   room_take q m at =
       let less = owed-taken (is_queued q) w m at in
       record {
@@ -134,7 +135,7 @@ module _ (y z s : ℕ) (vs : List HandleRoom) (a b c d e g : ℕ) (w : World) (h
         for_views = λ pid. omega arith;
       }
 
-  pub room_withdraw : (p : MessageRow → Bool) → Roomy (room y z s vs a b c d e g w hs) (room y z s vs a b c (d + count p w.messages) e g (record w { messages = without p w.messages }) hs)
+  pub room_withdraw : (p : MessageRow → Bool) → Roomy (room j y z s vs a b c d e g w hs) (room j y z s vs a b c (d + count p w.messages) e g (record w { messages = without p w.messages }) hs)
   room_withdraw p = let less = owed-withdrawn p w in record {
     for_processes = omega arith;
     for_threads = omega arith;
@@ -149,7 +150,7 @@ module _ (y z s : ℕ) (vs : List HandleRoom) (a b c d e g : ℕ) (w : World) (h
     for_views = λ pid. omega arith;
   }
 
-  pub room_wait : (x : WaitRow) → length w.waits < count is_alive w.threads → Roomy (room y z s vs a b c d e g w hs) (room y z s vs a b (c - 1) d e g (record w { waits = w.waits ++ x ∷ [] }) hs)
+  pub room_wait : (x : WaitRow) → length w.waits < count is_alive w.threads → Roomy (room j y z s vs a b c d e g w hs) (room j y z s vs a b (c - 1) d e g (record w { waits = w.waits ++ x ∷ [] }) hs)
   room_wait x place =
       let more = length_push w.waits x in
       record {
@@ -166,13 +167,13 @@ module _ (y z s : ℕ) (vs : List HandleRoom) (a b c d e g : ℕ) (w : World) (h
         for_views = λ pid. omega arith;
       }
 
-  pub room_end : (who : ℕ) → are_single w.waits ≡ true → Roomy (room y z s vs a b c d e g w hs) (room y z s vs a b (cond (has (waits_as who) w.waits) (c + 1) c) d e g (record w { waits = without (waits_as who) w.waits }) hs)
+  pub room_end : (who : ℕ) → are_single w.waits ≡ true → Roomy (room j y z s vs a b c d e g w hs) (room j y z s vs a b (cond (has (waits_as who) w.waits) (c + 1) c) d e g (left_by who w) hs)
   room_end who one =
       let less = length-ended (λ (x : WaitRow). x.thread) who w.waits one in
       record {
         for_processes = omega arith;
         for_threads = omega arith;
-        for_waits = ended (has (waits_as who) w.waits) (length (without (waits_as who) w.waits)) less;
+        for_waits = let more = ended (has (waits_as who) w.waits) (length (without (waits_as who) w.waits)) less in omega (arith, more);
         for_messages = omega arith;
         for_ports = omega arith;
         for_names = omega arith;
@@ -187,7 +188,7 @@ module _ (y z s : ℕ) (vs : List HandleRoom) (a b c d e g : ℕ) (w : World) (h
       ended true m eq = omega (arith, eq)
       ended false m eq = omega (arith, eq)
 
-  pub room_keep : (xs : List WaitRow) → length xs ≡ length w.waits → Roomy (room y z s vs a b c d e g w hs) (room y z s vs a b c d e g (record w { waits = xs }) hs)
+  pub room_keep : (xs : List WaitRow) → length xs ≡ length w.waits → Roomy (room j y z s vs a b c d e g w hs) (room j y z s vs a b c d e g (record w { waits = xs }) hs)
   room_keep xs long = record {
     for_processes = omega arith;
     for_threads = omega arith;
@@ -202,7 +203,7 @@ module _ (y z s : ℕ) (vs : List HandleRoom) (a b c d e g : ℕ) (w : World) (h
     for_views = λ pid. omega arith;
   }
 
-  pub room_more : (a' b' c' d' e' g' : ℕ) → a ≤ a' → b ≤ b' → c ≤ c' → d ≤ d' → e ≤ e' → g ≤ g' → Roomy (room y z s vs a b c d e g w hs) (room y z s vs a' b' c' d' e' g' w hs)
+  pub room_more : (a' b' c' d' e' g' : ℕ) → a ≤ a' → b ≤ b' → c ≤ c' → d ≤ d' → e ≤ e' → g ≤ g' → Roomy (room j y z s vs a b c d e g w hs) (room j y z s vs a' b' c' d' e' g' w hs)
   room_more a' b' c' d' e' g' la lb lc ld le lg = record {
     for_processes = la;
     for_threads = lb;
@@ -210,6 +211,22 @@ module _ (y z s : ℕ) (vs : List HandleRoom) (a b c d e g : ℕ) (w : World) (h
     for_messages = omega (arith, ld);
     for_ports = le;
     for_names = lg;
+    for_sections = omega arith;
+    for_tokens = omega arith;
+    for_token_names = omega arith;
+    for_handles = λ pid. omega arith;
+    for_views = λ pid. omega arith;
+  }
+
+  -- more room for waits, and for marks with them
+  pub room_waits : (k c' : ℕ) → j ≤ k → c ≤ c' → Roomy (room j y z s vs a b c d e g w hs) (room k y z s vs a b c' d e g w hs)
+  room_waits k c' marks waits = record {
+    for_processes = omega arith;
+    for_threads = omega arith;
+    for_waits = omega (arith, marks, waits);
+    for_messages = omega arith;
+    for_ports = omega arith;
+    for_names = omega arith;
     for_sections = omega arith;
     for_tokens = omega arith;
     for_token_names = omega arith;

@@ -76,6 +76,8 @@ module _ (it : Tables) (is : AreNamed (births_of it) it) (key : Key) (old : Sect
     lawful = rw writes (lawful-sections (rows_by it) (rows_by it).sections (basic (rows_by it) (Writes (name_of n.sections key) place bytes)).contents calls made made it.waits.spare it.ports.message_room all.lawful (omega arith) (omega arith) all.lawful.budget);
     counted = record { ports_made = all.counted.ports_made; messages_made = all.counted.messages_made; waits_made = all.counted.waits_made; tokens_made = all.counted.tokens_made };
     registered = all.registered;
+    heard = all.heard;
+    marked = all.marked;
     headed = all.headed;
     drawn = rw writes (drawn.same-drawn (rows_by it) _ refl refl refl refl refl all.drawn);
     born = subst AreBornIn (sym writes) all.born;

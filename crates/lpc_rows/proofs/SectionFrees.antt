@@ -83,6 +83,7 @@ module _ (key : Key) where
       by wait.Connect None None off = refl
       by wait.Connect (Some o) None off = grind arith
       by wait.Connect o (Some a) off = refl
+      by (wait.Event r) o a off = refl
 
   -- rows that name ports alone
   port_other : (row : Key × Port) → all_pass port_refs (is_other key) row ≡ true
@@ -187,6 +188,8 @@ module _ (it : Tables) (is : AreNamed (births_of it) it) (key : Key) (new : Tabl
     lawful = rw (frees there) (lawful-sections (rows_by it) (basic (rows_by it) (Frees (section_name (name_of n.sections key)))).sections (basic (rows_by it) (Frees (section_name (name_of n.sections key)))).contents calls made made it.waits.spare it.ports.message_room all.lawful (let fewer = count-bound (λ (s : model.SectionRow). not (is_section (name_of n.sections key) s)) (rows_by it).sections in omega (arith, fewer)) (omega arith) all.lawful.budget);
     counted = record { ports_made = all.counted.ports_made; messages_made = all.counted.messages_made; waits_made = all.counted.waits_made; tokens_made = all.counted.tokens_made };
     registered = all.registered;
+    heard = all.heard;
+    marked = all.marked;
     headed = all.headed;
     drawn = rw (frees there) (drawn.drawn-freed (rows_by it) (is_section (name_of n.sections key)) (basic (rows_by it) (Frees (section_name (name_of n.sections key)))).contents all.drawn);
     born = subst AreBornIn (sym (frees there)) all.born;

@@ -163,6 +163,8 @@ module _ (it : Tables) (calls made : ℕ) (is : AreLawful it calls made) (key : 
     lawful = rw (adds it is.named key row new more free zero) (lawful-sections (rows_by it) left.sections left.contents calls made (made + 1) it.waits.spare it.ports.message_room is.lawful (let long = length_push (rows_by it).sections (shown_section (key, row)) in omega (arith, long)) (omega arith) (omega (arith, lt)));
     counted = record { ports_made = omega (arith, is.counted.ports_made); messages_made = omega (arith, is.counted.messages_made); waits_made = omega (arith, is.counted.waits_made); tokens_made = omega (arith, is.counted.tokens_made) };
     registered = is.registered;
+    heard = is.heard;
+    marked = is.marked;
     headed = is.headed;
     drawn = rw (adds it is.named key row new more free zero) (drawn.drawn-section (rows_by it) (shown_section (key, row)) left.contents was is.drawn);
     born = subst AreBornIn (sym (adds it is.named key row new more free zero)) is.born;
@@ -180,6 +182,8 @@ roomed_lawful it calls made spare is = record {
   lawful = is.lawful;
   counted = is.counted;
   registered = is.registered;
+  heard = is.heard;
+  marked = is.marked;
   headed = is.headed;
   drawn = is.drawn;
   born = is.born;

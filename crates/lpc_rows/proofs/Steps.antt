@@ -1,4 +1,5 @@
 -- For each changing call: the tables stay lawful.
+use Rattle.lpc_rows.proofs.OwnMessages.{unmarked-sender}
 use Rattle.std.proofs.Common.{◌≡◌, ℕ, ◌+◌, ◌*◌, ◌-◌, ◌<◌, ◌≤◌, ◌^◌, List, [], ◌∷◌, ◌++◌, true, false, cond, length, Option, Some, None, refl, ap, sym, subst, ◌∙◌, arith}
 use Rattle.std.specs.Prelude.{IsSome, IsSomeAnd, is_some, nat_le, not, option_map, ◌==◌}
 use Rattle.std.proofs.lemmas.Bool.{eqb-true}
@@ -7,7 +8,7 @@ use Rattle.std.proofs.lemmas.Option.{same_Some}
 use Rattle.lpc_base.specs.declared.birth.Birth.{Birth}
 use Rattle.lpc_base.specs.Rows.{change, count, every, first, has, without, without_first}
 use Rattle.lpc_base.proofs.RowMaps.{every-first, every-without_first, first-map, has-map, mapped-twice}
-use Rattle.lpc_base.proofs.RowWords.{every-change, every-push, first-passes}
+use Rattle.lpc_base.proofs.RowWords.{every-change, every-push, first-passes, has_none-without_first}
 use Rattle.lpc_handles.specs.declared.table.Row.{Row}
 use Rattle.lpc_model.specs.World as model
 use Rattle.lpc_model.specs.World.{World}
@@ -34,11 +35,11 @@ use Rattle.lpc_waits.specs.declared.WaitKind.{WaitKind}
 use Rattle.lpc_waits.specs.declared.WaitKind.TheVariants as wait
 use Rattle.lpc_waits.specs.declared.WaitRow.{WaitRow}
 use Rattle.lpc_rows.specs.Names.{are_apart, name_of, stands}
-use Rattle.lpc_rows.specs.Shown.{Tables, Births, all_pass, birth_of, births_of, message_refs, object_stands, offer_refs, port_refs, pulled_row, shown_handle, shown_message, shown_port, shown_process, shown_thread, shown_used, shown_wait, tables_of, wait_refs, with_message}
+use Rattle.lpc_rows.specs.Shown.{Tables, Births, all_pass, birth_of, births_of, message_refs, object_stands, offer_refs, port_refs, pulled_row, shown_handle, shown_message, shown_port, shown_process, shown_thread, shown_used, shown_wait, tables_of, wait_refs, without_mark, with_message}
 use Rattle.lpc_homes.specs.Parts.{are_single_parts, handed, is_part, roomed, spare_at}
-use Rattle.lpc_rows.specs.Kept.{has_queued, is_alive, is_asking, is_unsent, owed_messages, owed_rows, owed_waits, rows_by}
+use Rattle.lpc_rows.specs.Kept.{has_queued, is_alive, is_asking, is_unsent, owed_by, owed_messages, owed_rows, owed_waits, rows_by}
 use Rattle.lpc_rows.specs.OwedClosings.{TellsOnce, closing_places, is_owed}
-use Rattle.lpc_rows.specs.Lawful.{AreBornIn, AreLawful, AreMappedIn, IsCounted, IsPromised, can_begin, draws_at_most, drew, has_header, has_mapped_views, has_named_ports, is_housed, is_quiet}
+use Rattle.lpc_rows.specs.Lawful.{AreBornIn, AreLawful, AreMappedIn, IsCounted, IsPromised, can_begin, draws_at_most, drew, has_header, has_mapped_views, has_named_hearers, has_named_ports, is_housed, is_living, is_quiet}
 use Rattle.lpc_homes.specs.declared.object.Object.{Object}
 use Rattle.lpc_homes.specs.declared.object.Object.TheVariants as object
 use Rattle.lpc_homes.specs.declared.parts.Part.{Part}
@@ -48,6 +49,7 @@ use Rattle.lpc_tokens.specs.Names.{TokenNames}
 use Rattle.lpc_tokens.specs.declared.token_row.TokenRow.{TokenRow}
 use Rattle.lpc_views.specs.Parts.{is_mapped}
 use Rattle.lpc_views.specs.Views.{Views}
+use Rattle.lpc_rows.proofs.Marked as marked
 use Rattle.lpc_rows.proofs.Changes as changes
 use Rattle.lpc_rows.proofs.Born as born
 use Rattle.lpc_rows.proofs.Drawn as drawn
@@ -59,6 +61,7 @@ use Rattle.lpc_rows.proofs.Owed as owed
 use Rattle.lpc_rows.proofs.Promised as promised
 use Rattle.lpc_rows.proofs.Promised.{IsWelcome}
 use Rattle.lpc_rows.proofs.Registered.{registered-more}
+use Rattle.lpc_rows.proofs.Events.{heard-more}
 
 pub more_mapped : (sections : Table SectionRow) (parts : List Part) (made : ℕ) → AreMappedIn sections parts made → AreMappedIn sections parts (made + 1)
 more_mapped sections parts made h = record { sections_made = omega (arith, h.sections_made); views_mapped = h.views_mapped }
@@ -124,6 +127,8 @@ module _ (it : Tables) (calls made : ℕ) (is : AreLawful it calls made) where
     lawful = rw (changes.draws_identifier it is.named who) (lawful.lawful-identifier rows calls made it.waits.spare it.ports.message_room who is.lawful lt);
     counted = more_counted it.ports it.waits it.tokens made is.counted;
     registered = every-change (has_named_ports n) (procs.is_thread who) procs.past_identifier (λ t there. there) it.procs.threads is.registered;
+    heard = is.heard;
+    marked = marked.marked-thread procs.past_identifier (λ t. refl) who it.procs.threads it.waits.rows it.ports.messages it.marks is.marked;
     mapped = more_mapped it.sections it.parts made is.mapped;
     headed = is.headed;
     drawn = rw (changes.draws_identifier it is.named who) (drawn.drawn-identifier rows who is.drawn);
@@ -137,6 +142,8 @@ module _ (it : Tables) (calls made : ℕ) (is : AreLawful it calls made) where
     lawful = rw (changes.draws_ordinal it is.named who) (lawful.lawful-ordinal rows calls made it.waits.spare it.ports.message_room who is.lawful lt);
     counted = more_counted it.ports it.waits it.tokens made is.counted;
     registered = every-change (has_named_ports n) (procs.is_thread who) procs.past_birth (λ t there. there) it.procs.threads is.registered;
+    heard = is.heard;
+    marked = marked.marked-thread procs.past_birth (λ t. refl) who it.procs.threads it.waits.rows it.ports.messages it.marks is.marked;
     mapped = more_mapped it.sections it.parts made is.mapped;
     headed = is.headed;
     drawn = rw (changes.draws_ordinal it is.named who) (drawn.drawn-ordinal rows who is.drawn);
@@ -148,14 +155,16 @@ module _ (it : Tables) (calls made : ℕ) (is : AreLawful it calls made) where
   some-number m above = grind (arith, nat_tests)
 
   -- processes and threads
-  pub added_process : (row : ProcessRow) (part : Part) (room : ℕ) → part.handles.rows ≡ [] → part.views.views ≡ [] → part.process ≡ row.number → made + owed_rows rows < 16 * calls → has (λ m. m == row.number) it.procs.used_processes ≡ false
+  pub added_process : (row : ProcessRow) (part : Part) (room : ℕ) → part.handles.rows ≡ [] → part.views.views ≡ [] → part.process ≡ row.number → row.debug_port ≡ None → row.exception_port ≡ None → made + owed_rows rows < 16 * calls → has (λ m. m == row.number) it.procs.used_processes ≡ false
       → can_begin rows.threads row.number row.birth ≡ true → ((row.birth.maker == 0) ≡ false → has (is_born_process row.birth) rows.processes ≡ false)
       → AreLawful (record it { procs = record it.procs { processes = it.procs.processes ++ row ∷ []; used_processes = it.procs.used_processes ++ row.number ∷ []; process_room = room }; parts = it.parts ++ part ∷ [] }) calls (made + 1)
-  added_process row part room none no_views same lt new begins other = record {
+  added_process row part room none no_views same no_debug no_exception lt new begins other = record {
     named = changes.processed it is.named _ part none no_views;
     lawful = rw (changes.adds_process it is.named row part room none no_views same) (lawful.lawful-process rows calls made it.waits.spare it.ports.message_room (shown_process row) is.lawful lt new);
     counted = more_counted it.ports it.waits it.tokens made is.counted;
     registered = is.registered;
+    heard = every-push (has_named_hearers n) it.procs.processes row is.heard (rw (no_debug, no_exception) refl);
+    marked = is.marked;
     mapped = record {
       sections_made = omega (arith, is.mapped.sections_made);
       views_mapped = every-push (has_mapped_views it.sections) it.parts part is.mapped.views_mapped (rw no_views refl);
@@ -171,14 +180,16 @@ module _ (it : Tables) (calls made : ℕ) (is : AreLawful it calls made) where
   process_owed row part room none no_views same = rw (changes.adds_process it is.named row part room none no_views same) (owed.owed-process rows row.number)
 
   pub added_thread : (row : ThreadRow) (room : ℕ) → 1 ≤ row.number → has (λ u. u.number == row.number) rows.used_threads ≡ false → made + owed_rows rows < 16 * calls → draws_at_most 1 (shown_thread row) ≡ true → row.registered.items ≡ [] → is_housed rows (shown_thread row) ≡ true
-      → owed_waits rows < it.waits.spare → owed_messages rows < it.ports.message_room
+      → owed_waits rows < it.waits.spare → owed_messages rows < it.ports.message_room → count is_living it.procs.threads < it.marks.places
       → can_begin rows.threads row.number row.birth ≡ true → ((row.birth.maker == 0) ≡ false → has (is_born_thread row.birth) rows.threads ≡ false)
       → AreLawful (record it { procs = record it.procs { threads = it.procs.threads ++ row ∷ []; used_threads = it.procs.used_threads ++ (record { number = row.number; process = row.process }) ∷ []; thread_room = room } }) calls (made + 1)
-  added_thread row room above unused lt young none home wait_room message_room begins other = record {
+  added_thread row room above unused lt young none home wait_room message_room mark_room begins other = record {
     named = changes.threaded it is.named _;
     lawful = rw (changes.adds_thread it is.named row room) (lawful.lawful-thread rows calls made it.waits.spare it.ports.message_room (shown_thread row) _ is.lawful lt young (rw none refl) home wait_room message_room);
     counted = more_counted it.ports it.waits it.tokens made is.counted;
     registered = every-push (has_named_ports n) it.procs.threads row is.registered (rw none refl);
+    heard = is.heard;
+    marked = marked.marked-born it.procs.threads row it.waits.rows it.ports.messages it.marks mark_room is.marked;
     mapped = more_mapped it.sections it.parts made is.mapped;
     headed = is.headed;
     drawn = rw (changes.adds_thread it is.named row room) (drawn.drawn-thread rows (shown_thread row) _ refl unused is.drawn);
@@ -196,6 +207,8 @@ module _ (it : Tables) (calls made : ℕ) (is : AreLawful it calls made) where
     lawful = rw (changes.enters it is.named row (it.ports.message_room - 1) (it.ports.messages_made + 1)) (lawful.lawful-enter rows calls made it.waits.spare it.ports.message_room (shown_message (birth_of n) row) is.lawful lt place none asks once other);
     counted = record { ports_made = omega (arith, is.counted.ports_made); messages_made = omega (arith, is.counted.messages_made); waits_made = omega (arith, is.counted.waits_made); tokens_made = omega (arith, is.counted.tokens_made) };
     registered = is.registered;
+    heard = is.heard;
+    marked = marked.marked-enter it.procs.threads it.waits.rows it.ports.messages it.marks row (λ who own. unmarked-sender rows (shown_message (birth_of n) row) who asks own) is.marked;
     mapped = more_mapped it.sections it.parts made is.mapped;
     headed = every-push has_header it.ports.messages row is.headed long;
     drawn = drawn.same-drawn rows _ refl refl refl refl refl is.drawn;
@@ -210,6 +223,8 @@ module _ (it : Tables) (calls made : ℕ) (is : AreLawful it calls made) where
     lawful = rw (changes.takes it is.named key (it.ports.message_room + 1) there) (lawful.lawful-take rows calls made it.waits.spare it.ports.message_room (is_queued (name_of n.ports key)) m at is.lawful);
     counted = record { ports_made = is.counted.ports_made; messages_made = is.counted.messages_made; waits_made = is.counted.waits_made; tokens_made = is.counted.tokens_made };
     registered = is.registered;
+    heard = is.heard;
+    marked = marked.marked-fewer it.procs.threads it.waits.rows it.ports.messages (without_first (ports.is_in key) it.ports.messages) it.marks (λ who none. has_none-without_first (ports.is_own_of who) (ports.is_in key) it.ports.messages none) is.marked;
     mapped = is.mapped;
     headed = every-without_first has_header (ports.is_in key) it.ports.messages is.headed;
     drawn = drawn.same-drawn rows _ refl refl refl refl refl is.drawn;
@@ -218,7 +233,7 @@ module _ (it : Tables) (calls made : ℕ) (is : AreLawful it calls made) where
   }
 
   -- waits
-  pub awaited : (row : WaitRow) → all_pass wait_refs (object_stands n) row ≡ true → made + owed_rows rows < 16 * calls → has (is_live_thread row.thread) rows.threads ≡ true → has (waits_as row.thread) rows.waits ≡ false → is_quiet rows.messages (shown_wait (birth_of n) row) ≡ true
+  pub awaited : (row : WaitRow) → all_pass wait_refs (object_stands n) row ≡ true → made + owed_rows rows + (1 + owed_by (shown_wait (birth_of n) row)) ≤ 16 * calls → has (is_live_thread row.thread) rows.threads ≡ true → has (waits_as row.thread) rows.waits ≡ false → is_quiet rows.messages (shown_wait (birth_of n) row) ≡ true
       → IsPromised (rows.waits ++ shown_wait (birth_of n) row ∷ []) rows.handles it.parts
       → AreLawful (record it { waits = record { rows = it.waits.rows ++ row ∷ []; spare = it.waits.spare - 1; made = it.waits.made + 1 } }) calls (made + 1)
   awaited row there lt thread ready still owed = record {
@@ -226,6 +241,8 @@ module _ (it : Tables) (calls made : ℕ) (is : AreLawful it calls made) where
     lawful = rw (changes.awaits it is.named row (it.waits.spare - 1) (it.waits.made + 1)) (lawful.lawful-wait rows calls made it.waits.spare it.ports.message_room (shown_wait (birth_of n) row) is.lawful lt thread ready still (lawful.wait-place rows calls made it.waits.spare it.ports.message_room row.thread is.lawful thread ready));
     counted = record { ports_made = omega (arith, is.counted.ports_made); messages_made = omega (arith, is.counted.messages_made); waits_made = omega (arith, is.counted.waits_made); tokens_made = omega (arith, is.counted.tokens_made) };
     registered = is.registered;
+    heard = is.heard;
+    marked = marked.marked-wait it.procs.threads it.waits.rows it.ports.messages it.marks row is.marked;
     mapped = more_mapped it.sections it.parts made is.mapped;
     headed = is.headed;
     drawn = drawn.same-drawn rows _ refl refl refl refl refl is.drawn;
@@ -236,12 +253,14 @@ module _ (it : Tables) (calls made : ℕ) (is : AreLawful it calls made) where
   pub has_wait : (who : ℕ) → has (waits_as who) rows.waits ≡ has (waits.is_of who) it.waits.rows
   has_wait who = has-map (shown_wait (birth_of n)) (all_pass wait_refs (object_stands n)) (waits.is_of who) (waits_as who) (λ row _. refl) it.waits.rows is.named.refs.in_waits
 
-  pub ended : (who : ℕ) → has_queued rows who ≡ false → AreLawful (record it { waits = record { rows = without (waits.is_of who) it.waits.rows; spare = cond (has (waits.is_of who) it.waits.rows) (it.waits.spare + 1) it.waits.spare; made = it.waits.made } }) calls made
+  pub ended : (who : ℕ) → has_queued rows who ≡ false → AreLawful (record it { waits = record { rows = without (waits.is_of who) it.waits.rows; spare = cond (has (waits.is_of who) it.waits.rows) (it.waits.spare + 1) it.waits.spare; made = it.waits.made }; marks = without_mark who it.marks }) calls made
   ended who none = record {
-    named = changes.ended it is.named who (cond (has (waits.is_of who) it.waits.rows) (it.waits.spare + 1) it.waits.spare) it.waits.made;
+    named = changes.ended it is.named who (cond (has (waits.is_of who) it.waits.rows) (it.waits.spare + 1) it.waits.spare) it.waits.made (without_mark who it.marks);
     lawful = rw (changes.ends it is.named who (cond (has (waits.is_of who) it.waits.rows) (it.waits.spare + 1) it.waits.spare) it.waits.made, ← has_wait who) (lawful.lawful-end rows calls made it.waits.spare it.ports.message_room who is.lawful none);
     counted = record { ports_made = is.counted.ports_made; messages_made = is.counted.messages_made; waits_made = is.counted.waits_made; tokens_made = is.counted.tokens_made };
     registered = is.registered;
+    heard = is.heard;
+    marked = marked.marked-end it.procs.threads it.waits.rows it.ports.messages it.marks who is.marked;
     mapped = is.mapped;
     headed = is.headed;
     drawn = drawn.same-drawn rows _ refl refl refl refl refl is.drawn;
@@ -256,6 +275,8 @@ module _ (it : Tables) (calls made : ℕ) (is : AreLawful it calls made) where
     lawful = rw (changes.receives it is.named who) (lawful.lawful-receive rows calls made it.waits.spare it.ports.message_room who is.lawful none);
     counted = record { ports_made = is.counted.ports_made; messages_made = is.counted.messages_made; waits_made = is.counted.waits_made; tokens_made = is.counted.tokens_made };
     registered = is.registered;
+    heard = is.heard;
+    marked = marked.marked-change it.procs.threads it.waits.rows it.ports.messages it.marks who waits.received (λ x. refl) (λ x. refl) is.marked;
     mapped = is.mapped;
     headed = is.headed;
     drawn = drawn.same-drawn rows _ refl refl refl refl refl is.drawn;
@@ -270,6 +291,8 @@ module _ (it : Tables) (calls made : ℕ) (is : AreLawful it calls made) where
     lawful = rw (changes.keeps_message it is.named who bytes) (changes.lawful-message rows calls made it.waits.spare it.ports.message_room who bytes is.lawful);
     counted = record { ports_made = is.counted.ports_made; messages_made = is.counted.messages_made; waits_made = is.counted.waits_made; tokens_made = is.counted.tokens_made };
     registered = is.registered;
+    heard = is.heard;
+    marked = marked.marked-change it.procs.threads it.waits.rows it.ports.messages it.marks who (waits.with_message bytes) (λ x. refl) (λ x. refl) is.marked;
     mapped = is.mapped;
     headed = is.headed;
     drawn = drawn.same-drawn rows _ refl refl refl refl refl is.drawn;
@@ -288,6 +311,8 @@ module _ (it : Tables) (calls made : ℕ) (is : AreLawful it calls made) where
     lawful = rw (changes.hands it is.named pid value row) (lawful.lawful-handle rows calls made it.waits.spare it.ports.message_room pid _ is.lawful lt (single_object row.object));
     counted = is.counted;
     registered = is.registered;
+    heard = is.heard;
+    marked = is.marked;
     mapped = change_mapped it.sections it.parts made pid (handed value row) (λ part. refl) is.mapped;
     headed = is.headed;
     drawn = drawn.same-drawn rows _ refl refl refl refl refl is.drawn;
@@ -301,6 +326,8 @@ module _ (it : Tables) (calls made : ℕ) (is : AreLawful it calls made) where
     lawful = rw (changes.rooms it is.named pid spare) is.lawful;
     counted = is.counted;
     registered = is.registered;
+    heard = is.heard;
+    marked = is.marked;
     mapped = change_mapped it.sections it.parts made pid (roomed spare) (λ part. refl) is.mapped;
     headed = is.headed;
     drawn = drawn.same-drawn rows _ refl refl refl refl refl is.drawn;
@@ -320,6 +347,8 @@ module _ (it : Tables) (calls made : ℕ) (is : AreLawful it calls made) where
     lawful = rw (makes.makes it is.named key row (it.ports.port_room - 1) (it.ports.ports_made + 1) refs) (lawful.lawful-port rows calls made it.waits.spare it.ports.message_room (shown_port (birth_of n) (key, row)) is.lawful lt (owed.fresh-shut it is.named row.birth fresh) place);
     counted = record { ports_made = omega (arith, is.counted.ports_made); messages_made = omega (arith, is.counted.messages_made); waits_made = omega (arith, is.counted.waits_made); tokens_made = omega (arith, is.counted.tokens_made) };
     registered = registered-more n (births_of (record it { ports = record it.ports { ports = it.ports.ports ++ (key, row) ∷ []; port_room = it.ports.port_room - 1; ports_made = it.ports.ports_made + 1 } })) (makes.keeps it is.named key row (it.ports.port_room - 1) (it.ports.ports_made + 1)) it.procs.threads is.registered;
+    heard = heard-more n (births_of (record it { ports = record it.ports { ports = it.ports.ports ++ (key, row) ∷ []; port_room = it.ports.port_room - 1; ports_made = it.ports.ports_made + 1 } })) (makes.keeps it is.named key row (it.ports.port_room - 1) (it.ports.ports_made + 1)) it.procs.processes is.heard;
+    marked = is.marked;
     mapped = more_mapped it.sections it.parts made is.mapped;
     headed = is.headed;
     drawn = rw (makes.makes it is.named key row (it.ports.port_room - 1) (it.ports.ports_made + 1) refs) (drawn.drawn-port rows (shown_port (birth_of n) (key, row)) was is.drawn);
@@ -328,7 +357,7 @@ module _ (it : Tables) (calls made : ℕ) (is : AreLawful it calls made) where
   }
 
 -- nothing
-pub none_lawful : (space : NameSpace Key) (sections : Table SectionRow) (tokens : Table TokenRow) (names : TokenNames) → space.bindings ≡ [] → listed sections ≡ [] → sections.made ≡ 0 → listed tokens ≡ [] → tokens.made ≡ 0 → AreLawful (tables_of (record { processes = []; threads = []; used_processes = []; used_threads = []; process_room = 0; thread_room = 0 }) [] (record { ports = []; messages = []; port_room = 0; message_room = 0; ports_made = 0; messages_made = 0 }) (record { rows = []; spare = 0; made = 0 }) space sections tokens names) 0 0
+pub none_lawful : (space : NameSpace Key) (sections : Table SectionRow) (tokens : Table TokenRow) (names : TokenNames) → space.bindings ≡ [] → listed sections ≡ [] → sections.made ≡ 0 → listed tokens ≡ [] → tokens.made ≡ 0 → AreLawful (tables_of (record { processes = []; threads = []; used_processes = []; used_threads = []; process_room = 0; thread_room = 0 }) [] (record { ports = []; messages = []; port_room = 0; message_room = 0; ports_made = 0; messages_made = 0 }) (record { rows = []; spare = 0; made = 0 }) space sections tokens names (record { rows = []; places = 0 })) 0 0
 unfolding are_apart
 none_lawful space sections tokens names none no_sections unmade no_tokens unmade_tokens = record {
   named = record { ports_apart = refl; sections_apart = rw no_sections refl; tokens_apart = rw no_tokens refl; refs = record { in_handles = refl; in_ports = refl; in_messages = refl; in_waits = refl; in_names = rw none refl; in_views = refl } };
@@ -351,6 +380,8 @@ none_lawful space sections tokens names none no_sections unmade no_tokens unmade
   };
   counted = record { ports_made = omega arith; messages_made = omega arith; waits_made = omega arith; tokens_made = omega (arith, unmade_tokens) };
   registered = refl;
+  heard = refl;
+  marked = record { marked = λ tid. omega arith; left = refl; places = omega arith };
   mapped = record { sections_made = omega (arith, unmade); views_mapped = refl };
   headed = refl;
   drawn = record { threads_single = refl; threads_noted = refl; ports_drawn = refl; sections_drawn = rw no_sections refl; tokens_drawn = rw no_tokens refl };
@@ -376,6 +407,7 @@ module _ (it : Tables) (calls made : ℕ) (is : AreLawful it calls made) where
   begun_stands wait.Receive a b one two = two_stand a b one two
   begun_stands wait.Listen a b one two = two_stand a b one two
   begun_stands wait.Connect a b one two = two_stand a b one two
+  begun_stands (wait.Event r) a b one two = two_stand a b one two
 
   -- the wait of a thread
   none_of : {X : Type 0} (o : Option X) → is_some o ≡ false → o ≡ None
@@ -478,6 +510,8 @@ module _ (it : Tables) (calls made : ℕ) (is : AreLawful it calls made) where
     lawful = lawful.lawful-room all calls made it.waits.spare it.ports.message_room it.waits.spare messages is.lawful (omega arith) more;
     counted = record { ports_made = is.counted.ports_made; messages_made = is.counted.messages_made; waits_made = is.counted.waits_made; tokens_made = is.counted.tokens_made };
     registered = is.registered;
+    heard = is.heard;
+    marked = is.marked;
     mapped = is.mapped;
     headed = is.headed;
     drawn = drawn.same-drawn all _ refl refl refl refl refl is.drawn;

@@ -193,3 +193,4 @@ module _ (it : Tables) (calls made : ℕ) (is : AreLawful it calls made) where
       by_kind wait.Receive = refl
       by_kind wait.Listen = refl
       by_kind wait.Connect = refl
+      by_kind (wait.Event r) = refl

@@ -68,6 +68,7 @@ module _ (key : Key) where
       by wait.Connect None None = refl
       by wait.Connect (Some o) None = refl
       by wait.Connect o (Some a) = refl
+      by (wait.Event r) o a = refl
 
   port_other : (row : Key × Port) → all_pass port_refs (is_other key) row ≡ true
   port_other row = every-append (is_other key) (ports_in row.1.pair) (ports_in row.1.connection) (owner_other row.1.pair) (owner_other row.1.connection)
@@ -156,6 +157,8 @@ module _ (it : Tables) (is : AreNamed (births_of it) it) (key : Key) (new : Tabl
       tokens_made = let count = ap (λ (t : Table TokenRow). t.made) is_less in omega (arith, all.counted.tokens_made, count);
     };
     registered = all.registered;
+    heard = all.heard;
+    marked = all.marked;
     headed = all.headed;
     drawn = rw (frees there) (drawn.drawn-token_freed (rows_by it) (is_token (name_of n.tokens key)) all.drawn);
     born = subst AreBornIn (sym (frees there)) all.born;

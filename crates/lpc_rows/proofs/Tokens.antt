@@ -147,6 +147,8 @@ module _ (it : Tables) (calls made : ℕ) (is : AreLawful it calls made) (key : 
       tokens_made = let count = ap (λ (t : Table TokenRow). t.made) is_new in omega (arith, is.counted.tokens_made, count);
     };
     registered = is.registered;
+    heard = is.heard;
+    marked = is.marked;
     headed = is.headed;
     drawn = rw (adds it is.named key row new more free) (drawn.drawn-token (rows_by it) (shown_token (key, row)) was is.drawn);
     born = subst AreBornIn (sym (adds it is.named key row new more free)) is.born;
@@ -161,6 +163,8 @@ roomed_lawful it calls made spare is = record {
   lawful = is.lawful;
   counted = record { ports_made = is.counted.ports_made; messages_made = is.counted.messages_made; waits_made = is.counted.waits_made; tokens_made = is.counted.tokens_made };
   registered = is.registered;
+  heard = is.heard;
+  marked = is.marked;
   headed = is.headed;
   drawn = is.drawn;
   born = is.born;

@@ -12,8 +12,9 @@ use Rattle.lpc_model.proofs.Steps.Rows.{has-without}
 use Rattle.lpc_procs.specs.Procs as procs
 use Rattle.lpc_rows.specs.Held.{has_holders}
 use Rattle.lpc_rows.specs.Kept.{HandleRoom, Roomy, is_alive, rows_by}
-use Rattle.lpc_rows.specs.Lawful.{AreBornIn, AreLawful, IsLawful, draws_at_most, has_named_ports, is_housed, is_of}
+use Rattle.lpc_rows.specs.Lawful.{AreBornIn, AreLawful, IsLawful, draws_at_most, has_named_hearers, has_named_ports, is_housed, is_living, is_of}
 use Rattle.lpc_rows.specs.Shown.{Tables, births_of, shown_process, shown_thread}
+use Rattle.lpc_rows.proofs.Marked as marked
 use Rattle.lpc_rows.proofs.Born as born
 use Rattle.lpc_rows.proofs.Changes as changes
 use Rattle.lpc_rows.proofs.Drawn as drawn
@@ -108,6 +109,8 @@ module _ (it : Tables) (calls made : ℕ) (is : AreLawful it calls made) where
     lawful = rw (thread-shown b left) (lawful-less rows calls made it.waits.spare it.ports.message_room (is_born_thread b) over is.lawful);
     counted = is.counted;
     registered = every-without (has_named_ports (births_of it)) (procs.is_thread_born b) it.procs.threads is.registered;
+    heard = is.heard;
+    marked = marked.marked-threads it.procs.threads _ it.waits.rows it.ports.messages it.marks (count-left is_living (procs.is_thread_born b) it.procs.threads) is.marked;
     mapped = is.mapped;
     headed = is.headed;
     drawn = rw (thread-shown b left) (drawn.drawn-less rows (is_born_thread b) is.drawn);
@@ -127,6 +130,8 @@ module _ (it : Tables) (calls made : ℕ) (is : AreLawful it calls made) where
     lawful = rw (process-shown b left) (lawful-vacated rows calls made it.waits.spare it.ports.message_room b (sym (zero_has (lives_by rows b) rows.threads) ∙ none) is.lawful);
     counted = is.counted;
     registered = is.registered;
+    heard = every-without (has_named_hearers (births_of it)) (procs.is_process_born b) it.procs.processes is.heard;
+    marked = is.marked;
     mapped = is.mapped;
     headed = is.headed;
     drawn = drawn.same-drawn rows _ refl refl refl refl refl is.drawn;
@@ -135,8 +140,8 @@ module _ (it : Tables) (calls made : ℕ) (is : AreLawful it calls made) where
   }
 
 -- The room
-module _ (y z s : ℕ) (vs : List HandleRoom) (a b c d e g : ℕ) (w : World) (hs : List HandleRoom) where
-  pub room-less : (more : ℕ) (goes : ThreadRow → Bool) → b ≤ more → Roomy (room y z s vs a b c d e g w hs) (room y z s vs a more c d e g (record w { threads = without goes w.threads }) hs)
+module _ (j y z s : ℕ) (vs : List HandleRoom) (a b c d e g : ℕ) (w : World) (hs : List HandleRoom) where
+  pub room-less : (more : ℕ) (goes : ThreadRow → Bool) → b ≤ more → Roomy (room j y z s vs a b c d e g w hs) (room j y z s vs a more c d e g (record w { threads = without goes w.threads }) hs)
   room-less more goes le = let fewer = count-left is_alive goes w.threads in let owed = registered-less_threads goes w.threads in record {
     for_processes = omega arith;
     for_threads = le;
@@ -151,7 +156,7 @@ module _ (y z s : ℕ) (vs : List HandleRoom) (a b c d e g : ℕ) (w : World) (h
     for_views = λ pid. omega arith;
   }
 
-  pub room-vacated : (more : ℕ) (ps : List ProcessRow) → a ≤ more → Roomy (room y z s vs a b c d e g w hs) (room y z s vs more b c d e g (record w { processes = ps }) hs)
+  pub room-vacated : (more : ℕ) (ps : List ProcessRow) → a ≤ more → Roomy (room j y z s vs a b c d e g w hs) (room j y z s vs more b c d e g (record w { processes = ps }) hs)
   room-vacated more ps le = record {
     for_processes = le;
     for_threads = omega arith;

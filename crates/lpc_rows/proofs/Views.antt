@@ -131,6 +131,8 @@ module _ (it : Tables) (calls made : ℕ) (is : AreLawful it calls made) (test :
     lawful = rw shown (lawful-views rows vs calls made it.waits.spare it.ports.message_room is.lawful);
     counted = is.counted;
     registered = is.registered;
+    heard = is.heard;
+    marked = is.marked;
     headed = is.headed;
     drawn = rw shown (drawn.same-drawn rows _ refl refl refl refl refl is.drawn);
     born = subst AreBornIn (sym shown) is.born;

@@ -12,17 +12,12 @@ use Rattle.lpc_rows.specs.Kept.{Roomy, StaysUnqueued, has_queued, room_by, rows_
 use Rattle.lpc_rows.specs.Lawful.{AreLawful, has_header}
 use Rattle.lpc_rows.specs.Shown.{Births, Tables, all_pass, birth_of, births_of, message_refs, object_stands, shown_message}
 use Rattle.lpc_homes.specs.declared.object.Object.{Object}
+use Rattle.lpc_rows.proofs.Marked as marked
 use Rattle.lpc_rows.proofs.Changes as changes
 use Rattle.lpc_rows.proofs.Drawn as drawn
 use Rattle.lpc_rows.proofs.Lawful as lawful
 use Rattle.lpc_rows.proofs.Readings.{count-shown, has-shown}
 use Rattle.lpc_rows.proofs.Rooms as rooms
-
-pub turned : (a b : Bool) → (a || b) ≡ (b || a)
-turned true true = refl
-turned true false = refl
-turned false true = refl
-turned false false = refl
 
 none_left : {X : Type 0} (p : X → Bool) (xs : List X) → has p (without p xs) ≡ false
 none_left p [] = refl
@@ -65,6 +60,8 @@ module _ (it : Tables) (calls made : ℕ) (is : AreLawful it calls made) (who : 
     lawful = rw (withdraws, ← same_count) (lawful.lawful-withdraw rows calls made it.waits.spare it.ports.message_room (is_own_of who) is.lawful);
     counted = record { ports_made = is.counted.ports_made; messages_made = is.counted.messages_made; waits_made = is.counted.waits_made; tokens_made = is.counted.tokens_made };
     registered = is.registered;
+    heard = is.heard;
+    marked = marked.marked-fewer it.procs.threads it.waits.rows it.ports.messages (without (ports.is_own_of who) it.ports.messages) it.marks (λ n none. has_none-without (ports.is_own_of n) (ports.is_own_of who) it.ports.messages none) is.marked;
     mapped = is.mapped;
     headed = every-without has_header (ports.is_own_of who) it.ports.messages is.headed;
     drawn = drawn.same-drawn rows _ refl refl refl refl refl is.drawn;
@@ -73,13 +70,10 @@ module _ (it : Tables) (calls made : ℕ) (is : AreLawful it calls made) (who : 
   }
 
   pub withdrawn_room : (places : ℕ) → Roomy (room_by rows it places) (room_by (rows_by after) after places)
-  withdrawn_room places = rw (ap (λ (v : World). v.messages) withdraws, ← same_count) (rooms.room_withdraw _ _ _ _ _ _ _ _ _ _ rows _ (is_own_of who))
+  withdrawn_room places = rw (ap (λ (v : World). v.messages) withdraws, ← same_count) (rooms.room_withdraw _ _ _ _ _ _ _ _ _ _ _ rows _ (is_own_of who))
 
   pub withdrawn_left : has_queued (rows_by after) who ≡ false
   withdrawn_left = rw (ap (λ (v : World). v.messages) withdraws) (none_left (is_own_of who) rows.messages)
 
   pub withdrawn_unqueued : StaysUnqueued rows (rows_by after)
   withdrawn_unqueued = rw (ap (λ (v : World). v.messages) withdraws) (record { unqueued = λ tid none. has_none-without (is_own_of tid) (is_own_of who) rows.messages none })
-
-  pub went_same : has (is_own_of who) rows.messages ≡ has (ports.is_own_of who) it.ports.messages
-  went_same = has-shown (shown_message f) (ports.is_own_of who) (is_own_of who) (λ row. refl) it.ports.messages

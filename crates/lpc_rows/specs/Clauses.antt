@@ -7,7 +7,7 @@ use Rattle.lpc_base.specs.declared.status.Status.{Status}
 use Rattle.lpc_base.specs.Rows.{change, every, first, has, passes, without}
 use Rattle.lpc_base.specs.Views.{least_base, passes_section, view_size}
 use Rattle.lpc_handles.specs.declared.table.Row.{Row}
-use Rattle.lpc_model.specs.Basics.{Basic, basic, AddsHandle, AddsSection, AddsToken, Enters, Joins, Makes, Unmaps, Writes}
+use Rattle.lpc_model.specs.Basics.{Basic, basic, left_by, AddsHandle, AddsSection, AddsToken, Enters, Joins, Makes, Unmaps, Writes}
 use Rattle.lpc_model.specs.Entering.{takes, takes_from}
 use Rattle.lpc_model.specs.Found.{handles_of, is_port, is_process, is_queued, is_queued_connect, is_table, is_thread, pair_of, port_row, section_row, token_row, view_holding, views_of, waits_as}
 use Rattle.lpc_model.specs.Memory.{bytes_at, place_in}
@@ -172,9 +172,9 @@ sent w queue sender context message = after w (Enters (row_with w.births queue s
 abbrev pub with_handle : Kept → ℕ → ℕ → Object → ℕ → World
 with_handle w pid value object access = after w (AddsHandle pid (handle_row value (name_at w object) access))
 
--- a wait less, and a wait with its message
+-- a wait less, and the mark of its event, and a wait with its message
 abbrev pub without_wait : World → ℕ → World
-without_wait w tid = record w { waits = without (waits_as tid) w.waits }
+without_wait w tid = left_by tid w
 
 abbrev pub waiting_with : World → ℕ → whole.Message → World
 waiting_with w tid message = record w { waits = change (waits_as tid) (with_message message) w.waits }
@@ -192,7 +192,7 @@ has_section w offer = some_stands w.births.sections (option_map (λ o. o.section
 -- a thread's connect got its handle, and ended
 abbrev pub finished : Kept → ℕ → ℕ → Object → ℕ → World
 finished w tid value object access =
-    record (with_handle w (waiter w.rows tid).process value object access) { waits = without (waits_as tid) w.rows.waits }
+    left_by tid (with_handle w (waiter w.rows tid).process value object access)
 
 -- two ports are joined, and a connection is completed or not
 abbrev pub joined : Kept → Key → Key → ℕ → World

@@ -3,7 +3,7 @@ use Rattle.std.specs.Prelude.{◌==◌, ◌||◌, Bool, not}
 use Rattle.lpc_base.specs.Rows.{has}
 use Rattle.lpc_names.specs.Binding.{has_name}
 use Rattle.lpc_model.specs.World.{Birth, MessageRow, ObjectName, PortRow, WaitRow, World}
-use Rattle.lpc_model.specs.Found.{all_views, handle_count, holders, is_connected_to, is_made_on, is_open, is_owned_by, is_paired_to, is_queued, is_sent_on, same_birth}
+use Rattle.lpc_model.specs.Found.{all_views, event_ports, handle_count, holders, is_connected_to, is_made_on, is_open, is_owned_by, is_paired_to, is_queued, is_sent_on, same_birth}
 use Rattle.lpc_rows.specs.Kept.{registered_ports}
 
 -- a port has this one as its other end or as its connection port
@@ -18,7 +18,7 @@ is_message_at b m = is_sent_on b m || is_queued b m
 abbrev pub is_wait_at : Birth → WaitRow → Bool
 is_wait_at b x = is_made_on b x || same_birth x.queue b
 
--- a row but a thread's or a view names the port: a handle, another port, a message, a wait, or a name
+-- a row but a thread's, a process's or a view names the port: a handle, another port, a message, a wait, or a name
 abbrev pub is_named_by_row : World → Birth → Bool
 is_named_by_row w b =
     is_open w b || (has (is_joined_to b) w.ports || (has (is_message_at b) w.messages
@@ -32,11 +32,15 @@ is_registered_port w b = has (same_birth b) (registered_ports w)
 abbrev pub is_owner : World → Birth → Bool
 is_owner w b = has (is_owned_by b) (all_views w)
 
--- Some row names the port: one of these, a thread by a registration, or a view that goes with it. That is more than what counts: a queue and a name
--- don't hold a port. But the ports of messages' queues and of names are open, the queue of a wait is near the port on which
+-- the port is told of the exceptions of a process
+abbrev pub is_event_port : World → Birth → Bool
+is_event_port w b = has (same_birth b) (event_ports w)
+
+-- Some row names the port: one of these, a thread by a registration, a view that goes with it, or a process whose exceptions
+-- it is told of. That is more than what counts: a queue and a name don't hold a port. But the ports of messages' queues and of names are open, the queue of a wait is near the port on which
 -- the wait was made, which counts for it, and threads that have ended have no registrations.
 abbrev pub is_named : World → Birth → Bool
-is_named w b = is_named_by_row w b || is_registered_port w b || is_owner w b
+is_named w b = is_named_by_row w b || is_registered_port w b || is_owner w b || is_event_port w b
 
 -- a handle names an object
 abbrev pub has_handles : World → ObjectName → Bool

@@ -1,23 +1,23 @@
 -- What contracts see of the world: the definitions' rows, the births of keys, the calls so far, and the room.
-use Rattle.std.specs.Prelude.{◌≡◌, ℕ, ◌+◌, ◌-◌, ◌*◌, ◌<◌, ◌≤◌, ◌==◌, ◌&&◌, ◌||◌, Bool, false, not, List, length, map, max, min, Option, Some, None}
+use Rattle.std.specs.Prelude.{◌≡◌, ℕ, ◌+◌, ◌-◌, ◌*◌, ◌<◌, ◌≤◌, ◌==◌, ◌&&◌, ◌||◌, ◌∷◌, [], Bool, true, false, not, List, length, map, max, min, Option, Some, None}
 use Rattle.lpc_base.specs.declared.birth.Birth.{Birth}
 use Rattle.lpc_base.specs.Rows.{count, each, first, has}
 use Rattle.lpc_procs.specs.Procs.{most_rows}
-use Rattle.lpc_model.specs.World.{World, MessageRow, PortRow, WaitRow, ThreadRow}
+use Rattle.lpc_model.specs.World.{World, Event, FirstDebug, LastDebug, MessageRow, PortRow, Raised, WaitRow, ThreadRow}
 use Rattle.lpc_model.specs.Closings.{is_closed_post}
-use Rattle.lpc_model.specs.Found.{handles_of, views_of, is_client_port, is_connect, is_open, is_own_of, is_request, waits_as}
+use Rattle.lpc_model.specs.Found.{handles_of, views_of, is_client_port, is_connect, is_event, is_mark, is_open, is_own_of, is_request, waits_as}
 use Rattle.lpc_model.specs.Message.{asks}
 use Rattle.lpc_model.specs.Tests.{is_connect_of}
 use Rattle.lpc_rows.specs.Capacity.{Capacity, capacity_by, grown_capacity, handle_places, view_places}
 use Rattle.lpc_rows.specs.Shown.{Births, Tables, births_of, shown_by}
 use Rattle.lpc_homes.specs.declared.parts.Part.{Part}
 
--- a message whose sender waits for an answer, and a request or connect that isn't received
+-- a message whose sender waits for an answer, and a request, event or connect that isn't received
 abbrev pub is_asking : MessageRow → Bool
 is_asking m = asks m.message
 
 abbrev pub is_pending : WaitRow → Bool
-is_pending x = (is_request x || is_connect x) && not x.received
+is_pending x = (is_request x || (is_event x || is_connect x)) && not x.received
 
 abbrev pub is_alive : ThreadRow → Bool
 is_alive t = t.live
@@ -61,8 +61,43 @@ is_open_client w p = is_client_port p && is_open w p.birth
 abbrev pub open_clients : World → ℕ
 open_clients w = count (is_open_client w) w.ports
 
+-- And so may each waiting event, for each later chance that it may still take, as it goes on: an identifier, a wait and a
+-- message. There are two behind the first chance at the debug port, and one behind the last.
+abbrev pub has_two_chances : Raised → Bool
+has_two_chances r = elim r.chance [
+  | FirstDebug ↦ true
+  | _ ↦ false
+]
+
+abbrev pub has_last_chance : Raised → Bool
+has_last_chance r = elim r.chance [
+  | LastDebug ↦ true
+  | _ ↦ false
+]
+
+abbrev pub goes_twice : WaitRow → Bool
+goes_twice x = elim x.kind [
+  | Event r ↦ has_two_chances r
+  | _ ↦ false
+]
+
+abbrev pub goes_once : WaitRow → Bool
+goes_once x = elim x.kind [
+  | Event r ↦ has_last_chance r
+  | _ ↦ false
+]
+
+abbrev pub owed_for : List WaitRow → ℕ
+owed_for waits = 6 * count goes_twice waits + 3 * count goes_once waits
+
+abbrev pub owed_by : WaitRow → ℕ
+owed_by x = owed_for (x ∷ [])
+
+abbrev pub owed_events : World → ℕ
+owed_events w = owed_for w.waits
+
 abbrev pub owed_rows : World → ℕ
-owed_rows w = open_clients w + owed_deaths w
+owed_rows w = open_clients w + owed_deaths w + owed_events w
 
 -- how many more handles go into a process's table without memory, with those that its waiting connects are to get; or how
 -- many more views
@@ -70,7 +105,8 @@ pub record HandleRoom : Type 0 where
   pub process : ℕ
   pub spare : ℕ
 
--- How many more rows go in without memory. Of waits and messages it counts the places beyond those that are owed.
+-- How many more rows go in without memory. Of waits and messages it counts the places beyond those that are owed. With a wait
+-- goes the place of a mark, since each live thread has one.
 pub record Room : Type 0 where
   pub processes : ℕ
   pub threads : ℕ
@@ -106,7 +142,7 @@ abbrev pub room_by : World → Tables → ℕ → Room
 room_by rows it places = record {
   processes = min it.procs.process_room places;
   threads = it.procs.thread_room;
-  waits = it.waits.spare - owed_waits rows;
+  waits = min (it.waits.spare - owed_waits rows) (it.marks.places - count is_alive rows.threads);
   messages = it.ports.message_room - owed_messages rows;
   ports = it.ports.port_room;
   names = it.space.spare;
@@ -229,20 +265,29 @@ pub record IsMakingStep (left : World) (old new : Kept) : Type 0 where
   pub made : new.made ≡ old.made + 1
   pub room : Roomy old.room new.room
 
--- a thread waits for the answer to a request or connect that isn't received
+-- A step was taken that leaves these rows and made none. What owed rows and went owes them no more.
+pub record IsEndingStep (left : World) (old new : Kept) : Type 0 where
+  pub rows : new.rows ≡ left
+  pub births : new.births ≡ old.births
+  pub calls : new.calls ≡ old.calls
+  pub made : new.made ≤ old.made
+  pub counted : new.made + owed_rows old.rows ≡ old.made + owed_rows new.rows
+  pub room : Roomy old.room new.room
+
+-- a thread waits for the answer to a request, event or connect that isn't received
 abbrev pub pends_as : ℕ → WaitRow → Bool
 pends_as tid x = waits_as tid x && is_pending x
 
 abbrev pub is_pending_in : World → ℕ → Bool
 is_pending_in w tid = has (pends_as tid) w.waits
 
--- a message of the thread's own stands in a queue: the request or connection request with which it waits
+-- a message of the thread's own stands in a queue: the request, event or connection request with which it waits
 abbrev pub has_queued : World → ℕ → Bool
 has_queued w tid = has (is_own_of tid) w.messages
 
--- the thread waits for the answer to a request or connect whose message stands in no queue
+-- the thread waits for the answer to a request, event or connect whose message stands in no queue, and isn't marked
 abbrev pub is_unsent : World → ℕ → Bool
-is_unsent w tid = is_pending_in w tid && not (has_queued w tid)
+is_unsent w tid = is_pending_in w tid && not (has_queued w tid) && not (has (is_mark tid) w.marks)
 
 -- only a thread that pends has a message of its own in a queue
 pub record OwnPend (w : World) : Type 0 where
@@ -280,3 +325,7 @@ CanMake w = w.made < CALL_BUDGET * w.calls
 
 abbrev pub HasWholeBudget : Kept → Type 0
 HasWholeBudget w = w.made + CALL_BUDGET ≤ CALL_BUDGET * w.calls
+
+-- a wait may begin: its row, and the rows that it owes
+abbrev pub CanAwait : Kept → WaitRow → Type 0
+CanAwait w x = w.made + (1 + owed_by x) ≤ CALL_BUDGET * w.calls

@@ -7,7 +7,10 @@ use Rattle.lpc_model.specs.World.{World, HandleTable, MessageRow, ProcessRow, Th
 use Rattle.lpc_model.specs.Found.{is_born_process, is_born_thread, is_connect, is_listen, is_live_thread, is_own_of, is_process, is_queued, is_queued_connect, is_receive, is_table, is_taken, is_used_thread, same_birth}
 use Rattle.lpc_model.specs.Tests.{is_connect_of}
 use Rattle.lpc_model.specs.SingleClosings.{is_closing_of}
+use Rattle.lpc_ports.specs.Table as ports
 use Rattle.lpc_ports.specs.Table.{PortTable, QueuedMessage}
+use Rattle.lpc_procs.specs.Procs.{event_ports_of}
+use Rattle.lpc_procs.specs.declared.rows.ProcessRow as process
 use Rattle.lpc_procs.specs.declared.rows.ThreadRow as procs
 use Rattle.lpc_procs.specs.declared.rows.Registration.{Registration}
 use Rattle.lpc_sections.specs.Sections.{SectionRow}
@@ -15,11 +18,13 @@ use Rattle.lpc_slots.specs.Table.{Table}
 use Rattle.lpc_slots.specs.declared.Key.{Key}
 use Rattle.lpc_tokens.specs.declared.token_row.TokenRow.{TokenRow}
 use Rattle.lpc_views.specs.Parts.{is_mapped}
-use Rattle.lpc_waits.specs.Table.{WaitTable}
+use Rattle.lpc_waits.specs.Table.{WaitTable, is_event, is_mark}
+use Rattle.lpc_waits.specs.Table.{is_of as is_of_thread}
+use Rattle.lpc_waits.specs.declared.WaitRow as waits
 use Rattle.lpc_homes.specs.declared.parts.Part.{Part}
 use Rattle.lpc_rows.specs.Kept.{CALL_BUDGET, owed_messages, owed_rows, owed_waits, pends_as, rows_by}
 use Rattle.lpc_rows.specs.Names.{name_of, stands}
-use Rattle.lpc_rows.specs.Shown.{AreNamed, Births, Tables, births_of}
+use Rattle.lpc_rows.specs.Shown.{AreNamed, Births, MarkTable, Tables, births_of}
 use Rattle.lpc_rows.specs.OwedClosings.{is_client_of}
 
 -- no thread waits twice
@@ -68,7 +73,7 @@ pub record IsLawful (w : World) (calls made waits messages : ℕ) : Type 0 where
   pub threads : every (is_of w.threads) w.waits ≡ true
   -- what a receive or listen waits for doesn't stand in its queue
   pub quiet : every (is_quiet w.messages) w.waits ≡ true
-  -- a thread's own message in a queue is that of a request or connect with which it waits, and which isn't received
+  -- a thread's own message in a queue is that of a request, event or connect with which it waits, and which isn't received
   pub own : (tid : ℕ) → count (is_own_of tid) w.messages ≤ count (pends_as tid) w.waits
   -- of each client port's closing one message tells at most, and of no other port's
   pub told : (b : Birth) → count (is_closing_of b) w.messages ≤ count (is_client_of b) w.ports
@@ -173,6 +178,24 @@ is_under_name n r = stands n.ports r.port && same_birth (name_of n.ports r.port)
 abbrev pub has_named_ports : Births → procs.ThreadRow → Bool
 has_named_ports n t = every (is_under_name n) t.registered.items
 
+-- so do the ports that are told of a process's exceptions
+abbrev pub has_named_hearers : Births → process.ProcessRow → Bool
+has_named_hearers n p = every (is_under_name n) (event_ports_of p)
+
+-- a thread lives, and a thread waits for what is made of an event
+abbrev pub is_living : procs.ThreadRow → Bool
+is_living t = t.live
+
+abbrev pub is_event_of : ℕ → waits.WaitRow → Bool
+is_event_of tid row = is_of_thread tid row && is_event row.wait.kind
+
+-- a thread is marked once, waits for what is made of an event then, and has no message of its own in a queue; each live
+-- thread has a place for its mark
+pub record AreMarked (threads : List procs.ThreadRow) (rows : List waits.WaitRow) (messages : List (Key × QueuedMessage)) (marks : MarkTable) : Type 0 where
+  pub marked : (tid : ℕ) → count (is_mark tid) marks.rows ≤ count (is_event_of tid) rows
+  pub left : every (λ n. not (has (ports.is_own_of n) messages)) marks.rows ≡ true
+  pub places : count is_living threads ≤ marks.places
+
 -- each view of a process shows a part of a section that stands
 abbrev pub has_mapped_views : Table SectionRow → Part → Bool
 has_mapped_views sections part = every (is_mapped sections) part.views.views
@@ -191,6 +214,8 @@ pub record AreLawful (it : Tables) (calls made : ℕ) : Type 0 where
   pub born : AreBornIn (rows_by it)
   pub promised : IsPromised (rows_by it).waits (rows_by it).handles it.parts
   pub registered : every (has_named_ports (births_of it)) it.procs.threads ≡ true
+  pub heard : every (has_named_hearers (births_of it)) it.procs.processes ≡ true
+  pub marked : AreMarked it.procs.threads it.waits.rows it.ports.messages it.marks
   -- a message that stands in a queue has a header
   pub headed : every has_header it.ports.messages ≡ true
   pub mapped : AreMappedIn it.sections it.parts made

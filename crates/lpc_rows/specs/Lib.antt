@@ -6,6 +6,7 @@ pub mod Kept
 pub mod Lawful
 pub mod Ready
 pub mod Registered
+pub mod Raised
 pub mod Does
 pub mod Held
 pub mod Called

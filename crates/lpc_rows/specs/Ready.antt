@@ -6,7 +6,7 @@ use Rattle.lpc_base.specs.declared.port_kind.PortKind.TheVariants.{Unnamed}
 use Rattle.lpc_model.specs.declared.entry.CallName.TheVariants.{NtReplyWaitReceivePort}
 use Rattle.lpc_model.specs.Listed.{Listed}
 use Rattle.lpc_model.specs.World.{World, PortRow, Receive, ThreadRow, WaitRow}
-use Rattle.lpc_model.specs.Found.{is_listen, is_request, live_thread, no_birth, port_row, section_row, token_row, wait_of}
+use Rattle.lpc_model.specs.Found.{is_event, is_listen, is_request, live_thread, no_birth, port_row, section_row, token_row, wait_of}
 use Rattle.lpc_waits.specs.Table as table
 use Rattle.lpc_waits.specs.declared.Wait.{Wait}
 use Rattle.lpc_rows.specs.Names.{name_of, stands}
@@ -73,6 +73,7 @@ pub record IsWait (w : Kept) (tid : ℕ) (x : Wait) : Type 0 where
   pub process : let y = waiter w.rows tid in y.process ≡ x.process
   pub request : is_request (waiter w.rows tid) ≡ table.is_request x.kind
   pub listen : is_listen (waiter w.rows tid) ≡ table.is_listen x.kind
+  pub event : is_event (waiter w.rows tid) ≡ table.is_event x.kind
   pub port : let y = waiter w.rows tid in y.port ≡ name_of w.births.ports x.port
   pub queue : let y = waiter w.rows tid in y.queue ≡ name_of w.births.ports x.queue
   pub identifier : let y = waiter w.rows tid in y.identifier ≡ x.identifier

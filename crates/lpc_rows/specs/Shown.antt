@@ -2,10 +2,10 @@
 use Rattle.std.specs.Prelude.{◌≡◌, ℕ, List, [], ◌∷◌, ◌++◌, Bool, true, false, Option, Some, None, length, option_map, option_to_list, map}
 use Rattle.lpc_base.specs.declared.birth.Birth.{Birth}
 use Rattle.lpc_base.specs.declared.port_kind.PortKind.{PortKind}
-use Rattle.lpc_base.specs.Rows.{each, every, given}
+use Rattle.lpc_base.specs.Rows.{each, every, given, without}
 use Rattle.lpc_handles.specs.declared.table.Row.{Row}
 use Rattle.lpc_model.specs.declared.entry.CallName.{CallName}
-use Rattle.lpc_model.specs.declared.entry.CallName.TheVariants.{NtConnectPort, NtListenPort, NtReplyWaitReceivePort, NtRequestWaitReplyPort}
+use Rattle.lpc_model.specs.declared.entry.CallName.TheVariants.{NtConnectPort, NtListenPort, NtReplyWaitReceivePort, NtRequestWaitReplyPort, Raise}
 use Rattle.lpc_model.specs.declared.entry.ObjectKind.{ObjectKind}
 use Rattle.lpc_model.specs.declared.entry.ObjectKind.TheVariants as kind
 use Rattle.lpc_model.specs.Message.{message_of}
@@ -33,9 +33,12 @@ use Rattle.lpc_tokens.specs.Names as named
 use Rattle.lpc_tokens.specs.declared.security.Security.TheVariants.{Unsecured}
 use Rattle.lpc_tokens.specs.declared.token_row.TokenRow.{TokenRow}
 use Rattle.lpc_views.specs.declared.view.View.{View}
-use Rattle.lpc_waits.specs.Table.{WaitTable}
+use Rattle.lpc_waits.specs.Table.{WaitTable, is_mark}
 use Rattle.lpc_waits.specs.declared.Accepted.{Accepted}
+use Rattle.lpc_waits.specs.declared.Chance.{Chance}
+use Rattle.lpc_waits.specs.declared.Chance.TheVariants as chance
 use Rattle.lpc_waits.specs.declared.Offer.{Offer}
+use Rattle.lpc_waits.specs.declared.Raised.{Raised}
 use Rattle.lpc_waits.specs.declared.Wait.{Wait}
 use Rattle.lpc_waits.specs.declared.WaitKind.{WaitKind}
 use Rattle.lpc_waits.specs.declared.WaitKind.TheVariants as wait
@@ -135,6 +138,7 @@ call_of_wait wait.Request = NtRequestWaitReplyPort
 call_of_wait wait.Receive = NtReplyWaitReceivePort
 call_of_wait wait.Listen = NtListenPort
 call_of_wait wait.Connect = NtConnectPort
+call_of_wait (wait.Event r) = Raise
 
 -- what a connect offers, and what it is accepted with
 abbrev pub shown_offer : (Object → Birth) → Offer → model.Offer
@@ -142,6 +146,15 @@ shown_offer f offer = record { section = f (object.Section offer.section); offse
 
 abbrev pub shown_acceptance : Accepted → model.Acceptance
 shown_acceptance a = record { reply = a.reply.items; target = a.target; vbase = a.vbase; vsize = a.vsize }
+
+-- the chance that an exception has, and an exception that was raised
+abbrev pub shown_chance : Chance → model.Chance
+shown_chance chance.FirstDebug = model.FirstDebug
+shown_chance chance.LastDebug = model.LastDebug
+shown_chance chance.LastException = model.LastException
+
+abbrev pub shown_raised : Raised → model.Raised
+shown_raised r = record { code = r.code; handled = r.handled; chance = shown_chance r.chance }
 
 -- an accepted connect offers nothing any longer
 abbrev pub shown_connect : List ℕ → Option model.Offer → Option Accepted → model.WaitKind
@@ -153,6 +166,7 @@ shown_kind wait.Request bytes offer accepted = model.Request (message_of bytes)
 shown_kind wait.Receive bytes offer accepted = model.Receive
 shown_kind wait.Listen bytes offer accepted = model.Listen
 shown_kind wait.Connect bytes offer accepted = shown_connect bytes offer accepted
+shown_kind (wait.Event r) bytes offer accepted = model.Event (shown_raised r)
 
 -- a wait names its ports, and the section that a connect offers which isn't accepted
 abbrev pub section_in : Option Offer → List Object
@@ -221,7 +235,15 @@ abbrev pub shown_space : (Object → Birth) → Part → model.ViewTable
 shown_space f part = record { process = part.process; rows = map (shown_view f) part.views.views }
 
 abbrev pub shown_process : ProcessRow → model.ProcessRow
-shown_process p = record { number = p.number; maker = p.maker; birth = p.birth; token = p.token }
+shown_process p = record {
+  number = p.number;
+  maker = p.maker;
+  birth = p.birth;
+  token = p.token;
+  debug_port = option_map (λ (r : Registration). r.birth) p.debug_port;
+  exception_port = option_map (λ (r : Registration). r.birth) p.exception_port;
+  doom = p.doom;
+}
 
 abbrev pub shown_thread : ThreadRow → model.ThreadRow
 shown_thread t = record {
@@ -262,8 +284,24 @@ abbrev pub shown_binding : (Object → Birth) → Path × Node Key → Path × N
 shown_binding f = binding_as (port_birth f)
 
 -- All rows
+-- the threads whose events are marked, in order of marking, and how many marks there is memory for
+pub record MarkTable : Type 0 where
+  pub rows : List ℕ
+  pub places : ℕ
+
+-- marks with one more, behind the others, and without that of a thread
+abbrev pub with_mark : ℕ → MarkTable → MarkTable
+with_mark tid m = record m { rows = m.rows ++ tid ∷ [] }
+
+abbrev pub without_mark : ℕ → MarkTable → MarkTable
+without_mark tid m = record m { rows = without (is_mark tid) m.rows }
+
+-- marks with room for so many
+abbrev pub with_places : ℕ → MarkTable → MarkTable
+with_places places m = record m { places = places }
+
 -- the tables: processes and threads, the handles and views of each process, ports with the messages in their queues,
--- waits, the name space, sections, tokens, and the names of tokens
+-- waits, the name space, sections, tokens, the names of tokens, and the marked events
 pub record Tables : Type 0 where
   pub procs : procs.Table
   pub parts : List Part
@@ -273,9 +311,10 @@ pub record Tables : Type 0 where
   pub sections : Table SectionRow
   pub tokens : Table TokenRow
   pub token_names : named.TokenNames
+  pub marks : MarkTable
 
-abbrev pub tables_of : procs.Table → List Part → PortTable → WaitTable → NameSpace Key → Table SectionRow → Table TokenRow → named.TokenNames → Tables
-tables_of procs parts ports waits space sections tokens names = record {
+abbrev pub tables_of : procs.Table → List Part → PortTable → WaitTable → NameSpace Key → Table SectionRow → Table TokenRow → named.TokenNames → MarkTable → Tables
+tables_of procs parts ports waits space sections tokens names marks = record {
   procs = procs;
   parts = parts;
   ports = ports;
@@ -284,6 +323,7 @@ tables_of procs parts ports waits space sections tokens names = record {
   sections = sections;
   tokens = tokens;
   token_names = names;
+  marks = marks;
 }
 
 -- what the tables stand for, under the births of keys
@@ -297,6 +337,7 @@ shown_by n it = record {
   ports = map (shown_port (birth_of n)) it.ports.ports;
   messages = map (shown_message (birth_of n)) it.ports.messages;
   waits = map (shown_wait (birth_of n)) it.waits.rows;
+  marks = it.marks.rows;
   bindings = map (shown_binding (birth_of n)) it.space.bindings;
   sections = map shown_section (listed it.sections);
   contents = model.Known (map shown_content (listed it.sections));
@@ -364,6 +405,7 @@ keeping m model.Receive = model.Receive
 keeping m model.Listen = model.Listen
 keeping m (model.Connect old offer) = model.Connect m offer
 keeping m (model.Accepted old a) = model.Accepted m a
+keeping m (model.Event r) = model.Event r
 
 abbrev pub with_message : whole.Message → model.WaitRow → model.WaitRow
 with_message m x = record x { kind = keeping m x.kind }

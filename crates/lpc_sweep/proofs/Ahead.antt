@@ -79,7 +79,7 @@ module _ (u v : Kept) (b : Birth) (calls : v.calls ≡ u.calls) (made : v.made �
   thread-ahead went none = ahead-by (thread_name b) went none (thread_first u.rows b none)
 
   pub process-ahead : v.rows ≡ basic u.rows (Frees (process_name b)) → is_unheld u.rows (process_name b) ≡ true → SweepsAhead u v
-  process-ahead went none = ahead-by (process_name b) went none (process_first u.rows b none)
+  process-ahead went none = ahead-by (process_name b) went none (process_first u.rows b can.ports none)
 
   pub section-ahead : v.rows ≡ basic u.rows (Frees (section_name b)) → has (is_section b) u.rows.sections ≡ true → is_unheld u.rows (section_name b) ≡ true → SweepsAhead u v
   section-ahead went there none = ahead-by (section_name b) went none (section_first u.rows b there none)

@@ -8,7 +8,7 @@ use Rattle.lpc_names.specs.Binding.{has_name}
 use Rattle.lpc_names.specs.Walk.{Bindings, LinkTo, Stands}
 use Rattle.lpc_names.specs.declared.names.Found.TheVariants.{Directory, Item}
 use Rattle.lpc_model.specs.World.{MessageRow, ObjectName, PortRow, ThreadRow, WaitRow, World}
-use Rattle.lpc_model.specs.Found.{all_registrations, all_views, handle_count, is_connected_to, is_made_on, is_open, is_owned_by, is_paired_to, is_port, is_queued, is_sent_on, is_the, pair_of, port_name, port_row, registered_by, same_birth}
+use Rattle.lpc_model.specs.Found.{all_registrations, all_views, event_ports, handle_count, is_connected_to, is_made_on, is_open, is_owned_by, is_paired_to, is_port, is_queued, is_sent_on, is_the, pair_of, port_name, port_row, registered_by, same_birth}
 use Rattle.lpc_model.specs.SoundWaits.{leads_open}
 use Rattle.lpc_model.specs.Sweep.{is_unheld}
 use Rattle.lpc_model.specs.Basics.{Frees, basic, freed}
@@ -19,11 +19,12 @@ use Rattle.lpc_model.specs.Linked.{is_mutual}
 use Rattle.lpc_base.proofs.RowMaps.{every-first}
 use Rattle.lpc_base.proofs.RowWords.{every-without}
 use Rattle.lpc_base.proofs.Births.{birth-same}
-use Rattle.lpc_model.proofs.Queues.Open.{queues_freed}
+use Rattle.lpc_model.specs.OpenQueues.{HasOpenQueues}
 use Rattle.lpc_model.proofs.Steps.Rows.{has-found}
 use Rattle.lpc_model.proofs.Standing.Steps.{gone-names, unheld_no_queue}
 use Rattle.lpc_model.proofs.Linked.Joins.{gone-linked}
 use Rattle.lpc_model.proofs.Sound.Frees.{freed-sound}
+use Rattle.lpc_model.proofs.Held.Events.{ports-freed}
 use Rattle.lpc_model.proofs.Held.Ports.{unheld-parts}
 use Rattle.lpc_rows.specs.Held.{is_joined_to, is_named}
 use Rattle.lpc_rows.proofs.Counted.{named-counted}
@@ -81,25 +82,26 @@ no_waiting w b held can is none = none_on b w.waits (unheld_no_queue w b can.sta
 pub held_as : (w : World) (b : Birth) → CanSweep w → is_named w b ≡ not (is_unheld w (port_name b))
 held_as w b can = at (is_open w b) refl
   where
-    parts : (h s m r v p q : Bool) → not (not ((h || (s || (m || (r || v)))) || (p || q))) ≡ ((h || (s || (m || (r || v)))) || (p || q))
-    parts h s m r v p q = grind arith
+    parts : (h s m r v e p q : Bool) → not (not ((h || (s || (m || (r || (v || e))))) || (p || q))) ≡ ((h || (s || (m || (r || (v || e))))) || (p || q))
+    parts h s m r v e p q = grind arith
 
-    joins : (o p q s u m v n r w h k : Bool) → h ≡ o → ((h || (s || (m || (r || w)))) || (p || q)) ≡ k → (o ≡ false → (u ≡ false) × (n ≡ false)) → (k ≡ false → v ≡ false)
-        → (((o || ((p || q) || ((s || u) || ((m || v) || n)))) || r) || w) ≡ ((h || (s || (m || (r || w)))) || (p || q))
-    joins true p q s u m v n r w h k same held off quiet = grind arith
-    joins false p q s u m v n r w h true same held off quiet = let none = off refl in grind (arith, none.0, none.1)
-    joins false p q s u m v n r w h false same held off quiet = let none = off refl in grind (arith, none.0, none.1, quiet refl)
+    joins : (o p q s u m v n r w e h k : Bool) → h ≡ o → ((h || (s || (m || (r || (w || e))))) || (p || q)) ≡ k → (o ≡ false → (u ≡ false) × (n ≡ false)) → (k ≡ false → v ≡ false)
+        → ((((o || ((p || q) || ((s || u) || ((m || v) || n)))) || r) || w) || e) ≡ ((h || (s || (m || (r || (w || e))))) || (p || q))
+    joins true p q s u m v n r w e h k same held off quiet = grind arith
+    joins false p q s u m v n r w e h true same held off quiet = let none = off refl in grind (arith, none.0, none.1)
+    joins false p q s u m v n r w e h false same held off quiet = let none = off refl in grind (arith, none.0, none.1, quiet refl)
 
     at : (o : Bool) → is_open w b ≡ o → is_named w b ≡ not (is_unheld w (port_name b))
     at o is =
         let hs = not (handle_count w (port_name b) == 0) in
         let live = has (same_birth b) (all_registrations w) in
         let owned = has (is_owned_by b) (all_views w) in
-        let held = (hs || (has (is_sent_on b) w.messages || (has (is_made_on b) w.waits || (live || owned)))) || (has (is_paired_to b) w.ports || has (is_connected_to b) w.ports) in
+        let heard = has (same_birth b) (event_ports w) in
+        let held = (hs || (has (is_sent_on b) w.messages || (has (is_made_on b) w.waits || (live || (owned || heard))))) || (has (is_paired_to b) w.ports || has (is_connected_to b) w.ports) in
         rw (registered-live w.threads can.registrations, has_or (is_paired_to b) (is_connected_to b) w.ports, has_or (is_sent_on b) (is_queued b) w.messages, has_or (is_made_on b) (λ x. same_birth x.queue b) w.waits, unheld-parts w b)
-        (joins (is_open w b) (has (is_paired_to b) w.ports) (has (is_connected_to b) w.ports) (has (is_sent_on b) w.messages) (has (is_queued b) w.messages) (has (is_made_on b) w.waits) (has (λ x. same_birth x.queue b) w.waits) (has_name same_birth b w.bindings) live owned hs held (counted w b) refl
+        (joins (is_open w b) (has (is_paired_to b) w.ports) (has (is_connected_to b) w.ports) (has (is_sent_on b) w.messages) (has (is_queued b) w.messages) (has (is_made_on b) w.waits) (has (λ x. same_birth x.queue b) w.waits) (has_name same_birth b w.bindings) live owned heard hs held (counted w b) refl
         (λ off. (no_queued w b off w.messages can.queues.messages, no_named w b off w.bindings can.sound.names)) (no_waiting w b held can (unheld-parts w b))
-        ∙ sym (parts hs (has (is_sent_on b) w.messages) (has (is_made_on b) w.waits) live owned (has (is_paired_to b) w.ports) (has (is_connected_to b) w.ports)))
+        ∙ sym (parts hs (has (is_sent_on b) w.messages) (has (is_made_on b) w.waits) live owned heard (has (is_paired_to b) w.ports) (has (is_connected_to b) w.ports)))
 
 -- a port with another end is held by it
 paired_as : (w : World) (b : Birth) (o : Option PortRow) (q : Birth) → port_row w q ≡ o → is_the b (option_and_then (λ p. p.pair) o) ≡ true → has (is_paired_to b) w.ports ≡ true
@@ -127,6 +129,17 @@ living-freed w o living = at o.kind o.birth
     at kind.Thread b = every-without has_living_registrations (λ t. same_birth t.birth b) w.threads living
     at e b = living
 
+-- and queues open: no handle, no message and no wait goes
+queues_freed : (w : World) (o : ObjectName) → HasOpenQueues w → HasOpenQueues (basic w (Frees o))
+queues_freed w o q = at o.kind o.birth
+  where
+    at : (k : ObjectKind) (b : Birth) → HasOpenQueues (freed w k b)
+    at kind.Port b = record { messages = q.messages; waits = q.waits; accepts = q.accepts }
+    at kind.Section b = record { messages = q.messages; waits = q.waits; accepts = q.accepts }
+    at kind.Token b = record { messages = q.messages; waits = q.waits; accepts = q.accepts }
+    at kind.Process b = record { messages = q.messages; waits = q.waits; accepts = q.accepts }
+    at kind.Thread b = record { messages = q.messages; waits = q.waits; accepts = q.accepts }
+
 -- what no row counts for leaves a world that can be swept, where it goes
 pub can_freed : (w : World) (o : ObjectName) → CanSweep w → is_unheld w o ≡ true → CanSweep (basic w (Frees o))
 can_freed w o can none = record {
@@ -135,4 +148,5 @@ can_freed w o can none = record {
   queues = queues_freed w o can.queues;
   standing = gone-names w o none can.standing;
   registrations = living-freed w o can.registrations;
+  ports = ports-freed w o none can.ports;
 }

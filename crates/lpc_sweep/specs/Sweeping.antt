@@ -4,6 +4,7 @@ use Rattle.lpc_base.specs.Rows.{every}
 use Rattle.lpc_model.specs.Basics.{world_after}
 use Rattle.lpc_model.specs.Deaths.{HasLivingRegistrations}
 use Rattle.lpc_model.specs.Found.{process_name, thread_name}
+use Rattle.lpc_model.specs.Left.{HasLivingPorts}
 use Rattle.lpc_model.specs.Linked.{HasHeldSections, HasHeldTokens, IsLinked}
 use Rattle.lpc_model.specs.OpenQueues.{HasOpenQueues}
 use Rattle.lpc_model.specs.SoundWaits.{IsSoundWorld}
@@ -28,6 +29,7 @@ pub record CanSweep (w : World) : Type 0 where
   pub queues : HasOpenQueues w
   pub standing : NamesWhatStands w
   pub registrations : HasLivingRegistrations w
+  pub ports : HasLivingPorts w
 
 -- Rows went ahead that the sweep takes away: it can still be done, and leaves the same world. Where some row counted for
 -- each section or each token, one still does. Their room is spare, and no memory was asked for.

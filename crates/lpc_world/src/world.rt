@@ -4,7 +4,7 @@
 //
 // Each call that adds a row or draws a number asks for the spare room, and that fewer than 16 rows and numbers were
 // made for each call so far, with those that are owed: each open client port owes the message that tells that it is
-// closed, and each registration the one that tells of its thread's end.
+// closed, each registration the one that tells of its thread's end, and each waiting event what it takes to go on.
 ghost use Rattle.std.specs.Prelude.{◌≡◌, ◌∷◌, ◌++◌, ◌+◌, ◌<◌, ◌≤◌, ◌==◌, ◌↔◌, ◌||◌, [], None, Some, true, false, IfSome, IfNone, IfOk, IsErr, OnOk, OnErr, is_some, length};
 ghost use Rattle.lpc_base.specs.Room.{grown_room};
 ghost use Rattle.lpc_base.specs.Rows.{has};
@@ -14,11 +14,12 @@ ghost use Rattle.lpc_model.specs.Basics.{AddsProcess, AddsThread, Awaits, DrawsI
 ghost use Rattle.lpc_model.specs.Machine.{new_process, new_thread};
 ghost use Rattle.lpc_model.specs.Message.{message_of};
 ghost use Rattle.lpc_procs.specs.Procs.{IsNumber, most_rows};
+ghost use Rattle.lpc_waits.specs.Table.{is_event};
 ghost use Rattle.lpc_rows.specs.Names.{KeepsNames, name_of, some_stands, stands};
 ghost use Rattle.lpc_rows.specs.Shown.{object_stands};
 ghost use Rattle.lpc_rows.specs.Lawful.{can_begin, drew, is_quiet};
 ghost use Rattle.lpc_rows.specs.Capacity.{KeepsOtherPlaces, but_names, handle_places, no_capacity, no_places};
-ghost use Rattle.lpc_rows.specs.Kept.{CanMake, HasWholeBudget, IsMakingStep, IsStep, KeepsOtherRoom, Roomy, Same, StaysReady, StaysUnqueued, grown_handles, grown_messages, grown_ports, grown_processes, grown_threads, grown_waits, handle_room, has_queued, is_unsent, owed_handles, owed_messages, owed_rows, owed_waits, process_rows};
+ghost use Rattle.lpc_rows.specs.Kept.{CanMake, HasWholeBudget, CanAwait, IsEndingStep, IsMakingStep, IsStep, KeepsOtherRoom, Roomy, Same, StaysReady, StaysUnqueued, grown_handles, grown_messages, grown_ports, grown_processes, grown_threads, grown_waits, handle_room, has_queued, is_unsent, owed_by, owed_handles, owed_messages, owed_rows, owed_waits, process_rows};
 ghost use Rattle.lpc_rows.specs.Ready.{IsWait};
 ghost use Rattle.lpc_rows.specs.OwedClosings.{closing_places, is_owed};
 ghost use Rattle.lpc_base.specs.declared.limits.TheConstants.{HANDLE_LIMIT, HEADER_SIZE, LINES_LIMIT, MESSAGE_LIMIT};
@@ -29,6 +30,7 @@ mod completing;
 mod connecting;
 mod connections;
 mod dying;
+mod exceptions;
 mod freeing;
 mod lending;
 mod lives;
@@ -38,6 +40,7 @@ mod sections;
 mod tokens;
 mod views;
 
+use crate::marks::Marks;
 use lpc_base::{Birth, OutOfMemory, PortKind, reserve_rows};
 use lpc_handles::{Table, TableFault};
 use lpc_homes::Object;
@@ -55,7 +58,7 @@ use std::alloc::Global;
 use std::marker::Model;
 
 /// The world: processes and threads, the handles and views of each process, ports with the messages in their queues,
-/// waits, sections, and tokens with the names that some have.
+/// waits, sections, tokens with the names that some have, and the events that are marked as not handled.
 ///
 /// Contracts see the rows of the definitions, in which an object is named by its birth, the births of keys, how many
 /// directive and service calls were made, and how many more rows go in without memory.
@@ -68,6 +71,7 @@ pub struct World {
     sections: Slots<Section>,
     tokens: Slots<TokenRow>,
     token_names: TokenNames,
+    marks: Marks,
     calls: u32,
     made: u32,
     loose: bool,
@@ -82,9 +86,9 @@ impl Model for World {
 
     ghost Value = { Kept };
 
-    ghost view = { λ w. kept_by (tables_of w.procs w.parts.items w.ports w.waits w.names w.sections w.tokens w.token_names) (vec_capacity w.parts - vec_len w.parts) w.calls w.made w.loose };
+    ghost view = { λ w. kept_by (tables_of w.procs w.parts.items w.ports w.waits w.names w.sections w.tokens w.token_names w.marks) (vec_capacity w.parts - vec_len w.parts) w.calls w.made w.loose };
 
-    ghost invariant = { λ w. AreLawful (tables_of w.procs w.parts.items w.ports w.waits w.names w.sections w.tokens w.token_names) w.calls w.made };
+    ghost invariant = { λ w. AreLawful (tables_of w.procs w.parts.items w.ports w.waits w.names w.sections w.tokens w.token_names w.marks) w.calls w.made };
 }
 
 // Written out, so that a proof about what holds a world lets it go in one step, and not table by table.
@@ -99,6 +103,7 @@ impl Drop for World {
             sections: _,
             tokens: _,
             token_names: _,
+            marks: _,
             calls: _,
             made: _,
             loose: _,
@@ -128,6 +133,7 @@ impl World {
             sections: Slots::new(alloc),
             tokens: Slots::new(alloc),
             token_names: TokenNames::new(alloc),
+            marks: Marks::new(alloc),
             calls: 0,
             made: 0,
             loose: false,
@@ -335,18 +341,20 @@ impl World {
     /// isn't received yet. Nothing changes where there is none.
     pub fn messages_withdraw(&mut self, tid: u32)
         ensures step { IsStep (after self.old (Withdraws tid)) self.old self.new }
-        ensures loose { self.new.loose ≡ (has_queued self.old.rows tid || self.old.loose) }
+        ensures loose { self.new.loose ≡ true }
         ensures left { has_queued self.new.rows tid ≡ false }
         ensures unqueued { StaysUnqueued self.old.rows self.new.rows }
         ensures capacity { self.new.capacity ≡ self.old.capacity }
     {
-        self.loose |= self.ports.withdraw(tid);
+        self.loose = true;
+        self.ports.withdraw(tid);
     }
 
-    /// A live thread that doesn't wait begins to wait, and what it waits for doesn't stand in the queue. Its place was
-    /// made with the thread. A connect of a process finds room for the handle that it is to get, within its number of
-    /// handles.
+    /// A live thread that doesn't wait begins to wait for something but an event, and what it waits for doesn't stand
+    /// in the queue. Its place was made with the thread. A connect of a process finds room for the handle that it is to
+    /// get, within its number of handles.
     pub fn waits_add(&mut self, tid: u32, wait: Wait)
+        requires plain { is_event wait.kind ≡ false }
         requires live { has (is_live_thread tid) self.old.rows.threads ≡ true }
         requires ready { has (waits_as tid) self.old.rows.waits ≡ false }
         requires budget { CanMake self.old }
@@ -358,6 +366,51 @@ impl World {
         requires handles { connects wait ≡ true → HasHandleRoom self.old wait.process }
         ensures step { let left = after self.old (Awaits (new_wait self.old tid wait)) in
             IsMakingStep left self.old self.new }
+        ensures loose { self.new.loose ≡ self.old.loose }
+        ensures unsent { pends self.old tid wait ≡ true → is_unsent self.new.rows tid ≡ true }
+        ensures capacity { self.new.capacity ≡ self.old.capacity }
+    {
+        self.waits_begin(tid, wait);
+    }
+
+    /// A live thread that doesn't wait begins to wait for what is made of its event. Its place was made with the thread.
+    pub fn events_add(&mut self, tid: u32, wait: Wait)
+        requires event { is_event wait.kind ≡ true }
+        requires live { has (is_live_thread tid) self.old.rows.threads ≡ true }
+        requires ready { has (waits_as tid) self.old.rows.waits ≡ false }
+        requires budget { CanAwait self.old (new_wait self.old tid wait) }
+        requires port { stands self.old.births.ports wait.port ≡ true }
+        requires queue { stands self.old.births.ports wait.queue ≡ true }
+        ensures rows { self.new.rows ≡ after self.old (Awaits (new_wait self.old tid wait)) }
+        ensures births { self.new.births ≡ self.old.births }
+        ensures calls { self.new.calls ≡ self.old.calls }
+        ensures made { self.new.made
+            ≡ self.old.made + (1 + owed_by (new_wait self.old tid wait)) }
+        ensures room { Roomy self.old.room self.new.room }
+        ensures loose { self.new.loose ≡ self.old.loose }
+        ensures unsent { wait.received ≡ false → is_unsent self.new.rows tid ≡ true }
+        ensures capacity { self.new.capacity ≡ self.old.capacity }
+    {
+        self.waits_begin(tid, wait);
+    }
+
+    /// A live thread that doesn't wait begins to wait, with the rows that its wait owes.
+    fn waits_begin(&mut self, tid: u32, wait: Wait)
+        requires live { has (is_live_thread tid) self.old.rows.threads ≡ true }
+        requires ready { has (waits_as tid) self.old.rows.waits ≡ false }
+        requires budget { CanAwait self.old (new_wait self.old tid wait) }
+        requires port { stands self.old.births.ports wait.port ≡ true }
+        requires queue { stands self.old.births.ports wait.queue ≡ true }
+        requires quiet { is_quiet self.old.rows.messages (new_wait self.old tid wait) ≡ true }
+        requires table { connects wait ≡ true → has_table self.old.rows wait.process ≡ true }
+        requires load { connects wait ≡ true → HasSmallLoad self.old.rows wait.process }
+        requires handles { connects wait ≡ true → HasHandleRoom self.old wait.process }
+        ensures rows { self.new.rows ≡ after self.old (Awaits (new_wait self.old tid wait)) }
+        ensures births { self.new.births ≡ self.old.births }
+        ensures calls { self.new.calls ≡ self.old.calls }
+        ensures made { self.new.made
+            ≡ self.old.made + (1 + owed_by (new_wait self.old tid wait)) }
+        ensures room { Roomy self.old.room self.new.room }
         ensures loose { self.new.loose ≡ self.old.loose }
         ensures unsent { pends self.old tid wait ≡ true → is_unsent self.new.rows tid ≡ true }
         ensures capacity { self.new.capacity ≡ self.old.capacity }
@@ -379,18 +432,19 @@ impl World {
     }
 
     /// Ends the wait of a thread of which no own message stands in a queue, and answers it: None exactly where the
-    /// thread doesn't wait.
+    /// thread doesn't wait. The mark of its event goes, and with the wait of an event what that owed.
     pub fn waits_end(&mut self, tid: u32) -> Option<Wait>
         requires { has_queued self.old.rows tid ≡ false }
         ensures some { is_some result ≡ has (waits_as tid) self.old.rows.waits }
         ensures wait { IfSome result (λ wait. IsWait self.old tid wait) }
-        ensures step { IsStep (without_wait self.old.rows tid) self.old self.new }
+        ensures step { IsEndingStep (without_wait self.old.rows tid) self.old self.new }
         ensures loose { self.new.loose ≡ true }
         ensures still { StaysReady self.old.rows self.new.rows }
         ensures unqueued { StaysUnqueued self.old.rows self.new.rows }
         ensures capacity { self.new.capacity ≡ self.old.capacity }
     {
         self.loose = true;
+        self.marks.remove(tid);
         self.waits.end(tid)
     }
 
@@ -531,7 +585,7 @@ impl World {
         self.ports.reserve(0, wanted)
     }
 
-    /// Makes room for so many waits beyond those that are owed.
+    /// Makes room for so many waits beyond those that are owed, each with the place of a mark.
     ///
     /// OutOfMemory comes only where that room wasn't there; nothing has changed then but the room.
     pub fn waits_reserve(&mut self, more: u32) -> Result<(), OutOfMemory>
@@ -549,7 +603,8 @@ impl World {
         ensures enough { more ≤ self.old.room.waits → self.new.capacity ≡ self.old.capacity }
     {
         let wanted = self.owed_waits() + more as usize;
-        self.waits.reserve(wanted)
+        self.waits.reserve(wanted)?;
+        self.marks.reserve(self.procs.alive() + more as usize)
     }
 
     /// Makes room for so many further handles of a process, beside those that its waiting connects are to get.

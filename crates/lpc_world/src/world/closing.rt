@@ -3,7 +3,7 @@ ghost use Rattle.std.specs.Prelude.{◌≡◌, ◌+◌, ◌*◌, ◌≤◌, true
 ghost use Rattle.lpc_base.specs.Rows.{count, has};
 ghost use Rattle.lpc_base.specs.declared.limits.TheConstants.{VIEW_LIMIT};
 ghost use Rattle.lpc_model.specs.Basics.{Cuts, DropsHandle, Empties, Unbinds};
-ghost use Rattle.lpc_model.specs.Found.{all_registrations, all_views, handle_count, holders, is_owned_by, is_table, pointer_count, same_birth};
+ghost use Rattle.lpc_model.specs.Found.{all_registrations, all_views, event_ports, handle_count, holders, is_owned_by, is_table, pointer_count, same_birth};
 ghost use Rattle.lpc_model.specs.declared.entry.ObjectKind.TheVariants as kind;
 ghost use Rattle.lpc_rows.specs.Closing.{HasMutualPairs};
 ghost use Rattle.lpc_rows.specs.Capacity.{but_names};
@@ -99,7 +99,7 @@ impl World {
         requires { object_stands self.now.births object ≡ true }
         ensures holders { let o = name_at self.now object in
             result ≡ holders self.now.rows o.kind o.birth }
-        ensures few { result ≤ (VIEW_LIMIT + 5) * self.now.made }
+        ensures few { result ≤ (VIEW_LIMIT + 7) * self.now.made }
     {
         match object {
             Object::Port(port) => self.holders_of_port(port),
@@ -120,20 +120,33 @@ impl World {
         self.procs.registered_to(self.port(port).birth)
     }
 
-    /// How many rows but handles count for a port: ports, messages, waits, registrations, and views that go with it.
+    /// How many processes have a port as their debug port or as their exception port, each as often as it does.
+    fn event_ports_to(&self, port: Key) -> usize
+        requires { stands self.now.births.ports port ≡ true }
+        ensures number { result
+            ≡ count (same_birth (birth_at self.now port)) (event_ports self.now.rows) }
+        ensures few { result ≤ 2 * self.now.made }
+    {
+        self.procs.event_ports_to(self.port(port).birth)
+    }
+
+    /// How many rows but handles count for a port: ports, messages, waits, registrations, views that go with it, and
+    /// processes whose exceptions it is told of.
     fn holders_of_port(&self, port: Key) -> usize
         requires { stands self.now.births.ports port ≡ true }
         ensures holders { result ≡ holders self.now.rows kind.Port (birth_at self.now port) }
-        ensures few { result ≤ (VIEW_LIMIT + 5) * self.now.made }
+        ensures few { result ≤ (VIEW_LIMIT + 7) * self.now.made }
     {
-        self.rows_at_port(port) + views::owned_views(&self.parts, port)
+        self.rows_at_port(port) + views::owned_views(&self.parts, port) + self.event_ports_to(port)
     }
 
-    /// How many of these aren't views.
+    /// How many of these are neither views nor processes.
     fn rows_at_port(&self, port: Key) -> usize
         requires { stands self.now.births.ports port ≡ true }
         ensures rows { let views = all_views self.now.rows in
+            let hearers = event_ports self.now.rows in
             result + count (is_owned_by (birth_at self.now port)) views
+            + count (same_birth (birth_at self.now port)) hearers
             ≡ holders self.now.rows kind.Port (birth_at self.now port) }
         ensures few { result ≤ 5 * self.now.made }
     {

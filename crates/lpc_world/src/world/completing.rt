@@ -34,6 +34,7 @@ impl World {
         match parts::add_handle(&mut self.parts, wait.process, object, access) {
             Ok(value) => {
                 self.loose = true;
+                self.marks.remove(tid);
                 self.waits.end(tid);
                 value
             }

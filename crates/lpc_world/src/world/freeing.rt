@@ -14,7 +14,7 @@ use lpc_homes::{Object, parts, views};
 use lpc_slots::Key;
 
 impl World {
-    /// A row but a thread's or a view names the port: a handle, another port, a message, a wait, or a name.
+    /// A row but a thread's, a process's or a view names the port: a handle, another port, a message, a wait, or a name.
     fn is_named_by_row(&self, port: Key) -> bool
         requires { stands self.now.births.ports port ≡ true }
         ensures { result ≡ held.is_named_by_row self.now.rows (birth_at self.now port) }
@@ -41,12 +41,24 @@ impl World {
         views::is_owner(&self.parts, port)
     }
 
-    /// Some row names the port: one of these, a thread by a registration, or a view that goes with it.
+    /// The port is told of the exceptions of a process.
+    fn is_event_port(&self, port: Key) -> bool
+        requires { stands self.now.births.ports port ≡ true }
+        ensures { result ≡ held.is_event_port self.now.rows (birth_at self.now port) }
+    {
+        self.procs.is_event_port(self.port(port).birth)
+    }
+
+    /// Some row names the port: one of these, a thread by a registration, a view that goes with it, or a process whose
+    /// exceptions it is told of.
     pub fn is_named(&self, port: Key) -> bool
         requires { stands self.now.births.ports port ≡ true }
         ensures { result ≡ held.is_named self.now.rows (birth_at self.now port) }
     {
-        self.is_named_by_row(port) || self.is_registered_port(port) || self.is_owner(port)
+        self.is_named_by_row(port)
+            || self.is_registered_port(port)
+            || self.is_owner(port)
+            || self.is_event_port(port)
     }
 
     /// A row went since the last sweep that may have named an object.

@@ -29,6 +29,7 @@ impl World {
         ensures row { result ≡ option_map as_caller (found.live_thread self.now.rows tid) }
         ensures table { IfSome result (λ it. has (is_table it.process) self.now.rows.handles
             ≡ true) }
+        ensures process { IfSome result (λ it. has_process self.now.rows it.process ≡ true) }
     {
         self.procs.live_row(tid)
     }

@@ -31,7 +31,7 @@ loop-freed-preserved c =
     record {
       ahead = ahead_then _ _ _ c.loop-freed.invariant.ahead (record {
         can = subst CanSweep (sym went) (can_freed w (port_name b) can c.in-Some.ensures.unheld);
-        leaves = ap (λ (v : World). world_after v (sweep v)) went ∙ free_one w b can.linked c.in-Some.ensures.unheld;
+        leaves = ap (λ (v : World). world_after v (sweep v)) went ∙ free_one w b can.linked can.ports c.in-Some.ensures.unheld;
         sections = λ held. subst HasHeldSections (sym went) (sections-held w (port_name b) held);
         tokens = λ held. subst HasHeldTokens (sym went) (tokens-held w (port_name b) held);
         calls = c.free.ensures.calls;

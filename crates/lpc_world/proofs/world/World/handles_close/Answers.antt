@@ -8,16 +8,16 @@ use Rattle.lpc_rows.proofs.Capacities as capacities
 use Rattle.lpc_world.proofs.world.World.handles_close.Goals as goal
 
 pub close_handle-requires-clause-one : goal.close_handle-requires-clause-one
-close_handle-requires-clause-one c = tables.single (tables_of c.self.inside.procs c.self.inside.parts.items c.self.inside.ports c.self.inside.waits c.self.inside.names c.self.inside.sections c.self.inside.tokens c.self.inside.token_names) c.self.inside.calls c.self.inside.made c.self.invariant
+close_handle-requires-clause-one c = tables.single (tables_of c.self.inside.procs c.self.inside.parts.items c.self.inside.ports c.self.inside.waits c.self.inside.names c.self.inside.sections c.self.inside.tokens c.self.inside.token_names c.self.inside.marks) c.self.inside.calls c.self.inside.made c.self.invariant
 
 pub close_handle-requires-clause-part : goal.close_handle-requires-clause-part
-close_handle-requires-clause-part c = sym (tables.has_table (tables_of c.self.inside.procs c.self.inside.parts.items c.self.inside.ports c.self.inside.waits c.self.inside.names c.self.inside.sections c.self.inside.tokens c.self.inside.token_names) c.self.inside.calls c.self.inside.made c.self.invariant c.args.pid) ∙ (rw (← c.self.view_is) at c.requires.table)
+close_handle-requires-clause-part c = sym (tables.has_table (tables_of c.self.inside.procs c.self.inside.parts.items c.self.inside.ports c.self.inside.waits c.self.inside.names c.self.inside.sections c.self.inside.tokens c.self.inside.token_names c.self.inside.marks) c.self.inside.calls c.self.inside.made c.self.invariant c.args.pid) ∙ (rw (← c.self.view_is) at c.requires.table)
 
 pub invariant_of-self : goal.invariant_of-self
-invariant_of-self c = rw c.close_handle.ensures.parts (dropped.dropped_lawful (tables_of c.self.inside.procs c.self.inside.parts.items c.self.inside.ports c.self.inside.waits c.self.inside.names c.self.inside.sections c.self.inside.tokens c.self.inside.token_names) c.self.inside.calls c.self.inside.made c.self.invariant c.args.pid c.args.value)
+invariant_of-self c = rw c.close_handle.ensures.parts (dropped.dropped_lawful (tables_of c.self.inside.procs c.self.inside.parts.items c.self.inside.ports c.self.inside.waits c.self.inside.names c.self.inside.sections c.self.inside.tokens c.self.inside.token_names c.self.inside.marks) c.self.inside.calls c.self.inside.made c.self.invariant c.args.pid c.args.value)
 
 pub returns-clause-rows : goal.returns-clause-rows
-returns-clause-rows c = rw (← c.self.view_is, c.close_handle.ensures.parts) (dropped.drops (tables_of c.self.inside.procs c.self.inside.parts.items c.self.inside.ports c.self.inside.waits c.self.inside.names c.self.inside.sections c.self.inside.tokens c.self.inside.token_names) c.self.inside.calls c.self.inside.made c.self.invariant c.args.pid c.args.value)
+returns-clause-rows c = rw (← c.self.view_is, c.close_handle.ensures.parts) (dropped.drops (tables_of c.self.inside.procs c.self.inside.parts.items c.self.inside.ports c.self.inside.waits c.self.inside.names c.self.inside.sections c.self.inside.tokens c.self.inside.token_names c.self.inside.marks) c.self.inside.calls c.self.inside.made c.self.invariant c.args.pid c.args.value)
 
 pub returns-clause-room : goal.returns-clause-room
 returns-clause-room c =
@@ -41,4 +41,4 @@ returns-clause-made c = rw (← c.self.view_is) (omega arith)
 pub returns-clause-capacity : goal.returns-clause-capacity
 returns-clause-capacity c =
     rw (← c.self.view_is, c.close_handle.ensures.len, c.close_handle.ensures.capacity, c.close_handle.ensures.parts)
-    (capacities.of_handles (tables_of c.self.inside.procs c.self.inside.parts.items c.self.inside.ports c.self.inside.waits c.self.inside.names c.self.inside.sections c.self.inside.tokens c.self.inside.token_names) (vec_capacity c.self.inside.parts - vec_len c.self.inside.parts) (closing c.args.pid c.args.value c.self.inside.parts.items) (capacities.closed_all c.args.pid c.args.value c.self.inside.parts.items) (capacities.closed_views c.args.pid c.args.value c.self.inside.parts.items))
+    (capacities.of_handles (tables_of c.self.inside.procs c.self.inside.parts.items c.self.inside.ports c.self.inside.waits c.self.inside.names c.self.inside.sections c.self.inside.tokens c.self.inside.token_names c.self.inside.marks) (vec_capacity c.self.inside.parts - vec_len c.self.inside.parts) (closing c.args.pid c.args.value c.self.inside.parts.items) (capacities.closed_all c.args.pid c.args.value c.self.inside.parts.items) (capacities.closed_views c.args.pid c.args.value c.self.inside.parts.items))

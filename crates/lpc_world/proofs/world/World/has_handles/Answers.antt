@@ -8,5 +8,5 @@ use Rattle.lpc_world.proofs.world.World.has_handles.Goals as goal
 pub returns : goal.returns
 returns c =
     let there = rw (← c.self.view_is) at c.requires in
-    let named = handles_named (tables_of c.self.inside.procs c.self.inside.parts.items c.self.inside.ports c.self.inside.waits c.self.inside.names c.self.inside.sections c.self.inside.tokens c.self.inside.token_names) c.self.invariant.named c.args.object there in
+    let named = handles_named (tables_of c.self.inside.procs c.self.inside.parts.items c.self.inside.ports c.self.inside.waits c.self.inside.names c.self.inside.sections c.self.inside.tokens c.self.inside.token_names c.self.inside.marks) c.self.invariant.named c.args.object there in
     rw (← c.self.view_is) (c.names.ensures ∙ ap (λ ps. has (has_name_of c.args.object) ps) c.deref.ensures.value ∙ sym named)

@@ -9,13 +9,15 @@ use Rattle.lpc_world.proofs.world.World.holders_of_port.Goals as goal
 pub returns-clause-holders : goal.returns-clause-holders
 returns-clause-holders c =
     let there = rw (← c.self.view_is) at c.requires in
-    let owned = owned_counted (tables_of c.self.inside.procs c.self.inside.parts.items c.self.inside.ports c.self.inside.waits c.self.inside.names c.self.inside.sections c.self.inside.tokens c.self.inside.token_names) c.self.invariant.named c.args.port there in
+    let owned = owned_counted (tables_of c.self.inside.procs c.self.inside.parts.items c.self.inside.ports c.self.inside.waits c.self.inside.names c.self.inside.sections c.self.inside.tokens c.self.inside.token_names c.self.inside.marks) c.self.invariant.named c.args.port there in
     let views = c.owned_views.ensures.count ∙ ap (λ ps. count (goes_with c.args.port) (all_views ps)) c.deref.ensures.value in
     let rows = rw (← c.self.view_is) at c.rows_at_port.ensures.rows in
-    rw (← c.self.view_is) (omega (arith, owned, views, rows))
+    let hearers = rw (← c.self.view_is) at c.event_ports_to.ensures.number in
+    rw (← c.self.view_is) (omega (arith, owned, views, rows, hearers))
 
 pub returns-clause-few : goal.returns-clause-few
 returns-clause-few c =
-    let few = homes-few (tables_of c.self.inside.procs c.self.inside.parts.items c.self.inside.ports c.self.inside.waits c.self.inside.names c.self.inside.sections c.self.inside.tokens c.self.inside.token_names) c.self.inside.calls c.self.inside.made c.self.invariant in
+    let few = homes-few (tables_of c.self.inside.procs c.self.inside.parts.items c.self.inside.ports c.self.inside.waits c.self.inside.names c.self.inside.sections c.self.inside.tokens c.self.inside.token_names c.self.inside.marks) c.self.inside.calls c.self.inside.made c.self.invariant in
     let rows = rw (← c.self.view_is) at c.rows_at_port.ensures.few in
-    rw (← c.self.view_is) (omega (arith, few, rows, c.owned_views.ensures.bound))
+    let hearers = rw (← c.self.view_is) at c.event_ports_to.ensures.few in
+    rw (← c.self.view_is) (omega (arith, few, rows, hearers, c.owned_views.ensures.bound))

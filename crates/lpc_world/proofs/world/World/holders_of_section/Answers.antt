@@ -8,8 +8,8 @@ use Rattle.lpc_world.proofs.world.World.holders_of_section.Goals as goal
 
 pub overflow_add-result : goal.overflow_add-result
 overflow_add-result c =
-    let few = counted.homes-few (tables_of c.self.inside.procs c.self.inside.parts.items c.self.inside.ports c.self.inside.waits c.self.inside.names c.self.inside.sections c.self.inside.tokens c.self.inside.token_names) c.self.inside.calls c.self.inside.made c.self.invariant in
-    let offering = counted.offering-few (tables_of c.self.inside.procs c.self.inside.parts.items c.self.inside.ports c.self.inside.waits c.self.inside.names c.self.inside.sections c.self.inside.tokens c.self.inside.token_names) c.self.inside.calls c.self.inside.made c.self.invariant c.args.section in
+    let few = counted.homes-few (tables_of c.self.inside.procs c.self.inside.parts.items c.self.inside.ports c.self.inside.waits c.self.inside.names c.self.inside.sections c.self.inside.tokens c.self.inside.token_names c.self.inside.marks) c.self.inside.calls c.self.inside.made c.self.invariant in
+    let offering = counted.offering-few (tables_of c.self.inside.procs c.self.inside.parts.items c.self.inside.ports c.self.inside.waits c.self.inside.names c.self.inside.sections c.self.inside.tokens c.self.inside.token_names c.self.inside.marks) c.self.inside.calls c.self.inside.made c.self.invariant c.args.section in
     let budget = c.self.invariant.lawful.budget in
     let calls = c.self.invariant.lawful.few in
     omega (arith, few, offering, budget, calls, c.views_to.ensures.bound, c.offers.ensures)
@@ -17,12 +17,12 @@ overflow_add-result c =
 pub returns-clause-holders : goal.returns-clause-holders
 returns-clause-holders c =
     let there = rw (← c.self.view_is) at c.requires in
-    let held = counted.section_counted (tables_of c.self.inside.procs c.self.inside.parts.items c.self.inside.ports c.self.inside.waits c.self.inside.names c.self.inside.sections c.self.inside.tokens c.self.inside.token_names) c.self.invariant.named c.args.section there in
+    let held = counted.section_counted (tables_of c.self.inside.procs c.self.inside.parts.items c.self.inside.ports c.self.inside.waits c.self.inside.names c.self.inside.sections c.self.inside.tokens c.self.inside.token_names c.self.inside.marks) c.self.invariant.named c.args.section there in
     let views = c.views_to.ensures.count ∙ ap (λ ps. count (shows c.args.section) (all_views ps)) c.deref.ensures.value in
     rw (← c.self.view_is) (omega (arith, held, views, c.offers.ensures))
 
 pub returns-clause-few : goal.returns-clause-few
 returns-clause-few c =
-    let few = counted.homes-few (tables_of c.self.inside.procs c.self.inside.parts.items c.self.inside.ports c.self.inside.waits c.self.inside.names c.self.inside.sections c.self.inside.tokens c.self.inside.token_names) c.self.inside.calls c.self.inside.made c.self.invariant in
-    let offering = counted.offering-few (tables_of c.self.inside.procs c.self.inside.parts.items c.self.inside.ports c.self.inside.waits c.self.inside.names c.self.inside.sections c.self.inside.tokens c.self.inside.token_names) c.self.inside.calls c.self.inside.made c.self.invariant c.args.section in
+    let few = counted.homes-few (tables_of c.self.inside.procs c.self.inside.parts.items c.self.inside.ports c.self.inside.waits c.self.inside.names c.self.inside.sections c.self.inside.tokens c.self.inside.token_names c.self.inside.marks) c.self.inside.calls c.self.inside.made c.self.invariant in
+    let offering = counted.offering-few (tables_of c.self.inside.procs c.self.inside.parts.items c.self.inside.ports c.self.inside.waits c.self.inside.names c.self.inside.sections c.self.inside.tokens c.self.inside.token_names c.self.inside.marks) c.self.inside.calls c.self.inside.made c.self.invariant c.args.section in
     rw (← c.self.view_is) (omega (arith, few, offering, c.views_to.ensures.bound, c.offers.ensures))

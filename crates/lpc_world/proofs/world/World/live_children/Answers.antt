@@ -4,4 +4,4 @@ use Rattle.lpc_rows.proofs.Lives as lives
 use Rattle.lpc_world.proofs.world.World.live_children.Goals as goal
 
 pub returns : goal.returns
-returns c = rw (← c.self.view_is) (c.live_children.ensures.count ∙ sym (lives.children (tables_of c.self.inside.procs c.self.inside.parts.items c.self.inside.ports c.self.inside.waits c.self.inside.names c.self.inside.sections c.self.inside.tokens c.self.inside.token_names) c.args.pid))
+returns c = rw (← c.self.view_is) (c.live_children.ensures.count ∙ sym (lives.children (tables_of c.self.inside.procs c.self.inside.parts.items c.self.inside.ports c.self.inside.waits c.self.inside.names c.self.inside.sections c.self.inside.tokens c.self.inside.token_names c.self.inside.marks) c.args.pid))

@@ -9,7 +9,7 @@ use Rattle.lpc_rows.proofs.Steps as steps
 use Rattle.lpc_world.proofs.world.World.messages_reserve.Goals as goal
 
 pub invariant_of-self : goal.invariant_of-self
-invariant_of-self c = rw c.reserve.ensures.kept (steps.roomed_ports (tables_of c.self.inside.procs c.self.inside.parts.items c.self.inside.ports c.self.inside.waits c.self.inside.names c.self.inside.sections c.self.inside.tokens c.self.inside.token_names) c.self.inside.calls c.self.inside.made c.self.invariant c.reserve.new.self.port_room c.reserve.new.self.message_room c.reserve.ensures.message_room)
+invariant_of-self c = rw c.reserve.ensures.kept (steps.roomed_ports (tables_of c.self.inside.procs c.self.inside.parts.items c.self.inside.ports c.self.inside.waits c.self.inside.names c.self.inside.sections c.self.inside.tokens c.self.inside.token_names c.self.inside.marks) c.self.inside.calls c.self.inside.made c.self.invariant c.reserve.new.self.port_room c.reserve.new.self.message_room c.reserve.ensures.message_room)
 
 pub returns-clause-same : goal.returns-clause-same
 returns-clause-same c = rw (← c.self.view_is, c.reserve.ensures.kept) (record { rows = refl; births = refl; calls = refl; made = refl; loose = refl })
@@ -18,7 +18,7 @@ pub returns-clause-room : goal.returns-clause-room
 returns-clause-room c =
     let ports = c.reserve.ensures.port_room in
     let messages = c.reserve.ensures.message_room in
-    rw (← c.self.view_is, c.reserve.ensures.kept) (rooms.room_more _ _ _ _ _ _ _ _ _ _ (rows_by (tables_of c.self.inside.procs c.self.inside.parts.items c.self.inside.ports c.self.inside.waits c.self.inside.names c.self.inside.sections c.self.inside.tokens c.self.inside.token_names)) _ _ _ _ c.reserve.new.self.message_room c.reserve.new.self.port_room _ (omega arith) (omega arith) (omega arith) messages ports (omega arith))
+    rw (← c.self.view_is, c.reserve.ensures.kept) (rooms.room_more _ _ _ _ _ _ _ _ _ _ _ (rows_by (tables_of c.self.inside.procs c.self.inside.parts.items c.self.inside.ports c.self.inside.waits c.self.inside.names c.self.inside.sections c.self.inside.tokens c.self.inside.token_names c.self.inside.marks)) _ _ _ _ c.reserve.new.self.message_room c.reserve.new.self.port_room _ (omega arith) (omega arith) (omega arith) messages ports (omega arith))
 
 pub returns-clause-messages : goal.returns-clause-messages
 returns-clause-messages c =
@@ -33,7 +33,7 @@ returns-clause-wanting c =
 pub returns-clause-most : goal.returns-clause-most
 returns-clause-most c =
     let owed = rw (← c.self.view_is) at c.owed_messages.ensures.owed in
-    let rows = length-map c.self.inside.ports.messages (shown_message (birth_of (births_of (tables_of c.self.inside.procs c.self.inside.parts.items c.self.inside.ports c.self.inside.waits c.self.inside.names c.self.inside.sections c.self.inside.tokens c.self.inside.token_names)))) in
+    let rows = length-map c.self.inside.ports.messages (shown_message (birth_of (births_of (tables_of c.self.inside.procs c.self.inside.parts.items c.self.inside.ports c.self.inside.waits c.self.inside.names c.self.inside.sections c.self.inside.tokens c.self.inside.token_names c.self.inside.marks)))) in
     rw (← c.self.view_is, c.reserve.ensures.kept) (omega (arith, rows, owed, c.reserve.ensures.most_messages))
 
 pub returns-clause-enough : goal.returns-clause-enough

@@ -9,28 +9,25 @@ use Rattle.lpc_rows.proofs.Capacities as capacities
 use Rattle.lpc_world.proofs.world.World.messages_withdraw.Goals as goal
 
 pub invariant_of-self : goal.invariant_of-self
-invariant_of-self c = rw c.withdraw.ensures.table (withdrawn.withdrawn_lawful (tables_of c.self.inside.procs c.self.inside.parts.items c.self.inside.ports c.self.inside.waits c.self.inside.names c.self.inside.sections c.self.inside.tokens c.self.inside.token_names) c.self.inside.calls c.self.inside.made c.self.invariant c.args.tid)
-
-pub returns-clause-loose : goal.returns-clause-loose
-returns-clause-loose c = rw (← c.self.view_is) (withdrawn.turned c.self.inside.loose c.withdraw.result ∙ ap (λ b. b || c.self.inside.loose) (c.withdraw.ensures.went ∙ sym (withdrawn.went_same (tables_of c.self.inside.procs c.self.inside.parts.items c.self.inside.ports c.self.inside.waits c.self.inside.names c.self.inside.sections c.self.inside.tokens c.self.inside.token_names) c.self.inside.calls c.self.inside.made c.self.invariant c.args.tid)))
+invariant_of-self c = rw c.withdraw.ensures.table (withdrawn.withdrawn_lawful (tables_of c.self.inside.procs c.self.inside.parts.items c.self.inside.ports c.self.inside.waits c.self.inside.names c.self.inside.sections c.self.inside.tokens c.self.inside.token_names c.self.inside.marks) c.self.inside.calls c.self.inside.made c.self.invariant c.args.tid)
 
 pub returns-clause-left : goal.returns-clause-left
-returns-clause-left c = rw c.withdraw.ensures.table (withdrawn.withdrawn_left (tables_of c.self.inside.procs c.self.inside.parts.items c.self.inside.ports c.self.inside.waits c.self.inside.names c.self.inside.sections c.self.inside.tokens c.self.inside.token_names) c.self.inside.calls c.self.inside.made c.self.invariant c.args.tid)
+returns-clause-left c = rw c.withdraw.ensures.table (withdrawn.withdrawn_left (tables_of c.self.inside.procs c.self.inside.parts.items c.self.inside.ports c.self.inside.waits c.self.inside.names c.self.inside.sections c.self.inside.tokens c.self.inside.token_names c.self.inside.marks) c.self.inside.calls c.self.inside.made c.self.invariant c.args.tid)
 
 pub returns-clause-unqueued : goal.returns-clause-unqueued
-returns-clause-unqueued c = rw (← c.self.view_is, c.withdraw.ensures.table) (withdrawn.withdrawn_unqueued (tables_of c.self.inside.procs c.self.inside.parts.items c.self.inside.ports c.self.inside.waits c.self.inside.names c.self.inside.sections c.self.inside.tokens c.self.inside.token_names) c.self.inside.calls c.self.inside.made c.self.invariant c.args.tid)
+returns-clause-unqueued c = rw (← c.self.view_is, c.withdraw.ensures.table) (withdrawn.withdrawn_unqueued (tables_of c.self.inside.procs c.self.inside.parts.items c.self.inside.ports c.self.inside.waits c.self.inside.names c.self.inside.sections c.self.inside.tokens c.self.inside.token_names c.self.inside.marks) c.self.inside.calls c.self.inside.made c.self.invariant c.args.tid)
 
 pub returns-clause-step : goal.returns-clause-step
 returns-clause-step c = record {
-  rows = rw (← c.self.view_is, c.withdraw.ensures.table) (withdrawn.withdraws (tables_of c.self.inside.procs c.self.inside.parts.items c.self.inside.ports c.self.inside.waits c.self.inside.names c.self.inside.sections c.self.inside.tokens c.self.inside.token_names) c.self.inside.calls c.self.inside.made c.self.invariant c.args.tid);
+  rows = rw (← c.self.view_is, c.withdraw.ensures.table) (withdrawn.withdraws (tables_of c.self.inside.procs c.self.inside.parts.items c.self.inside.ports c.self.inside.waits c.self.inside.names c.self.inside.sections c.self.inside.tokens c.self.inside.token_names c.self.inside.marks) c.self.inside.calls c.self.inside.made c.self.invariant c.args.tid);
   births = rw (← c.self.view_is, c.withdraw.ensures.table) refl;
   calls = rw (← c.self.view_is) refl;
   made = rw (← c.self.view_is, c.withdraw.ensures.table) refl;
-  room = rw (← c.self.view_is, c.withdraw.ensures.table) (withdrawn.withdrawn_room (tables_of c.self.inside.procs c.self.inside.parts.items c.self.inside.ports c.self.inside.waits c.self.inside.names c.self.inside.sections c.self.inside.tokens c.self.inside.token_names) c.self.inside.calls c.self.inside.made c.self.invariant c.args.tid (vec_capacity c.self.inside.parts - vec_len c.self.inside.parts));
+  room = rw (← c.self.view_is, c.withdraw.ensures.table) (withdrawn.withdrawn_room (tables_of c.self.inside.procs c.self.inside.parts.items c.self.inside.ports c.self.inside.waits c.self.inside.names c.self.inside.sections c.self.inside.tokens c.self.inside.token_names c.self.inside.marks) c.self.inside.calls c.self.inside.made c.self.invariant c.args.tid (vec_capacity c.self.inside.parts - vec_len c.self.inside.parts));
 }
 
 pub returns-clause-capacity : goal.returns-clause-capacity
 returns-clause-capacity c =
     rw (← c.self.view_is)
-    (capacities.of_ports (tables_of c.self.inside.procs c.self.inside.parts.items c.self.inside.ports c.self.inside.waits c.self.inside.names c.self.inside.sections c.self.inside.tokens c.self.inside.token_names) (vec_capacity c.self.inside.parts - vec_len c.self.inside.parts) c.withdraw.new.self (ap (λ (s : PortTable). s.port_room + length s.ports) c.withdraw.ensures.table)
+    (capacities.of_ports (tables_of c.self.inside.procs c.self.inside.parts.items c.self.inside.ports c.self.inside.waits c.self.inside.names c.self.inside.sections c.self.inside.tokens c.self.inside.token_names c.self.inside.marks) (vec_capacity c.self.inside.parts - vec_len c.self.inside.parts) c.withdraw.new.self (ap (λ (s : PortTable). s.port_room + length s.ports) c.withdraw.ensures.table)
     (ap (λ (s : PortTable). s.message_room + length s.messages) c.withdraw.ensures.table ∙ capacities.passing_less (ports.is_own_of c.args.tid) c.self.inside.ports.message_room c.self.inside.ports.messages))

@@ -4,4 +4,4 @@ use Rattle.lpc_rows.proofs.NamedTokens as named
 use Rattle.lpc_world.proofs.world.World.named_token.Goals as goal
 
 pub returns : goal.returns
-returns c = rw (← c.self.view_is) (c.find.ensures ∙ sym (named.named_is (tables_of c.self.inside.procs c.self.inside.parts.items c.self.inside.ports c.self.inside.waits c.self.inside.names c.self.inside.sections c.self.inside.tokens c.self.inside.token_names) c.args.name.now))
+returns c = rw (← c.self.view_is) (c.find.ensures ∙ sym (named.named_is (tables_of c.self.inside.procs c.self.inside.parts.items c.self.inside.ports c.self.inside.waits c.self.inside.names c.self.inside.sections c.self.inside.tokens c.self.inside.token_names c.self.inside.marks) c.args.name.now))

@@ -8,7 +8,7 @@ use Rattle.lpc_world.proofs.world.World.owed_waits.Goals as goal
 pub returns-clause-owed : goal.returns-clause-owed
 returns-clause-owed c =
     let alive = c.alive.ensures.count ∙ sym (readings.count-shown shown_thread (λ t. t.live) is_alive (λ t. refl) c.self.inside.procs.threads) in
-    let other = length-map c.self.inside.waits.rows (shown_wait (birth_of (births_of (tables_of c.self.inside.procs c.self.inside.parts.items c.self.inside.ports c.self.inside.waits c.self.inside.names c.self.inside.sections c.self.inside.tokens c.self.inside.token_names)))) in
+    let other = length-map c.self.inside.waits.rows (shown_wait (birth_of (births_of (tables_of c.self.inside.procs c.self.inside.parts.items c.self.inside.ports c.self.inside.waits c.self.inside.names c.self.inside.sections c.self.inside.tokens c.self.inside.token_names c.self.inside.marks)))) in
     rw (← c.self.view_is) (omega (arith, alive, other, c.count.ensures, c.saturating_sub.ensures))
 
 pub returns-clause-few : goal.returns-clause-few

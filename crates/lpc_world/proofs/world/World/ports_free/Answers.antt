@@ -16,50 +16,55 @@ use Rattle.lpc_world.proofs.world.World.ports_free.Goals as goal
 pub free-requires : goal.free-requires
 free-requires c =
     let h = rw (← c.self.view_is) at c.requires in
-    let all = or_parts _ _ h.free in
+    let whole = or_parts _ _ h.free in
+    let all = or_parts _ _ whole.0 in
     let off = or_parts _ _ all.0 in
-    let none = sym (unheld.held_is (tables_of c.self.inside.procs c.self.inside.parts.items c.self.inside.ports c.self.inside.waits c.self.inside.names c.self.inside.sections c.self.inside.tokens c.self.inside.token_names) c.self.invariant.named c.args.port h.stands) ∙ off.0 in
-    record { «open» = unheld.has_row (tables_of c.self.inside.procs c.self.inside.parts.items c.self.inside.ports c.self.inside.waits c.self.inside.names c.self.inside.sections c.self.inside.tokens c.self.inside.token_names) c.self.invariant.named c.args.port h.stands; empty = unheld.empty_queue c.args.port (tables_of c.self.inside.procs c.self.inside.parts.items c.self.inside.ports c.self.inside.waits c.self.inside.names c.self.inside.sections c.self.inside.tokens c.self.inside.token_names) none }
+    let none = sym (unheld.held_is (tables_of c.self.inside.procs c.self.inside.parts.items c.self.inside.ports c.self.inside.waits c.self.inside.names c.self.inside.sections c.self.inside.tokens c.self.inside.token_names c.self.inside.marks) c.self.invariant.named c.args.port h.stands) ∙ off.0 in
+    record { «open» = unheld.has_row (tables_of c.self.inside.procs c.self.inside.parts.items c.self.inside.ports c.self.inside.waits c.self.inside.names c.self.inside.sections c.self.inside.tokens c.self.inside.token_names c.self.inside.marks) c.self.invariant.named c.args.port h.stands; empty = unheld.empty_queue c.args.port (tables_of c.self.inside.procs c.self.inside.parts.items c.self.inside.ports c.self.inside.waits c.self.inside.names c.self.inside.sections c.self.inside.tokens c.self.inside.token_names c.self.inside.marks) none }
 
 pub invariant_of-self : goal.invariant_of-self
 invariant_of-self c =
     let h = rw (← c.self.view_is) at c.requires in
-    let all = or_parts _ _ h.free in
+    let whole = or_parts _ _ h.free in
+    let all = or_parts _ _ whole.0 in
     let off = or_parts _ _ all.0 in
-    let none = sym (unheld.held_is (tables_of c.self.inside.procs c.self.inside.parts.items c.self.inside.ports c.self.inside.waits c.self.inside.names c.self.inside.sections c.self.inside.tokens c.self.inside.token_names) c.self.invariant.named c.args.port h.stands) ∙ off.0 in
-    let owned = sym (owned_has (tables_of c.self.inside.procs c.self.inside.parts.items c.self.inside.ports c.self.inside.waits c.self.inside.names c.self.inside.sections c.self.inside.tokens c.self.inside.token_names) c.self.invariant.named c.args.port h.stands) ∙ all.1 in
-    rw c.free.ensures.table (frees.freed_lawful (tables_of c.self.inside.procs c.self.inside.parts.items c.self.inside.ports c.self.inside.waits c.self.inside.names c.self.inside.sections c.self.inside.tokens c.self.inside.token_names) c.self.inside.calls c.self.inside.made c.args.port (c.self.inside.ports.port_room + 1) c.self.invariant h.stands none owned (frees.none_sent (rows_by (tables_of c.self.inside.procs c.self.inside.parts.items c.self.inside.ports c.self.inside.waits c.self.inside.names c.self.inside.sections c.self.inside.tokens c.self.inside.token_names)) (name_of (births_of (tables_of c.self.inside.procs c.self.inside.parts.items c.self.inside.ports c.self.inside.waits c.self.inside.names c.self.inside.sections c.self.inside.tokens c.self.inside.token_names)).ports c.args.port) h.free) off.1)
+    let none = sym (unheld.held_is (tables_of c.self.inside.procs c.self.inside.parts.items c.self.inside.ports c.self.inside.waits c.self.inside.names c.self.inside.sections c.self.inside.tokens c.self.inside.token_names c.self.inside.marks) c.self.invariant.named c.args.port h.stands) ∙ off.0 in
+    let owned = sym (owned_has (tables_of c.self.inside.procs c.self.inside.parts.items c.self.inside.ports c.self.inside.waits c.self.inside.names c.self.inside.sections c.self.inside.tokens c.self.inside.token_names c.self.inside.marks) c.self.invariant.named c.args.port h.stands) ∙ all.1 in
+    rw c.free.ensures.table (frees.freed_lawful (tables_of c.self.inside.procs c.self.inside.parts.items c.self.inside.ports c.self.inside.waits c.self.inside.names c.self.inside.sections c.self.inside.tokens c.self.inside.token_names c.self.inside.marks) c.self.inside.calls c.self.inside.made c.args.port (c.self.inside.ports.port_room + 1) c.self.invariant h.stands none owned (frees.none_sent (rows_by (tables_of c.self.inside.procs c.self.inside.parts.items c.self.inside.ports c.self.inside.waits c.self.inside.names c.self.inside.sections c.self.inside.tokens c.self.inside.token_names c.self.inside.marks)) (name_of (births_of (tables_of c.self.inside.procs c.self.inside.parts.items c.self.inside.ports c.self.inside.waits c.self.inside.names c.self.inside.sections c.self.inside.tokens c.self.inside.token_names c.self.inside.marks)).ports c.args.port) h.free) off.1 whole.1)
 
 pub returns-clause-rows : goal.returns-clause-rows
 returns-clause-rows c =
     let h = rw (← c.self.view_is) at c.requires in
-    let all = or_parts _ _ h.free in
+    let whole = or_parts _ _ h.free in
+    let all = or_parts _ _ whole.0 in
     let off = or_parts _ _ all.0 in
-    let none = sym (unheld.held_is (tables_of c.self.inside.procs c.self.inside.parts.items c.self.inside.ports c.self.inside.waits c.self.inside.names c.self.inside.sections c.self.inside.tokens c.self.inside.token_names) c.self.invariant.named c.args.port h.stands) ∙ off.0 in
-    let owned = sym (owned_has (tables_of c.self.inside.procs c.self.inside.parts.items c.self.inside.ports c.self.inside.waits c.self.inside.names c.self.inside.sections c.self.inside.tokens c.self.inside.token_names) c.self.invariant.named c.args.port h.stands) ∙ all.1 in
-    rw (← c.self.view_is, c.free.ensures.table) (frees.frees (tables_of c.self.inside.procs c.self.inside.parts.items c.self.inside.ports c.self.inside.waits c.self.inside.names c.self.inside.sections c.self.inside.tokens c.self.inside.token_names) c.self.invariant.named c.args.port (c.self.inside.ports.port_room + 1) none owned h.stands)
+    let none = sym (unheld.held_is (tables_of c.self.inside.procs c.self.inside.parts.items c.self.inside.ports c.self.inside.waits c.self.inside.names c.self.inside.sections c.self.inside.tokens c.self.inside.token_names c.self.inside.marks) c.self.invariant.named c.args.port h.stands) ∙ off.0 in
+    let owned = sym (owned_has (tables_of c.self.inside.procs c.self.inside.parts.items c.self.inside.ports c.self.inside.waits c.self.inside.names c.self.inside.sections c.self.inside.tokens c.self.inside.token_names c.self.inside.marks) c.self.invariant.named c.args.port h.stands) ∙ all.1 in
+    rw (← c.self.view_is, c.free.ensures.table) (frees.frees (tables_of c.self.inside.procs c.self.inside.parts.items c.self.inside.ports c.self.inside.waits c.self.inside.names c.self.inside.sections c.self.inside.tokens c.self.inside.token_names c.self.inside.marks) c.self.invariant.named c.args.port (c.self.inside.ports.port_room + 1) none owned h.stands)
 
 pub returns-clause-others : goal.returns-clause-others
-returns-clause-others c = rw (← c.self.view_is, c.free.ensures.table) (frees.keeps (tables_of c.self.inside.procs c.self.inside.parts.items c.self.inside.ports c.self.inside.waits c.self.inside.names c.self.inside.sections c.self.inside.tokens c.self.inside.token_names) c.self.invariant.named c.args.port (c.self.inside.ports.port_room + 1))
+returns-clause-others c = rw (← c.self.view_is, c.free.ensures.table) (frees.keeps (tables_of c.self.inside.procs c.self.inside.parts.items c.self.inside.ports c.self.inside.waits c.self.inside.names c.self.inside.sections c.self.inside.tokens c.self.inside.token_names c.self.inside.marks) c.self.invariant.named c.args.port (c.self.inside.ports.port_room + 1))
 
 pub returns-clause-room : goal.returns-clause-room
 returns-clause-room c =
     let h = rw (← c.self.view_is) at c.requires in
-    let all = or_parts _ _ h.free in
+    let whole = or_parts _ _ h.free in
+    let all = or_parts _ _ whole.0 in
     let off = or_parts _ _ all.0 in
-    let none = sym (unheld.held_is (tables_of c.self.inside.procs c.self.inside.parts.items c.self.inside.ports c.self.inside.waits c.self.inside.names c.self.inside.sections c.self.inside.tokens c.self.inside.token_names) c.self.invariant.named c.args.port h.stands) ∙ off.0 in
-    let owned = sym (owned_has (tables_of c.self.inside.procs c.self.inside.parts.items c.self.inside.ports c.self.inside.waits c.self.inside.names c.self.inside.sections c.self.inside.tokens c.self.inside.token_names) c.self.invariant.named c.args.port h.stands) ∙ all.1 in
-    let freed = frees.frees (tables_of c.self.inside.procs c.self.inside.parts.items c.self.inside.ports c.self.inside.waits c.self.inside.names c.self.inside.sections c.self.inside.tokens c.self.inside.token_names) c.self.invariant.named c.args.port (c.self.inside.ports.port_room + 1) none owned h.stands in
-    rw (← c.self.view_is, c.free.ensures.table, ap (λ (v : World). v.waits) freed, ap (λ (v : World). v.messages) freed, ap (λ (v : World). v.ports) freed) (frees.room_freed _ _ _ _ _ _ _ _ _ _ (rows_by (tables_of c.self.inside.procs c.self.inside.parts.items c.self.inside.ports c.self.inside.waits c.self.inside.names c.self.inside.sections c.self.inside.tokens c.self.inside.token_names)) _ (is_port (name_of (births_of (tables_of c.self.inside.procs c.self.inside.parts.items c.self.inside.ports c.self.inside.waits c.self.inside.names c.self.inside.sections c.self.inside.tokens c.self.inside.token_names)).ports c.args.port)))
+    let none = sym (unheld.held_is (tables_of c.self.inside.procs c.self.inside.parts.items c.self.inside.ports c.self.inside.waits c.self.inside.names c.self.inside.sections c.self.inside.tokens c.self.inside.token_names c.self.inside.marks) c.self.invariant.named c.args.port h.stands) ∙ off.0 in
+    let owned = sym (owned_has (tables_of c.self.inside.procs c.self.inside.parts.items c.self.inside.ports c.self.inside.waits c.self.inside.names c.self.inside.sections c.self.inside.tokens c.self.inside.token_names c.self.inside.marks) c.self.invariant.named c.args.port h.stands) ∙ all.1 in
+    let freed = frees.frees (tables_of c.self.inside.procs c.self.inside.parts.items c.self.inside.ports c.self.inside.waits c.self.inside.names c.self.inside.sections c.self.inside.tokens c.self.inside.token_names c.self.inside.marks) c.self.invariant.named c.args.port (c.self.inside.ports.port_room + 1) none owned h.stands in
+    rw (← c.self.view_is, c.free.ensures.table, ap (λ (v : World). v.waits) freed, ap (λ (v : World). v.messages) freed, ap (λ (v : World). v.ports) freed) (frees.room_freed _ _ _ _ _ _ _ _ _ _ _ (rows_by (tables_of c.self.inside.procs c.self.inside.parts.items c.self.inside.ports c.self.inside.waits c.self.inside.names c.self.inside.sections c.self.inside.tokens c.self.inside.token_names c.self.inside.marks)) _ (is_port (name_of (births_of (tables_of c.self.inside.procs c.self.inside.parts.items c.self.inside.ports c.self.inside.waits c.self.inside.names c.self.inside.sections c.self.inside.tokens c.self.inside.token_names c.self.inside.marks)).ports c.args.port)))
 
 pub returns-clause-made : goal.returns-clause-made
 returns-clause-made c =
     let h = rw (← c.self.view_is) at c.requires in
-    let all = or_parts _ _ h.free in
+    let whole = or_parts _ _ h.free in
+    let all = or_parts _ _ whole.0 in
     let off = or_parts _ _ all.0 in
-    let none = sym (unheld.held_is (tables_of c.self.inside.procs c.self.inside.parts.items c.self.inside.ports c.self.inside.waits c.self.inside.names c.self.inside.sections c.self.inside.tokens c.self.inside.token_names) c.self.invariant.named c.args.port h.stands) ∙ off.0 in
-    let owned = sym (owned_has (tables_of c.self.inside.procs c.self.inside.parts.items c.self.inside.ports c.self.inside.waits c.self.inside.names c.self.inside.sections c.self.inside.tokens c.self.inside.token_names) c.self.invariant.named c.args.port h.stands) ∙ all.1 in
-    let owed = frees.freed_owed (tables_of c.self.inside.procs c.self.inside.parts.items c.self.inside.ports c.self.inside.waits c.self.inside.names c.self.inside.sections c.self.inside.tokens c.self.inside.token_names) c.self.invariant.named c.args.port (c.self.inside.ports.port_room + 1) none owned h.stands in
+    let none = sym (unheld.held_is (tables_of c.self.inside.procs c.self.inside.parts.items c.self.inside.ports c.self.inside.waits c.self.inside.names c.self.inside.sections c.self.inside.tokens c.self.inside.token_names c.self.inside.marks) c.self.invariant.named c.args.port h.stands) ∙ off.0 in
+    let owned = sym (owned_has (tables_of c.self.inside.procs c.self.inside.parts.items c.self.inside.ports c.self.inside.waits c.self.inside.names c.self.inside.sections c.self.inside.tokens c.self.inside.token_names c.self.inside.marks) c.self.invariant.named c.args.port h.stands) ∙ all.1 in
+    let owed = frees.freed_owed (tables_of c.self.inside.procs c.self.inside.parts.items c.self.inside.ports c.self.inside.waits c.self.inside.names c.self.inside.sections c.self.inside.tokens c.self.inside.token_names c.self.inside.marks) c.self.invariant.named c.args.port (c.self.inside.ports.port_room + 1) none owned h.stands in
     rw (← c.self.view_is, c.free.ensures.table) (omega (arith, owed))
 
 pub returns-clause-capacity : goal.returns-clause-capacity
@@ -67,4 +72,4 @@ returns-clause-capacity c =
     let fewer = c.free.ensures.fewer in
     let ports : c.free.new.self.port_room + length c.free.new.self.ports ≡ c.self.inside.ports.port_room + length c.self.inside.ports.ports =
     ap (λ (s : PortTable). s.port_room + length c.free.new.self.ports) c.free.ensures.table ∙ omega (arith, fewer) in
-    rw (← c.self.view_is) (capacities.of_ports (tables_of c.self.inside.procs c.self.inside.parts.items c.self.inside.ports c.self.inside.waits c.self.inside.names c.self.inside.sections c.self.inside.tokens c.self.inside.token_names) (vec_capacity c.self.inside.parts - vec_len c.self.inside.parts) c.free.new.self ports (ap (λ (s : PortTable). s.message_room + length s.messages) c.free.ensures.table))
+    rw (← c.self.view_is) (capacities.of_ports (tables_of c.self.inside.procs c.self.inside.parts.items c.self.inside.ports c.self.inside.waits c.self.inside.names c.self.inside.sections c.self.inside.tokens c.self.inside.token_names c.self.inside.marks) (vec_capacity c.self.inside.parts - vec_len c.self.inside.parts) c.free.new.self ports (ap (λ (s : PortTable). s.message_room + length s.messages) c.free.ensures.table))

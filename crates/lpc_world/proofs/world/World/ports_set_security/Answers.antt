@@ -7,18 +7,18 @@ use Rattle.lpc_world.proofs.world.World.ports_set_security.Goals as goal
 pub invariant_of-self : goal.invariant_of-self
 invariant_of-self c =
     let there = rw (← c.self.view_is) at c.requires in
-    rw c.set_security.ensures (secured.secured_lawful (tables_of c.self.inside.procs c.self.inside.parts.items c.self.inside.ports c.self.inside.waits c.self.inside.names c.self.inside.sections c.self.inside.tokens c.self.inside.token_names) c.self.invariant.named c.args.port c.args.security there c.self.inside.calls c.self.inside.made c.self.invariant)
+    rw c.set_security.ensures (secured.secured_lawful (tables_of c.self.inside.procs c.self.inside.parts.items c.self.inside.ports c.self.inside.waits c.self.inside.names c.self.inside.sections c.self.inside.tokens c.self.inside.token_names c.self.inside.marks) c.self.invariant.named c.args.port c.args.security there c.self.inside.calls c.self.inside.made c.self.invariant)
 
 pub returns-clause-step : goal.returns-clause-step
 returns-clause-step c = record {
   rows = let there = rw (← c.self.view_is) at c.requires in
-      rw (← c.self.view_is, c.set_security.ensures) (secured.secures (tables_of c.self.inside.procs c.self.inside.parts.items c.self.inside.ports c.self.inside.waits c.self.inside.names c.self.inside.sections c.self.inside.tokens c.self.inside.token_names) c.self.invariant.named c.args.port c.args.security there);
+      rw (← c.self.view_is, c.set_security.ensures) (secured.secures (tables_of c.self.inside.procs c.self.inside.parts.items c.self.inside.ports c.self.inside.waits c.self.inside.names c.self.inside.sections c.self.inside.tokens c.self.inside.token_names c.self.inside.marks) c.self.invariant.named c.args.port c.args.security there);
   births = let there = rw (← c.self.view_is) at c.requires in
-      rw (← c.self.view_is, c.set_security.ensures) (secured.secured_names (tables_of c.self.inside.procs c.self.inside.parts.items c.self.inside.ports c.self.inside.waits c.self.inside.names c.self.inside.sections c.self.inside.tokens c.self.inside.token_names) c.self.invariant.named c.args.port c.args.security there);
+      rw (← c.self.view_is, c.set_security.ensures) (secured.secured_names (tables_of c.self.inside.procs c.self.inside.parts.items c.self.inside.ports c.self.inside.waits c.self.inside.names c.self.inside.sections c.self.inside.tokens c.self.inside.token_names c.self.inside.marks) c.self.invariant.named c.args.port c.args.security there);
   calls = rw (← c.self.view_is) refl;
   made = let there = rw (← c.self.view_is) at c.requires in
-      let owed = secured.secured_owed (tables_of c.self.inside.procs c.self.inside.parts.items c.self.inside.ports c.self.inside.waits c.self.inside.names c.self.inside.sections c.self.inside.tokens c.self.inside.token_names) c.self.invariant.named c.args.port c.args.security there in
+      let owed = secured.secured_owed (tables_of c.self.inside.procs c.self.inside.parts.items c.self.inside.ports c.self.inside.waits c.self.inside.names c.self.inside.sections c.self.inside.tokens c.self.inside.token_names c.self.inside.marks) c.self.invariant.named c.args.port c.args.security there in
       rw (← c.self.view_is, c.set_security.ensures) (omega (arith, owed));
   room = let there = rw (← c.self.view_is) at c.requires in
-      rw (← c.self.view_is, c.set_security.ensures) (secured.secured_room (tables_of c.self.inside.procs c.self.inside.parts.items c.self.inside.ports c.self.inside.waits c.self.inside.names c.self.inside.sections c.self.inside.tokens c.self.inside.token_names) c.self.invariant.named c.args.port c.args.security there (vec_capacity c.self.inside.parts - vec_len c.self.inside.parts));
+      rw (← c.self.view_is, c.set_security.ensures) (secured.secured_room (tables_of c.self.inside.procs c.self.inside.parts.items c.self.inside.ports c.self.inside.waits c.self.inside.names c.self.inside.sections c.self.inside.tokens c.self.inside.token_names c.self.inside.marks) c.self.invariant.named c.args.port c.args.security there (vec_capacity c.self.inside.parts - vec_len c.self.inside.parts));
 }

@@ -1,4 +1,4 @@
-use Rattle.std.proofs.Common.{◌-◌, refl, arith}
+use Rattle.std.proofs.Common.{◌-◌, None, refl, arith}
 use Rattle.lpc_rows.specs.Shown.{tables_of}
 use Rattle.lpc_rows.specs.Kept.{room_of_part, view_room_of}
 use Rattle.lpc_rows.proofs.Rooms as rooms
@@ -11,7 +11,7 @@ pub invariant_of-self : goal.invariant_of-self
 invariant_of-self c =
     let there = rw (← c.self.view_is) at c.requires in
     rw (c.add_process.ensures.table, c.push_reserved.ensures.items)
-    (steps.added_process (tables_of c.self.inside.procs c.self.inside.parts.items c.self.inside.ports c.self.inside.waits c.self.inside.names c.self.inside.sections c.self.inside.tokens c.self.inside.token_names) c.self.inside.calls c.self.inside.made c.self.invariant (record { number = c.args.pid; maker = c.args.maker; birth = c.args.birth; token = c.args.token.now }) (record { process = c.args.pid; handles = c.new.result; views = c.new-2.result }) (c.self.inside.procs.process_room - 1) (rw c.new.ensures refl) (rw c.new-2.ensures refl) refl there.budget there.new there.birth there.fresh)
+    (steps.added_process (tables_of c.self.inside.procs c.self.inside.parts.items c.self.inside.ports c.self.inside.waits c.self.inside.names c.self.inside.sections c.self.inside.tokens c.self.inside.token_names c.self.inside.marks) c.self.inside.calls c.self.inside.made c.self.invariant (record { number = c.args.pid; maker = c.args.maker; birth = c.args.birth; token = c.args.token.now; debug_port = None; exception_port = None; doom = None }) (record { process = c.args.pid; handles = c.new.result; views = c.new-2.result }) (c.self.inside.procs.process_room - 1) (rw c.new.ensures refl) (rw c.new-2.ensures refl) refl refl refl there.budget there.new there.birth there.fresh)
 
 pub returns-clause-room : goal.returns-clause-room
 returns-clause-room c =
@@ -34,5 +34,5 @@ returns-clause-room c =
 
 pub returns-clause-made : goal.returns-clause-made
 returns-clause-made c =
-    let owed = steps.process_owed (tables_of c.self.inside.procs c.self.inside.parts.items c.self.inside.ports c.self.inside.waits c.self.inside.names c.self.inside.sections c.self.inside.tokens c.self.inside.token_names) c.self.inside.calls c.self.inside.made c.self.invariant (record { number = c.args.pid; maker = c.args.maker; birth = c.args.birth; token = c.args.token.now }) (record { process = c.args.pid; handles = c.new.result; views = c.new-2.result }) (c.self.inside.procs.process_room - 1) (rw c.new.ensures refl) (rw c.new-2.ensures refl) refl in
+    let owed = steps.process_owed (tables_of c.self.inside.procs c.self.inside.parts.items c.self.inside.ports c.self.inside.waits c.self.inside.names c.self.inside.sections c.self.inside.tokens c.self.inside.token_names c.self.inside.marks) c.self.inside.calls c.self.inside.made c.self.invariant (record { number = c.args.pid; maker = c.args.maker; birth = c.args.birth; token = c.args.token.now; debug_port = None; exception_port = None; doom = None }) (record { process = c.args.pid; handles = c.new.result; views = c.new-2.result }) (c.self.inside.procs.process_room - 1) (rw c.new.ensures refl) (rw c.new-2.ensures refl) refl in
     rw (← c.self.view_is, c.add_process.ensures.table, c.push_reserved.ensures.items) (omega (arith, owed))

@@ -13,20 +13,20 @@ use Rattle.lpc_rows.proofs.Steps as steps
 use Rattle.lpc_world.proofs.world.World.procs_draw_identifier.Goals as goal
 
 pub draw_identifier-requires : goal.draw_identifier-requires
-draw_identifier-requires c = record { identifier_left = steps.identifier_left (tables_of c.self.inside.procs c.self.inside.parts.items c.self.inside.ports c.self.inside.waits c.self.inside.names c.self.inside.sections c.self.inside.tokens c.self.inside.token_names) c.self.inside.calls c.self.inside.made c.self.invariant c.args.tid (rw (← c.self.view_is) at c.requires.stands) }
+draw_identifier-requires c = record { identifier_left = steps.identifier_left (tables_of c.self.inside.procs c.self.inside.parts.items c.self.inside.ports c.self.inside.waits c.self.inside.names c.self.inside.sections c.self.inside.tokens c.self.inside.token_names c.self.inside.marks) c.self.inside.calls c.self.inside.made c.self.invariant c.args.tid (rw (← c.self.view_is) at c.requires.stands) }
 
 pub invariant_of-self : goal.invariant_of-self
-invariant_of-self c = rw c.draw_identifier.ensures.table (steps.drew_identifier (tables_of c.self.inside.procs c.self.inside.parts.items c.self.inside.ports c.self.inside.waits c.self.inside.names c.self.inside.sections c.self.inside.tokens c.self.inside.token_names) c.self.inside.calls c.self.inside.made c.self.invariant c.args.tid (rw (← c.self.view_is) at c.requires.budget))
+invariant_of-self c = rw c.draw_identifier.ensures.table (steps.drew_identifier (tables_of c.self.inside.procs c.self.inside.parts.items c.self.inside.ports c.self.inside.waits c.self.inside.names c.self.inside.sections c.self.inside.tokens c.self.inside.token_names c.self.inside.marks) c.self.inside.calls c.self.inside.made c.self.invariant c.args.tid (rw (← c.self.view_is) at c.requires.budget))
 
 pub returns-clause-number : goal.returns-clause-number
-returns-clause-number c = rw (← c.self.view_is) (steps.drawn_identifier (tables_of c.self.inside.procs c.self.inside.parts.items c.self.inside.ports c.self.inside.waits c.self.inside.names c.self.inside.sections c.self.inside.tokens c.self.inside.token_names) c.self.inside.calls c.self.inside.made c.self.invariant c.args.tid c.draw_identifier.result c.draw_identifier.ensures.identifier)
+returns-clause-number c = rw (← c.self.view_is) (steps.drawn_identifier (tables_of c.self.inside.procs c.self.inside.parts.items c.self.inside.ports c.self.inside.waits c.self.inside.names c.self.inside.sections c.self.inside.tokens c.self.inside.token_names c.self.inside.marks) c.self.inside.calls c.self.inside.made c.self.invariant c.args.tid c.draw_identifier.result c.draw_identifier.ensures.identifier)
 
 pub returns-clause-step : goal.returns-clause-step
 returns-clause-step c = record {
-  rows = rw (← c.self.view_is, c.draw_identifier.ensures.table) (changes.draws_identifier (tables_of c.self.inside.procs c.self.inside.parts.items c.self.inside.ports c.self.inside.waits c.self.inside.names c.self.inside.sections c.self.inside.tokens c.self.inside.token_names) c.self.invariant.named c.args.tid);
+  rows = rw (← c.self.view_is, c.draw_identifier.ensures.table) (changes.draws_identifier (tables_of c.self.inside.procs c.self.inside.parts.items c.self.inside.ports c.self.inside.waits c.self.inside.names c.self.inside.sections c.self.inside.tokens c.self.inside.token_names c.self.inside.marks) c.self.invariant.named c.args.tid);
   births = rw (← c.self.view_is) refl;
   calls = rw (← c.self.view_is) refl;
-  made = let owed = ap (λ (v : World). length (registered_ports v)) (changes.draws_identifier (tables_of c.self.inside.procs c.self.inside.parts.items c.self.inside.ports c.self.inside.waits c.self.inside.names c.self.inside.sections c.self.inside.tokens c.self.inside.token_names) c.self.invariant.named c.args.tid) ∙ ap length (registered-change past_identifier (λ t. refl) c.args.tid (rows_by (tables_of c.self.inside.procs c.self.inside.parts.items c.self.inside.ports c.self.inside.waits c.self.inside.names c.self.inside.sections c.self.inside.tokens c.self.inside.token_names)).threads) in rw (← c.self.view_is, c.draw_identifier.ensures.table) (omega (arith, owed));
-  room = rw (← c.self.view_is, c.draw_identifier.ensures.table, ap (λ (v : World). v.threads) (changes.draws_identifier (tables_of c.self.inside.procs c.self.inside.parts.items c.self.inside.ports c.self.inside.waits c.self.inside.names c.self.inside.sections c.self.inside.tokens c.self.inside.token_names) c.self.invariant.named c.args.tid))
-      (rooms.room_threads _ _ _ _ _ _ _ _ _ _ (rows_by (tables_of c.self.inside.procs c.self.inside.parts.items c.self.inside.ports c.self.inside.waits c.self.inside.names c.self.inside.sections c.self.inside.tokens c.self.inside.token_names)) _ (change (is_thread c.args.tid) past_identifier (rows_by (tables_of c.self.inside.procs c.self.inside.parts.items c.self.inside.ports c.self.inside.waits c.self.inside.names c.self.inside.sections c.self.inside.tokens c.self.inside.token_names)).threads) (alive-change past_identifier (λ t. refl) c.args.tid (rows_by (tables_of c.self.inside.procs c.self.inside.parts.items c.self.inside.ports c.self.inside.waits c.self.inside.names c.self.inside.sections c.self.inside.tokens c.self.inside.token_names)).threads) (registered-change past_identifier (λ t. refl) c.args.tid (rows_by (tables_of c.self.inside.procs c.self.inside.parts.items c.self.inside.ports c.self.inside.waits c.self.inside.names c.self.inside.sections c.self.inside.tokens c.self.inside.token_names)).threads));
+  made = let owed = ap (λ (v : World). length (registered_ports v)) (changes.draws_identifier (tables_of c.self.inside.procs c.self.inside.parts.items c.self.inside.ports c.self.inside.waits c.self.inside.names c.self.inside.sections c.self.inside.tokens c.self.inside.token_names c.self.inside.marks) c.self.invariant.named c.args.tid) ∙ ap length (registered-change past_identifier (λ t. refl) c.args.tid (rows_by (tables_of c.self.inside.procs c.self.inside.parts.items c.self.inside.ports c.self.inside.waits c.self.inside.names c.self.inside.sections c.self.inside.tokens c.self.inside.token_names c.self.inside.marks)).threads) in rw (← c.self.view_is, c.draw_identifier.ensures.table) (omega (arith, owed));
+  room = rw (← c.self.view_is, c.draw_identifier.ensures.table, ap (λ (v : World). v.threads) (changes.draws_identifier (tables_of c.self.inside.procs c.self.inside.parts.items c.self.inside.ports c.self.inside.waits c.self.inside.names c.self.inside.sections c.self.inside.tokens c.self.inside.token_names c.self.inside.marks) c.self.invariant.named c.args.tid))
+      (rooms.room_threads _ _ _ _ _ _ _ _ _ _ _ (rows_by (tables_of c.self.inside.procs c.self.inside.parts.items c.self.inside.ports c.self.inside.waits c.self.inside.names c.self.inside.sections c.self.inside.tokens c.self.inside.token_names c.self.inside.marks)) _ (change (is_thread c.args.tid) past_identifier (rows_by (tables_of c.self.inside.procs c.self.inside.parts.items c.self.inside.ports c.self.inside.waits c.self.inside.names c.self.inside.sections c.self.inside.tokens c.self.inside.token_names c.self.inside.marks)).threads) (alive-change past_identifier (λ t. refl) c.args.tid (rows_by (tables_of c.self.inside.procs c.self.inside.parts.items c.self.inside.ports c.self.inside.waits c.self.inside.names c.self.inside.sections c.self.inside.tokens c.self.inside.token_names c.self.inside.marks)).threads) (registered-change past_identifier (λ t. refl) c.args.tid (rows_by (tables_of c.self.inside.procs c.self.inside.parts.items c.self.inside.ports c.self.inside.waits c.self.inside.names c.self.inside.sections c.self.inside.tokens c.self.inside.token_names c.self.inside.marks)).threads));
 }

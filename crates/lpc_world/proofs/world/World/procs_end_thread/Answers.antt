@@ -11,22 +11,22 @@ use Rattle.lpc_world.proofs.world.World.procs_end_thread.Goals as goal
 pub end_thread-requires : goal.end_thread-requires
 end_thread-requires c =
     let live = rw (← c.self.view_is) at c.requires.live in
-    record { present = enrolling.stands_live (tables_of c.self.inside.procs c.self.inside.parts.items c.self.inside.ports c.self.inside.waits c.self.inside.names c.self.inside.sections c.self.inside.tokens c.self.inside.token_names) c.self.inside.calls c.self.inside.made c.self.invariant c.args.tid live }
+    record { present = enrolling.stands_live (tables_of c.self.inside.procs c.self.inside.parts.items c.self.inside.ports c.self.inside.waits c.self.inside.names c.self.inside.sections c.self.inside.tokens c.self.inside.token_names c.self.inside.marks) c.self.inside.calls c.self.inside.made c.self.invariant c.args.tid live }
 
 pub invariant_of-self : goal.invariant_of-self
 invariant_of-self c =
     let ready = rw (← c.self.view_is) at c.requires.ready in
-    rw c.end_thread.ensures.table (enrolling.ending-lawful (tables_of c.self.inside.procs c.self.inside.parts.items c.self.inside.ports c.self.inside.waits c.self.inside.names c.self.inside.sections c.self.inside.tokens c.self.inside.token_names) c.self.inside.calls c.self.inside.made c.self.invariant c.args.tid ready)
+    rw c.end_thread.ensures.table (enrolling.ending-lawful (tables_of c.self.inside.procs c.self.inside.parts.items c.self.inside.ports c.self.inside.waits c.self.inside.names c.self.inside.sections c.self.inside.tokens c.self.inside.token_names c.self.inside.marks) c.self.inside.calls c.self.inside.made c.self.invariant c.args.tid ready)
 
 pub returns-clause-step : goal.returns-clause-step
 returns-clause-step c =
-    let ends = enrolling.ends (tables_of c.self.inside.procs c.self.inside.parts.items c.self.inside.ports c.self.inside.waits c.self.inside.names c.self.inside.sections c.self.inside.tokens c.self.inside.token_names) c.self.inside.calls c.self.inside.made c.self.invariant c.args.tid in
-    let owed = ap (λ (v : World). length (registered_ports v)) ends ∙ ap length (registered-change ended (λ t. refl) c.args.tid (rows_by (tables_of c.self.inside.procs c.self.inside.parts.items c.self.inside.ports c.self.inside.waits c.self.inside.names c.self.inside.sections c.self.inside.tokens c.self.inside.token_names)).threads) in
-    let alive = fewer-alive c.args.tid (rows_by (tables_of c.self.inside.procs c.self.inside.parts.items c.self.inside.ports c.self.inside.waits c.self.inside.names c.self.inside.sections c.self.inside.tokens c.self.inside.token_names)).threads in
+    let ends = enrolling.ends (tables_of c.self.inside.procs c.self.inside.parts.items c.self.inside.ports c.self.inside.waits c.self.inside.names c.self.inside.sections c.self.inside.tokens c.self.inside.token_names c.self.inside.marks) c.self.inside.calls c.self.inside.made c.self.invariant c.args.tid in
+    let owed = ap (λ (v : World). length (registered_ports v)) ends ∙ ap length (registered-change ended (λ t. refl) c.args.tid (rows_by (tables_of c.self.inside.procs c.self.inside.parts.items c.self.inside.ports c.self.inside.waits c.self.inside.names c.self.inside.sections c.self.inside.tokens c.self.inside.token_names c.self.inside.marks)).threads) in
+    let alive = fewer-alive c.args.tid (rows_by (tables_of c.self.inside.procs c.self.inside.parts.items c.self.inside.ports c.self.inside.waits c.self.inside.names c.self.inside.sections c.self.inside.tokens c.self.inside.token_names c.self.inside.marks)).threads in
     record {
       rows = rw (← c.self.view_is, c.end_thread.ensures.table) ends;
       births = rw (← c.self.view_is) refl;
       calls = rw (← c.self.view_is) refl;
       made = rw (← c.self.view_is, c.end_thread.ensures.table) (omega (arith, owed));
-      room = rw (← c.self.view_is, c.end_thread.ensures.table, ap (λ (v : World). v.threads) ends) (enrolling.room_ended _ _ _ _ _ _ _ _ _ _ (rows_by (tables_of c.self.inside.procs c.self.inside.parts.items c.self.inside.ports c.self.inside.waits c.self.inside.names c.self.inside.sections c.self.inside.tokens c.self.inside.token_names)) _ c.args.tid);
+      room = rw (← c.self.view_is, c.end_thread.ensures.table, ap (λ (v : World). v.threads) ends) (enrolling.room_ended _ _ _ _ _ _ _ _ _ _ _ (rows_by (tables_of c.self.inside.procs c.self.inside.parts.items c.self.inside.ports c.self.inside.waits c.self.inside.names c.self.inside.sections c.self.inside.tokens c.self.inside.token_names c.self.inside.marks)) _ c.args.tid);
     }

@@ -17,5 +17,5 @@ returns-clause-number c =
 pub returns-clause-few : goal.returns-clause-few
 returns-clause-few c =
     let counted = c.registered_to.ensures.count ∙ sym (live-counted c.port.result.now.birth c.self.inside.procs.threads) in
-    let few = live-few (same_birth c.port.result.now.birth) (rows_by (tables_of c.self.inside.procs c.self.inside.parts.items c.self.inside.ports c.self.inside.waits c.self.inside.names c.self.inside.sections c.self.inside.tokens c.self.inside.token_names)).threads in
+    let few = live-few (same_birth c.port.result.now.birth) (rows_by (tables_of c.self.inside.procs c.self.inside.parts.items c.self.inside.ports c.self.inside.waits c.self.inside.names c.self.inside.sections c.self.inside.tokens c.self.inside.token_names c.self.inside.marks)).threads in
     rw (← c.self.view_is) (omega (arith, counted, few))

@@ -19,26 +19,26 @@ insert_reserved-requires-clause-few c =
 pub invariant_of-self : goal.invariant_of-self
 invariant_of-self c =
     let there = rw (← c.self.view_is) at c.requires in
-    sections.added_lawful (tables_of c.self.inside.procs c.self.inside.parts.items c.self.inside.ports c.self.inside.waits c.self.inside.names c.self.inside.sections c.self.inside.tokens c.self.inside.token_names) c.self.inside.calls c.self.inside.made c.self.invariant c.insert_reserved.result c.args.section c.insert_reserved.new.self c.insert_reserved.ensures.table c.insert_reserved.ensures.listed c.insert_reserved.ensures.vacant there.zeros there.fresh there.drawn there.budget
+    sections.added_lawful (tables_of c.self.inside.procs c.self.inside.parts.items c.self.inside.ports c.self.inside.waits c.self.inside.names c.self.inside.sections c.self.inside.tokens c.self.inside.token_names c.self.inside.marks) c.self.inside.calls c.self.inside.made c.self.invariant c.insert_reserved.result c.args.section c.insert_reserved.new.self c.insert_reserved.ensures.table c.insert_reserved.ensures.listed c.insert_reserved.ensures.vacant there.zeros there.fresh there.drawn there.budget
 
 pub returns-clause-rows : goal.returns-clause-rows
-returns-clause-rows c = rw (← c.self.view_is) (sections.adds (tables_of c.self.inside.procs c.self.inside.parts.items c.self.inside.ports c.self.inside.waits c.self.inside.names c.self.inside.sections c.self.inside.tokens c.self.inside.token_names) c.self.invariant.named c.insert_reserved.result c.args.section c.insert_reserved.new.self c.insert_reserved.ensures.listed (vacant c.self.inside.sections c.insert_reserved.result c.insert_reserved.ensures.vacant) c.requires.zeros)
+returns-clause-rows c = rw (← c.self.view_is) (sections.adds (tables_of c.self.inside.procs c.self.inside.parts.items c.self.inside.ports c.self.inside.waits c.self.inside.names c.self.inside.sections c.self.inside.tokens c.self.inside.token_names c.self.inside.marks) c.self.invariant.named c.insert_reserved.result c.args.section c.insert_reserved.new.self c.insert_reserved.ensures.listed (vacant c.self.inside.sections c.insert_reserved.result c.insert_reserved.ensures.vacant) c.requires.zeros)
 
 pub returns-clause-name : goal.returns-clause-name
-returns-clause-name c = sections.name_new (tables_of c.self.inside.procs c.self.inside.parts.items c.self.inside.ports c.self.inside.waits c.self.inside.names c.self.inside.sections c.self.inside.tokens c.self.inside.token_names) c.self.invariant.named c.insert_reserved.result c.args.section c.insert_reserved.new.self c.insert_reserved.ensures.listed (vacant c.self.inside.sections c.insert_reserved.result c.insert_reserved.ensures.vacant)
+returns-clause-name c = sections.name_new (tables_of c.self.inside.procs c.self.inside.parts.items c.self.inside.ports c.self.inside.waits c.self.inside.names c.self.inside.sections c.self.inside.tokens c.self.inside.token_names c.self.inside.marks) c.self.invariant.named c.insert_reserved.result c.args.section c.insert_reserved.new.self c.insert_reserved.ensures.listed (vacant c.self.inside.sections c.insert_reserved.result c.insert_reserved.ensures.vacant)
 
 pub returns-clause-stands : goal.returns-clause-stands
-returns-clause-stands c = sections.stands_new (tables_of c.self.inside.procs c.self.inside.parts.items c.self.inside.ports c.self.inside.waits c.self.inside.names c.self.inside.sections c.self.inside.tokens c.self.inside.token_names) c.self.invariant.named c.insert_reserved.result c.args.section c.insert_reserved.new.self c.insert_reserved.ensures.listed (vacant c.self.inside.sections c.insert_reserved.result c.insert_reserved.ensures.vacant)
+returns-clause-stands c = sections.stands_new (tables_of c.self.inside.procs c.self.inside.parts.items c.self.inside.ports c.self.inside.waits c.self.inside.names c.self.inside.sections c.self.inside.tokens c.self.inside.token_names c.self.inside.marks) c.self.invariant.named c.insert_reserved.result c.args.section c.insert_reserved.new.self c.insert_reserved.ensures.listed (vacant c.self.inside.sections c.insert_reserved.result c.insert_reserved.ensures.vacant)
 
 pub returns-clause-others : goal.returns-clause-others
-returns-clause-others c = rw (← c.self.view_is) (sections.keeps (tables_of c.self.inside.procs c.self.inside.parts.items c.self.inside.ports c.self.inside.waits c.self.inside.names c.self.inside.sections c.self.inside.tokens c.self.inside.token_names) c.self.invariant.named c.insert_reserved.result c.args.section c.insert_reserved.new.self c.insert_reserved.ensures.listed (vacant c.self.inside.sections c.insert_reserved.result c.insert_reserved.ensures.vacant))
+returns-clause-others c = rw (← c.self.view_is) (sections.keeps (tables_of c.self.inside.procs c.self.inside.parts.items c.self.inside.ports c.self.inside.waits c.self.inside.names c.self.inside.sections c.self.inside.tokens c.self.inside.token_names c.self.inside.marks) c.self.invariant.named c.insert_reserved.result c.args.section c.insert_reserved.new.self c.insert_reserved.ensures.listed (vacant c.self.inside.sections c.insert_reserved.result c.insert_reserved.ensures.vacant))
 
 pub returns-clause-ports : goal.returns-clause-ports
 returns-clause-ports c = rw (← c.self.view_is) refl
 
 pub returns-clause-room : goal.returns-clause-room
 returns-clause-room c =
-    let added = sections.adds (tables_of c.self.inside.procs c.self.inside.parts.items c.self.inside.ports c.self.inside.waits c.self.inside.names c.self.inside.sections c.self.inside.tokens c.self.inside.token_names) c.self.invariant.named c.insert_reserved.result c.args.section c.insert_reserved.new.self c.insert_reserved.ensures.listed (vacant c.self.inside.sections c.insert_reserved.result c.insert_reserved.ensures.vacant) c.requires.zeros in
+    let added = sections.adds (tables_of c.self.inside.procs c.self.inside.parts.items c.self.inside.ports c.self.inside.waits c.self.inside.names c.self.inside.sections c.self.inside.tokens c.self.inside.token_names c.self.inside.marks) c.self.invariant.named c.insert_reserved.result c.args.section c.insert_reserved.new.self c.insert_reserved.ensures.listed (vacant c.self.inside.sections c.insert_reserved.result c.insert_reserved.ensures.vacant) c.requires.zeros in
     let spare = ap (λ (t : Table SectionRow). t.spare) c.insert_reserved.ensures.table in
     rw (← c.self.view_is, ap (λ (v : World). v.waits) added, ap (λ (v : World). v.messages) added, ap (λ (v : World). v.ports) added) (record {
       for_processes = omega arith;
@@ -56,7 +56,7 @@ returns-clause-room c =
 
 pub returns-clause-made : goal.returns-clause-made
 returns-clause-made c =
-    let owed = ap owed_rows (sections.adds (tables_of c.self.inside.procs c.self.inside.parts.items c.self.inside.ports c.self.inside.waits c.self.inside.names c.self.inside.sections c.self.inside.tokens c.self.inside.token_names) c.self.invariant.named c.insert_reserved.result c.args.section c.insert_reserved.new.self c.insert_reserved.ensures.listed (vacant c.self.inside.sections c.insert_reserved.result c.insert_reserved.ensures.vacant) c.requires.zeros) in
+    let owed = ap owed_rows (sections.adds (tables_of c.self.inside.procs c.self.inside.parts.items c.self.inside.ports c.self.inside.waits c.self.inside.names c.self.inside.sections c.self.inside.tokens c.self.inside.token_names c.self.inside.marks) c.self.invariant.named c.insert_reserved.result c.args.section c.insert_reserved.new.self c.insert_reserved.ensures.listed (vacant c.self.inside.sections c.insert_reserved.result c.insert_reserved.ensures.vacant) c.requires.zeros) in
     rw (← c.self.view_is) (omega (arith, owed))
 
 pub returns-clause-capacity : goal.returns-clause-capacity
@@ -65,7 +65,7 @@ returns-clause-capacity c =
     let spare = ap (λ (t : Table SectionRow). t.spare) c.insert_reserved.ensures.table in
     let rows = ap length c.insert_reserved.ensures.listed in
     let more = capacities.one_more c.self.inside.sections.spare (listed c.self.inside.sections) (c.insert_reserved.result, c.args.section) there in
-    rw (← c.self.view_is) (capacities.of_sections (tables_of c.self.inside.procs c.self.inside.parts.items c.self.inside.ports c.self.inside.waits c.self.inside.names c.self.inside.sections c.self.inside.tokens c.self.inside.token_names) (vec_capacity c.self.inside.parts - vec_len c.self.inside.parts) c.insert_reserved.new.self (omega (arith, spare, rows, more)))
+    rw (← c.self.view_is) (capacities.of_sections (tables_of c.self.inside.procs c.self.inside.parts.items c.self.inside.ports c.self.inside.waits c.self.inside.names c.self.inside.sections c.self.inside.tokens c.self.inside.token_names c.self.inside.marks) (vec_capacity c.self.inside.parts - vec_len c.self.inside.parts) c.insert_reserved.new.self (omega (arith, spare, rows, more)))
 
 pub returns-clause-tokens : goal.returns-clause-tokens
 returns-clause-tokens c = rw (← c.self.view_is) refl

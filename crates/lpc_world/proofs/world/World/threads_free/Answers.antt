@@ -10,26 +10,26 @@ use Rattle.lpc_world.proofs.world.World.threads_free.Goals as goal
 pub free_thread_born-requires : goal.free_thread_born-requires
 free_thread_born-requires c =
     let there = rw (← c.self.view_is) at c.requires in
-    record { ended = vacated.no-life (tables_of c.self.inside.procs c.self.inside.parts.items c.self.inside.ports c.self.inside.waits c.self.inside.names c.self.inside.sections c.self.inside.tokens c.self.inside.token_names) c.self.inside.calls c.self.inside.made c.self.invariant c.args.birth there.ended }
+    record { ended = vacated.no-life (tables_of c.self.inside.procs c.self.inside.parts.items c.self.inside.ports c.self.inside.waits c.self.inside.names c.self.inside.sections c.self.inside.tokens c.self.inside.token_names c.self.inside.marks) c.self.inside.calls c.self.inside.made c.self.invariant c.args.birth there.ended }
 
 pub invariant_of-self : goal.invariant_of-self
 invariant_of-self c =
     let there = rw (← c.self.view_is) at c.requires in
-    rw c.free_thread_born.ensures.table (vacated.thread-gone (tables_of c.self.inside.procs c.self.inside.parts.items c.self.inside.ports c.self.inside.waits c.self.inside.names c.self.inside.sections c.self.inside.tokens c.self.inside.token_names) c.self.inside.calls c.self.inside.made c.self.invariant c.args.birth c.free_thread_born.new.self.thread_room there.ended)
+    rw c.free_thread_born.ensures.table (vacated.thread-gone (tables_of c.self.inside.procs c.self.inside.parts.items c.self.inside.ports c.self.inside.waits c.self.inside.names c.self.inside.sections c.self.inside.tokens c.self.inside.token_names c.self.inside.marks) c.self.inside.calls c.self.inside.made c.self.invariant c.args.birth c.free_thread_born.new.self.thread_room there.ended)
 
 pub returns-clause-rows : goal.returns-clause-rows
-returns-clause-rows c = rw (← c.self.view_is, c.free_thread_born.ensures.table) (vacated.thread-shown (tables_of c.self.inside.procs c.self.inside.parts.items c.self.inside.ports c.self.inside.waits c.self.inside.names c.self.inside.sections c.self.inside.tokens c.self.inside.token_names) c.self.inside.calls c.self.inside.made c.self.invariant c.args.birth c.free_thread_born.new.self.thread_room)
+returns-clause-rows c = rw (← c.self.view_is, c.free_thread_born.ensures.table) (vacated.thread-shown (tables_of c.self.inside.procs c.self.inside.parts.items c.self.inside.ports c.self.inside.waits c.self.inside.names c.self.inside.sections c.self.inside.tokens c.self.inside.token_names c.self.inside.marks) c.self.inside.calls c.self.inside.made c.self.invariant c.args.birth c.free_thread_born.new.self.thread_room)
 
 pub returns-clause-made : goal.returns-clause-made
 returns-clause-made c =
-    let w = rows_by (tables_of c.self.inside.procs c.self.inside.parts.items c.self.inside.ports c.self.inside.waits c.self.inside.names c.self.inside.sections c.self.inside.tokens c.self.inside.token_names) in
-    let shown = vacated.thread-shown (tables_of c.self.inside.procs c.self.inside.parts.items c.self.inside.ports c.self.inside.waits c.self.inside.names c.self.inside.sections c.self.inside.tokens c.self.inside.token_names) c.self.inside.calls c.self.inside.made c.self.invariant c.args.birth c.free_thread_born.new.self.thread_room in
+    let w = rows_by (tables_of c.self.inside.procs c.self.inside.parts.items c.self.inside.ports c.self.inside.waits c.self.inside.names c.self.inside.sections c.self.inside.tokens c.self.inside.token_names c.self.inside.marks) in
+    let shown = vacated.thread-shown (tables_of c.self.inside.procs c.self.inside.parts.items c.self.inside.ports c.self.inside.waits c.self.inside.names c.self.inside.sections c.self.inside.tokens c.self.inside.token_names c.self.inside.marks) c.self.inside.calls c.self.inside.made c.self.invariant c.args.birth c.free_thread_born.new.self.thread_room in
     let owed = ap (λ (v : World). length (registered_ports v)) shown in
     let less = registered-less_threads (is_born_thread c.args.birth) w.threads in
     rw (← c.self.view_is, c.free_thread_born.ensures.table) (omega (arith, owed, less))
 
 pub returns-clause-room : goal.returns-clause-room
 returns-clause-room c =
-    let w = rows_by (tables_of c.self.inside.procs c.self.inside.parts.items c.self.inside.ports c.self.inside.waits c.self.inside.names c.self.inside.sections c.self.inside.tokens c.self.inside.token_names) in
-    let shown = vacated.thread-shown (tables_of c.self.inside.procs c.self.inside.parts.items c.self.inside.ports c.self.inside.waits c.self.inside.names c.self.inside.sections c.self.inside.tokens c.self.inside.token_names) c.self.inside.calls c.self.inside.made c.self.invariant c.args.birth c.free_thread_born.new.self.thread_room in
-    rw (← c.self.view_is, c.free_thread_born.ensures.table) (rw (ap (λ (v : World). v.threads) shown) (vacated.room-less _ _ _ _ _ _ _ _ _ _ w _ c.free_thread_born.new.self.thread_room (is_born_thread c.args.birth) c.free_thread_born.ensures.room))
+    let w = rows_by (tables_of c.self.inside.procs c.self.inside.parts.items c.self.inside.ports c.self.inside.waits c.self.inside.names c.self.inside.sections c.self.inside.tokens c.self.inside.token_names c.self.inside.marks) in
+    let shown = vacated.thread-shown (tables_of c.self.inside.procs c.self.inside.parts.items c.self.inside.ports c.self.inside.waits c.self.inside.names c.self.inside.sections c.self.inside.tokens c.self.inside.token_names c.self.inside.marks) c.self.inside.calls c.self.inside.made c.self.invariant c.args.birth c.free_thread_born.new.self.thread_room in
+    rw (← c.self.view_is, c.free_thread_born.ensures.table) (rw (ap (λ (v : World). v.threads) shown) (vacated.room-less _ _ _ _ _ _ _ _ _ _ _ w _ c.free_thread_born.new.self.thread_room (is_born_thread c.args.birth) c.free_thread_born.ensures.room))

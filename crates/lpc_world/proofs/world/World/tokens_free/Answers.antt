@@ -12,23 +12,23 @@ pub invariant_of-self : goal.invariant_of-self
 invariant_of-self c =
     let h = rw (← c.self.view_is) at c.requires in
     let less = removed_rows c.self.inside.tokens c.remove.new.self c.args.token c.remove.result c.remove.ensures.value c.remove.ensures.table c.remove.ensures.listed in
-    let unused = frees.unused (tables_of c.self.inside.procs c.self.inside.parts.items c.self.inside.ports c.self.inside.waits c.self.inside.names c.self.inside.sections c.self.inside.tokens c.self.inside.token_names) c.self.invariant.named c.args.token h.stands h.handles in
-    let table = frees.removed_there (tables_of c.self.inside.procs c.self.inside.parts.items c.self.inside.ports c.self.inside.waits c.self.inside.names c.self.inside.sections c.self.inside.tokens c.self.inside.token_names) c.self.invariant.named c.args.token h.stands c.remove.result c.remove.new.self c.remove.ensures.value c.remove.ensures.table in
-    frees.freed_lawful (tables_of c.self.inside.procs c.self.inside.parts.items c.self.inside.ports c.self.inside.waits c.self.inside.names c.self.inside.sections c.self.inside.tokens c.self.inside.token_names) c.self.invariant.named c.args.token c.remove.new.self less unused c.self.inside.calls c.self.inside.made c.self.invariant h.stands table
+    let unused = frees.unused (tables_of c.self.inside.procs c.self.inside.parts.items c.self.inside.ports c.self.inside.waits c.self.inside.names c.self.inside.sections c.self.inside.tokens c.self.inside.token_names c.self.inside.marks) c.self.invariant.named c.args.token h.stands h.handles in
+    let table = frees.removed_there (tables_of c.self.inside.procs c.self.inside.parts.items c.self.inside.ports c.self.inside.waits c.self.inside.names c.self.inside.sections c.self.inside.tokens c.self.inside.token_names c.self.inside.marks) c.self.invariant.named c.args.token h.stands c.remove.result c.remove.new.self c.remove.ensures.value c.remove.ensures.table in
+    frees.freed_lawful (tables_of c.self.inside.procs c.self.inside.parts.items c.self.inside.ports c.self.inside.waits c.self.inside.names c.self.inside.sections c.self.inside.tokens c.self.inside.token_names c.self.inside.marks) c.self.invariant.named c.args.token c.remove.new.self less unused c.self.inside.calls c.self.inside.made c.self.invariant h.stands table
 
 pub returns-clause-rows : goal.returns-clause-rows
 returns-clause-rows c =
     let h = rw (← c.self.view_is) at c.requires in
     let less = removed_rows c.self.inside.tokens c.remove.new.self c.args.token c.remove.result c.remove.ensures.value c.remove.ensures.table c.remove.ensures.listed in
-    let unused = frees.unused (tables_of c.self.inside.procs c.self.inside.parts.items c.self.inside.ports c.self.inside.waits c.self.inside.names c.self.inside.sections c.self.inside.tokens c.self.inside.token_names) c.self.invariant.named c.args.token h.stands h.handles in
-    rw (← c.self.view_is) (frees.frees (tables_of c.self.inside.procs c.self.inside.parts.items c.self.inside.ports c.self.inside.waits c.self.inside.names c.self.inside.sections c.self.inside.tokens c.self.inside.token_names) c.self.invariant.named c.args.token c.remove.new.self less unused h.stands)
+    let unused = frees.unused (tables_of c.self.inside.procs c.self.inside.parts.items c.self.inside.ports c.self.inside.waits c.self.inside.names c.self.inside.sections c.self.inside.tokens c.self.inside.token_names c.self.inside.marks) c.self.invariant.named c.args.token h.stands h.handles in
+    rw (← c.self.view_is) (frees.frees (tables_of c.self.inside.procs c.self.inside.parts.items c.self.inside.ports c.self.inside.waits c.self.inside.names c.self.inside.sections c.self.inside.tokens c.self.inside.token_names c.self.inside.marks) c.self.invariant.named c.args.token c.remove.new.self less unused h.stands)
 
 pub returns-clause-others : goal.returns-clause-others
 returns-clause-others c =
     let h = rw (← c.self.view_is) at c.requires in
     let less = removed_rows c.self.inside.tokens c.remove.new.self c.args.token c.remove.result c.remove.ensures.value c.remove.ensures.table c.remove.ensures.listed in
-    let unused = frees.unused (tables_of c.self.inside.procs c.self.inside.parts.items c.self.inside.ports c.self.inside.waits c.self.inside.names c.self.inside.sections c.self.inside.tokens c.self.inside.token_names) c.self.invariant.named c.args.token h.stands h.handles in
-    rw (← c.self.view_is) (frees.keeps (tables_of c.self.inside.procs c.self.inside.parts.items c.self.inside.ports c.self.inside.waits c.self.inside.names c.self.inside.sections c.self.inside.tokens c.self.inside.token_names) c.self.invariant.named c.args.token c.remove.new.self less unused)
+    let unused = frees.unused (tables_of c.self.inside.procs c.self.inside.parts.items c.self.inside.ports c.self.inside.waits c.self.inside.names c.self.inside.sections c.self.inside.tokens c.self.inside.token_names c.self.inside.marks) c.self.invariant.named c.args.token h.stands h.handles in
+    rw (← c.self.view_is) (frees.keeps (tables_of c.self.inside.procs c.self.inside.parts.items c.self.inside.ports c.self.inside.waits c.self.inside.names c.self.inside.sections c.self.inside.tokens c.self.inside.token_names c.self.inside.marks) c.self.invariant.named c.args.token c.remove.new.self less unused)
 
 pub returns-clause-ports : goal.returns-clause-ports
 returns-clause-ports c = rw (← c.self.view_is) refl
@@ -40,17 +40,17 @@ pub returns-clause-made : goal.returns-clause-made
 returns-clause-made c =
     let h = rw (← c.self.view_is) at c.requires in
     let less = removed_rows c.self.inside.tokens c.remove.new.self c.args.token c.remove.result c.remove.ensures.value c.remove.ensures.table c.remove.ensures.listed in
-    let unused = frees.unused (tables_of c.self.inside.procs c.self.inside.parts.items c.self.inside.ports c.self.inside.waits c.self.inside.names c.self.inside.sections c.self.inside.tokens c.self.inside.token_names) c.self.invariant.named c.args.token h.stands h.handles in
-    let owed = ap owed_rows (frees.frees (tables_of c.self.inside.procs c.self.inside.parts.items c.self.inside.ports c.self.inside.waits c.self.inside.names c.self.inside.sections c.self.inside.tokens c.self.inside.token_names) c.self.invariant.named c.args.token c.remove.new.self less unused h.stands) in
+    let unused = frees.unused (tables_of c.self.inside.procs c.self.inside.parts.items c.self.inside.ports c.self.inside.waits c.self.inside.names c.self.inside.sections c.self.inside.tokens c.self.inside.token_names c.self.inside.marks) c.self.invariant.named c.args.token h.stands h.handles in
+    let owed = ap owed_rows (frees.frees (tables_of c.self.inside.procs c.self.inside.parts.items c.self.inside.ports c.self.inside.waits c.self.inside.names c.self.inside.sections c.self.inside.tokens c.self.inside.token_names c.self.inside.marks) c.self.invariant.named c.args.token c.remove.new.self less unused h.stands) in
     rw (← c.self.view_is) (omega (arith, owed))
 
 pub returns-clause-room : goal.returns-clause-room
 returns-clause-room c =
     let h = rw (← c.self.view_is) at c.requires in
     let less = removed_rows c.self.inside.tokens c.remove.new.self c.args.token c.remove.result c.remove.ensures.value c.remove.ensures.table c.remove.ensures.listed in
-    let unused = frees.unused (tables_of c.self.inside.procs c.self.inside.parts.items c.self.inside.ports c.self.inside.waits c.self.inside.names c.self.inside.sections c.self.inside.tokens c.self.inside.token_names) c.self.invariant.named c.args.token h.stands h.handles in
-    let freed = frees.frees (tables_of c.self.inside.procs c.self.inside.parts.items c.self.inside.ports c.self.inside.waits c.self.inside.names c.self.inside.sections c.self.inside.tokens c.self.inside.token_names) c.self.invariant.named c.args.token c.remove.new.self less unused h.stands in
-    let table = frees.removed_there (tables_of c.self.inside.procs c.self.inside.parts.items c.self.inside.ports c.self.inside.waits c.self.inside.names c.self.inside.sections c.self.inside.tokens c.self.inside.token_names) c.self.invariant.named c.args.token h.stands c.remove.result c.remove.new.self c.remove.ensures.value c.remove.ensures.table in
+    let unused = frees.unused (tables_of c.self.inside.procs c.self.inside.parts.items c.self.inside.ports c.self.inside.waits c.self.inside.names c.self.inside.sections c.self.inside.tokens c.self.inside.token_names c.self.inside.marks) c.self.invariant.named c.args.token h.stands h.handles in
+    let freed = frees.frees (tables_of c.self.inside.procs c.self.inside.parts.items c.self.inside.ports c.self.inside.waits c.self.inside.names c.self.inside.sections c.self.inside.tokens c.self.inside.token_names c.self.inside.marks) c.self.invariant.named c.args.token c.remove.new.self less unused h.stands in
+    let table = frees.removed_there (tables_of c.self.inside.procs c.self.inside.parts.items c.self.inside.ports c.self.inside.waits c.self.inside.names c.self.inside.sections c.self.inside.tokens c.self.inside.token_names c.self.inside.marks) c.self.invariant.named c.args.token h.stands c.remove.result c.remove.new.self c.remove.ensures.value c.remove.ensures.table in
     let spare = ap (λ (t : Table TokenRow). t.spare) table in
     rw (← c.self.view_is, ap (λ (v : World). v.waits) freed, ap (λ (v : World). v.messages) freed, ap (λ (v : World). v.ports) freed) (record {
       for_processes = omega arith;

@@ -19,19 +19,19 @@ insert_reserved-requires-clause-few c =
 pub invariant_of-self : goal.invariant_of-self
 invariant_of-self c =
     let there = rw (← c.self.view_is) at c.requires in
-    tokens.added_lawful (tables_of c.self.inside.procs c.self.inside.parts.items c.self.inside.ports c.self.inside.waits c.self.inside.names c.self.inside.sections c.self.inside.tokens c.self.inside.token_names) c.self.inside.calls c.self.inside.made c.self.invariant c.insert_reserved.result c.args.token c.insert_reserved.new.self c.insert_reserved.ensures.table c.insert_reserved.ensures.listed c.insert_reserved.ensures.vacant there.fresh there.drawn there.budget
+    tokens.added_lawful (tables_of c.self.inside.procs c.self.inside.parts.items c.self.inside.ports c.self.inside.waits c.self.inside.names c.self.inside.sections c.self.inside.tokens c.self.inside.token_names c.self.inside.marks) c.self.inside.calls c.self.inside.made c.self.invariant c.insert_reserved.result c.args.token c.insert_reserved.new.self c.insert_reserved.ensures.table c.insert_reserved.ensures.listed c.insert_reserved.ensures.vacant there.fresh there.drawn there.budget
 
 pub returns-clause-rows : goal.returns-clause-rows
-returns-clause-rows c = rw (← c.self.view_is) (tokens.adds (tables_of c.self.inside.procs c.self.inside.parts.items c.self.inside.ports c.self.inside.waits c.self.inside.names c.self.inside.sections c.self.inside.tokens c.self.inside.token_names) c.self.invariant.named c.insert_reserved.result c.args.token c.insert_reserved.new.self c.insert_reserved.ensures.listed (vacant c.self.inside.tokens c.insert_reserved.result c.insert_reserved.ensures.vacant))
+returns-clause-rows c = rw (← c.self.view_is) (tokens.adds (tables_of c.self.inside.procs c.self.inside.parts.items c.self.inside.ports c.self.inside.waits c.self.inside.names c.self.inside.sections c.self.inside.tokens c.self.inside.token_names c.self.inside.marks) c.self.invariant.named c.insert_reserved.result c.args.token c.insert_reserved.new.self c.insert_reserved.ensures.listed (vacant c.self.inside.tokens c.insert_reserved.result c.insert_reserved.ensures.vacant))
 
 pub returns-clause-name : goal.returns-clause-name
-returns-clause-name c = tokens.name_new (tables_of c.self.inside.procs c.self.inside.parts.items c.self.inside.ports c.self.inside.waits c.self.inside.names c.self.inside.sections c.self.inside.tokens c.self.inside.token_names) c.self.invariant.named c.insert_reserved.result c.args.token c.insert_reserved.new.self c.insert_reserved.ensures.listed (vacant c.self.inside.tokens c.insert_reserved.result c.insert_reserved.ensures.vacant)
+returns-clause-name c = tokens.name_new (tables_of c.self.inside.procs c.self.inside.parts.items c.self.inside.ports c.self.inside.waits c.self.inside.names c.self.inside.sections c.self.inside.tokens c.self.inside.token_names c.self.inside.marks) c.self.invariant.named c.insert_reserved.result c.args.token c.insert_reserved.new.self c.insert_reserved.ensures.listed (vacant c.self.inside.tokens c.insert_reserved.result c.insert_reserved.ensures.vacant)
 
 pub returns-clause-stands : goal.returns-clause-stands
-returns-clause-stands c = tokens.stands_new (tables_of c.self.inside.procs c.self.inside.parts.items c.self.inside.ports c.self.inside.waits c.self.inside.names c.self.inside.sections c.self.inside.tokens c.self.inside.token_names) c.self.invariant.named c.insert_reserved.result c.args.token c.insert_reserved.new.self c.insert_reserved.ensures.listed (vacant c.self.inside.tokens c.insert_reserved.result c.insert_reserved.ensures.vacant)
+returns-clause-stands c = tokens.stands_new (tables_of c.self.inside.procs c.self.inside.parts.items c.self.inside.ports c.self.inside.waits c.self.inside.names c.self.inside.sections c.self.inside.tokens c.self.inside.token_names c.self.inside.marks) c.self.invariant.named c.insert_reserved.result c.args.token c.insert_reserved.new.self c.insert_reserved.ensures.listed (vacant c.self.inside.tokens c.insert_reserved.result c.insert_reserved.ensures.vacant)
 
 pub returns-clause-others : goal.returns-clause-others
-returns-clause-others c = rw (← c.self.view_is) (tokens.keeps (tables_of c.self.inside.procs c.self.inside.parts.items c.self.inside.ports c.self.inside.waits c.self.inside.names c.self.inside.sections c.self.inside.tokens c.self.inside.token_names) c.self.invariant.named c.insert_reserved.result c.args.token c.insert_reserved.new.self c.insert_reserved.ensures.listed (vacant c.self.inside.tokens c.insert_reserved.result c.insert_reserved.ensures.vacant))
+returns-clause-others c = rw (← c.self.view_is) (tokens.keeps (tables_of c.self.inside.procs c.self.inside.parts.items c.self.inside.ports c.self.inside.waits c.self.inside.names c.self.inside.sections c.self.inside.tokens c.self.inside.token_names c.self.inside.marks) c.self.invariant.named c.insert_reserved.result c.args.token c.insert_reserved.new.self c.insert_reserved.ensures.listed (vacant c.self.inside.tokens c.insert_reserved.result c.insert_reserved.ensures.vacant))
 
 pub returns-clause-ports : goal.returns-clause-ports
 returns-clause-ports c = rw (← c.self.view_is) refl
@@ -41,7 +41,7 @@ returns-clause-sections c = rw (← c.self.view_is) refl
 
 pub returns-clause-room : goal.returns-clause-room
 returns-clause-room c =
-    let added = tokens.adds (tables_of c.self.inside.procs c.self.inside.parts.items c.self.inside.ports c.self.inside.waits c.self.inside.names c.self.inside.sections c.self.inside.tokens c.self.inside.token_names) c.self.invariant.named c.insert_reserved.result c.args.token c.insert_reserved.new.self c.insert_reserved.ensures.listed (vacant c.self.inside.tokens c.insert_reserved.result c.insert_reserved.ensures.vacant) in
+    let added = tokens.adds (tables_of c.self.inside.procs c.self.inside.parts.items c.self.inside.ports c.self.inside.waits c.self.inside.names c.self.inside.sections c.self.inside.tokens c.self.inside.token_names c.self.inside.marks) c.self.invariant.named c.insert_reserved.result c.args.token c.insert_reserved.new.self c.insert_reserved.ensures.listed (vacant c.self.inside.tokens c.insert_reserved.result c.insert_reserved.ensures.vacant) in
     let spare = ap (λ (t : Table TokenRow). t.spare) c.insert_reserved.ensures.table in
     rw (← c.self.view_is, ap (λ (v : World). v.waits) added, ap (λ (v : World). v.messages) added, ap (λ (v : World). v.ports) added) (record {
       for_processes = omega arith;
@@ -59,7 +59,7 @@ returns-clause-room c =
 
 pub returns-clause-made : goal.returns-clause-made
 returns-clause-made c =
-    let owed = ap owed_rows (tokens.adds (tables_of c.self.inside.procs c.self.inside.parts.items c.self.inside.ports c.self.inside.waits c.self.inside.names c.self.inside.sections c.self.inside.tokens c.self.inside.token_names) c.self.invariant.named c.insert_reserved.result c.args.token c.insert_reserved.new.self c.insert_reserved.ensures.listed (vacant c.self.inside.tokens c.insert_reserved.result c.insert_reserved.ensures.vacant)) in
+    let owed = ap owed_rows (tokens.adds (tables_of c.self.inside.procs c.self.inside.parts.items c.self.inside.ports c.self.inside.waits c.self.inside.names c.self.inside.sections c.self.inside.tokens c.self.inside.token_names c.self.inside.marks) c.self.invariant.named c.insert_reserved.result c.args.token c.insert_reserved.new.self c.insert_reserved.ensures.listed (vacant c.self.inside.tokens c.insert_reserved.result c.insert_reserved.ensures.vacant)) in
     rw (← c.self.view_is) (omega (arith, owed))
 
 pub returns-clause-capacity : goal.returns-clause-capacity
@@ -68,4 +68,4 @@ returns-clause-capacity c =
     let spare = ap (λ (t : Table TokenRow). t.spare) c.insert_reserved.ensures.table in
     let rows = ap length c.insert_reserved.ensures.listed in
     let more = capacities.one_more c.self.inside.tokens.spare (listed c.self.inside.tokens) (c.insert_reserved.result, c.args.token) there in
-    rw (← c.self.view_is) (capacities.of_tokens (tables_of c.self.inside.procs c.self.inside.parts.items c.self.inside.ports c.self.inside.waits c.self.inside.names c.self.inside.sections c.self.inside.tokens c.self.inside.token_names) (vec_capacity c.self.inside.parts - vec_len c.self.inside.parts) c.insert_reserved.new.self (omega (arith, spare, rows, more)))
+    rw (← c.self.view_is) (capacities.of_tokens (tables_of c.self.inside.procs c.self.inside.parts.items c.self.inside.ports c.self.inside.waits c.self.inside.names c.self.inside.sections c.self.inside.tokens c.self.inside.token_names c.self.inside.marks) (vec_capacity c.self.inside.parts - vec_len c.self.inside.parts) c.insert_reserved.new.self (omega (arith, spare, rows, more)))

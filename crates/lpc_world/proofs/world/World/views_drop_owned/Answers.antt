@@ -10,20 +10,20 @@ use Rattle.lpc_world.proofs.world.World.views_drop_owned.Goals as goal
 pub invariant_of-self : goal.invariant_of-self
 invariant_of-self c =
     let there = rw (← c.self.view_is) at c.requires.port in
-    rw c.drop_owned_views.ensures.parts (views.owned_lawful (tables_of c.self.inside.procs c.self.inside.parts.items c.self.inside.ports c.self.inside.waits c.self.inside.names c.self.inside.sections c.self.inside.tokens c.self.inside.token_names) c.self.inside.calls c.self.inside.made c.self.invariant c.args.port there)
+    rw c.drop_owned_views.ensures.parts (views.owned_lawful (tables_of c.self.inside.procs c.self.inside.parts.items c.self.inside.ports c.self.inside.waits c.self.inside.names c.self.inside.sections c.self.inside.tokens c.self.inside.token_names c.self.inside.marks) c.self.inside.calls c.self.inside.made c.self.invariant c.args.port there)
 
 pub returns-clause-step : goal.returns-clause-step
 returns-clause-step c =
     let there = rw (← c.self.view_is) at c.requires.port in
     record {
-      rows = rw (← c.self.view_is, c.drop_owned_views.ensures.parts) (views.drops_owned (tables_of c.self.inside.procs c.self.inside.parts.items c.self.inside.ports c.self.inside.waits c.self.inside.names c.self.inside.sections c.self.inside.tokens c.self.inside.token_names) c.self.inside.calls c.self.inside.made c.self.invariant c.args.port there);
+      rows = rw (← c.self.view_is, c.drop_owned_views.ensures.parts) (views.drops_owned (tables_of c.self.inside.procs c.self.inside.parts.items c.self.inside.ports c.self.inside.waits c.self.inside.names c.self.inside.sections c.self.inside.tokens c.self.inside.token_names c.self.inside.marks) c.self.inside.calls c.self.inside.made c.self.invariant c.args.port there);
       births = rw (← c.self.view_is) refl;
       calls = rw (← c.self.view_is) refl;
-      made = rw (← c.self.view_is, c.drop_owned_views.ensures.parts) (ap (λ w. c.self.inside.made + owed_rows w) (views.drops_owned (tables_of c.self.inside.procs c.self.inside.parts.items c.self.inside.ports c.self.inside.waits c.self.inside.names c.self.inside.sections c.self.inside.tokens c.self.inside.token_names) c.self.inside.calls c.self.inside.made c.self.invariant c.args.port there));
-      room = rw (← c.self.view_is, c.drop_owned_views.ensures.len, c.drop_owned_views.ensures.capacity, c.drop_owned_views.ensures.parts) (rooms.owned_room (tables_of c.self.inside.procs c.self.inside.parts.items c.self.inside.ports c.self.inside.waits c.self.inside.names c.self.inside.sections c.self.inside.tokens c.self.inside.token_names) (vec_capacity c.self.inside.parts - vec_len c.self.inside.parts) c.args.port);
+      made = rw (← c.self.view_is, c.drop_owned_views.ensures.parts) (ap (λ w. c.self.inside.made + owed_rows w) (views.drops_owned (tables_of c.self.inside.procs c.self.inside.parts.items c.self.inside.ports c.self.inside.waits c.self.inside.names c.self.inside.sections c.self.inside.tokens c.self.inside.token_names c.self.inside.marks) c.self.inside.calls c.self.inside.made c.self.invariant c.args.port there));
+      room = rw (← c.self.view_is, c.drop_owned_views.ensures.len, c.drop_owned_views.ensures.capacity, c.drop_owned_views.ensures.parts) (rooms.owned_room (tables_of c.self.inside.procs c.self.inside.parts.items c.self.inside.ports c.self.inside.waits c.self.inside.names c.self.inside.sections c.self.inside.tokens c.self.inside.token_names c.self.inside.marks) (vec_capacity c.self.inside.parts - vec_len c.self.inside.parts) c.args.port);
     }
 
 pub returns-clause-capacity : goal.returns-clause-capacity
 returns-clause-capacity c =
     rw (← c.self.view_is, c.drop_owned_views.ensures.len, c.drop_owned_views.ensures.capacity, c.drop_owned_views.ensures.parts)
-    (capacities.of_handles (tables_of c.self.inside.procs c.self.inside.parts.items c.self.inside.ports c.self.inside.waits c.self.inside.names c.self.inside.sections c.self.inside.tokens c.self.inside.token_names) (vec_capacity c.self.inside.parts - vec_len c.self.inside.parts) (map (dropped c.args.port) c.self.inside.parts.items) (capacities.dropped_handles c.args.port c.self.inside.parts.items) (capacities.dropped_views c.args.port c.self.inside.parts.items))
+    (capacities.of_handles (tables_of c.self.inside.procs c.self.inside.parts.items c.self.inside.ports c.self.inside.waits c.self.inside.names c.self.inside.sections c.self.inside.tokens c.self.inside.token_names c.self.inside.marks) (vec_capacity c.self.inside.parts - vec_len c.self.inside.parts) (map (dropped c.args.port) c.self.inside.parts.items) (capacities.dropped_handles c.args.port c.self.inside.parts.items) (capacities.dropped_views c.args.port c.self.inside.parts.items))

@@ -16,4 +16,4 @@ pub returns-clause-taken : goal.returns-clause-taken
 returns-clause-taken c = rw (← c.self.view_is) c.self.invariant.promised.taken
 
 pub returns-clause-own : goal.returns-clause-own
-returns-clause-own c = rw (← c.self.view_is) (record { left = λ who idle. none-queued (rows_by (tables_of c.self.inside.procs c.self.inside.parts.items c.self.inside.ports c.self.inside.waits c.self.inside.names c.self.inside.sections c.self.inside.tokens c.self.inside.token_names)) who c.self.invariant.lawful.own idle })
+returns-clause-own c = rw (← c.self.view_is) (record { left = λ who idle. none-queued (rows_by (tables_of c.self.inside.procs c.self.inside.parts.items c.self.inside.ports c.self.inside.waits c.self.inside.names c.self.inside.sections c.self.inside.tokens c.self.inside.token_names c.self.inside.marks)) who c.self.invariant.lawful.own idle })

@@ -1,52 +1,20 @@
-use Rattle.std.proofs.Common.{refl, arith}
-use Rattle.std.proofs.Common.{◌+◌, ◌-◌, None, ap, sym, ◌∙◌, []}
-use Rattle.lpc_model.specs.World.{World}
-use Rattle.lpc_waits.specs.declared.WaitRow.{WaitRow}
-use Rattle.lpc_rows.specs.Kept.{rows_by}
-use Rattle.lpc_rows.specs.Shown.{birth_of, births_of, shown_wait, tables_of}
-use Rattle.lpc_rows.proofs.Changes as changes
-use Rattle.lpc_rows.proofs.OwnMessages.{unsent-begun}
-use Rattle.lpc_rows.proofs.Promised as promised
-use Rattle.lpc_rows.proofs.Rooms as rooms
-use Rattle.lpc_rows.proofs.Steps as steps
-use Rattle.lpc_rows.proofs.Tables as tables
-use Rattle.std.proofs.Common.{length, vec_len, vec_capacity}
-use Rattle.lpc_waits.specs.Table.{WaitTable}
-use Rattle.lpc_rows.proofs.Capacities as capacities
+use Rattle.std.proofs.Common.{arith}
+use Rattle.lpc_rows.specs.Shown.{birth_of}
+use Rattle.lpc_rows.proofs.Raising.{owed-plain}
 use Rattle.lpc_world.proofs.world.World.waits_add.Goals as goal
 
-pub add-requires-clause-alone : goal.add-requires-clause-alone
-add-requires-clause-alone c = steps.no_wait (tables_of c.self.inside.procs c.self.inside.parts.items c.self.inside.ports c.self.inside.waits c.self.inside.names c.self.inside.sections c.self.inside.tokens c.self.inside.token_names) c.self.inside.calls c.self.inside.made c.self.invariant c.args.tid (rw (← c.self.view_is) at c.requires.ready)
-
-pub add-requires-clause-room : goal.add-requires-clause-room
-add-requires-clause-room c = steps.wait_place (tables_of c.self.inside.procs c.self.inside.parts.items c.self.inside.ports c.self.inside.waits c.self.inside.names c.self.inside.sections c.self.inside.tokens c.self.inside.token_names) c.self.inside.calls c.self.inside.made c.self.invariant c.args.tid (rw (← c.self.view_is) at c.requires.live) (rw (← c.self.view_is) at c.requires.ready)
-
-pub invariant_of-self : goal.invariant_of-self
-invariant_of-self c =
-    let there = rw (← c.self.view_is) at c.requires in
-    rw c.add.ensures.table (steps.awaited (tables_of c.self.inside.procs c.self.inside.parts.items c.self.inside.ports c.self.inside.waits c.self.inside.names c.self.inside.sections c.self.inside.tokens c.self.inside.token_names) c.self.inside.calls c.self.inside.made c.self.invariant (record { thread = c.args.tid; wait = c.args.wait; message = record { items = [] }; offer = None; accepted = None }) (steps.begun_stands (tables_of c.self.inside.procs c.self.inside.parts.items c.self.inside.ports c.self.inside.waits c.self.inside.names c.self.inside.sections c.self.inside.tokens c.self.inside.token_names) c.self.inside.calls c.self.inside.made c.self.invariant c.args.wait.kind c.args.wait.port c.args.wait.queue there.port there.queue) there.budget there.live there.ready there.quiet
-    (promised.begins (rows_by (tables_of c.self.inside.procs c.self.inside.parts.items c.self.inside.ports c.self.inside.waits c.self.inside.names c.self.inside.sections c.self.inside.tokens c.self.inside.token_names)).waits (rows_by (tables_of c.self.inside.procs c.self.inside.parts.items c.self.inside.ports c.self.inside.waits c.self.inside.names c.self.inside.sections c.self.inside.tokens c.self.inside.token_names)).handles c.self.inside.parts.items c.self.invariant.promised (shown_wait (birth_of (births_of (tables_of c.self.inside.procs c.self.inside.parts.items c.self.inside.ports c.self.inside.waits c.self.inside.names c.self.inside.sections c.self.inside.tokens c.self.inside.token_names))) (record { thread = c.args.tid; wait = c.args.wait; message = record { items = [] }; offer = None; accepted = None })) (tables.single (tables_of c.self.inside.procs c.self.inside.parts.items c.self.inside.ports c.self.inside.waits c.self.inside.names c.self.inside.sections c.self.inside.tokens c.self.inside.token_names) c.self.inside.calls c.self.inside.made c.self.invariant) c.self.invariant.lawful.tables_single (tables.fresh_taken (tables_of c.self.inside.procs c.self.inside.parts.items c.self.inside.ports c.self.inside.waits c.self.inside.names c.self.inside.sections c.self.inside.tokens c.self.inside.token_names) c.self.inside.calls c.self.inside.made c.self.invariant c.args.tid c.args.wait)
-    (λ connects. let is = sym (tables.connect_same (birth_of (births_of (tables_of c.self.inside.procs c.self.inside.parts.items c.self.inside.ports c.self.inside.waits c.self.inside.names c.self.inside.sections c.self.inside.tokens c.self.inside.token_names))) (record { thread = c.args.tid; wait = c.args.wait; message = record { items = [] }; offer = None; accepted = None })) ∙ connects in tables.welcome (tables_of c.self.inside.procs c.self.inside.parts.items c.self.inside.ports c.self.inside.waits c.self.inside.names c.self.inside.sections c.self.inside.tokens c.self.inside.token_names) c.self.inside.calls c.self.inside.made c.self.invariant c.args.wait.process (there.table is) (there.load is) (there.handles is))))
-
-pub returns-clause-unsent : goal.returns-clause-unsent
-returns-clause-unsent c =
-    let x : WaitRow = record { thread = c.args.tid; wait = c.args.wait; message = record { items = [] }; offer = None; accepted = None } in
-    let ready = rw (← c.self.view_is) at c.requires.ready in
-    rw (c.add.ensures.table, ap (λ (v : World). v.waits) (changes.awaits (tables_of c.self.inside.procs c.self.inside.parts.items c.self.inside.ports c.self.inside.waits c.self.inside.names c.self.inside.sections c.self.inside.tokens c.self.inside.token_names) c.self.invariant.named x (c.self.inside.waits.spare - 1) (c.self.inside.waits.made + 1))) (λ pends. unsent-begun (rows_by (tables_of c.self.inside.procs c.self.inside.parts.items c.self.inside.ports c.self.inside.waits c.self.inside.names c.self.inside.sections c.self.inside.tokens c.self.inside.token_names)) (shown_wait (birth_of (births_of (tables_of c.self.inside.procs c.self.inside.parts.items c.self.inside.ports c.self.inside.waits c.self.inside.names c.self.inside.sections c.self.inside.tokens c.self.inside.token_names))) x) c.self.invariant.lawful.own ready pends)
+pub waits_begin-requires-clause-budget : goal.waits_begin-requires-clause-budget
+waits_begin-requires-clause-budget c =
+    let none = owed-plain (birth_of c.args.self.now.births) c.args.tid c.args.wait c.requires.plain in
+    omega (arith, none, c.requires.budget)
 
 pub returns-clause-step : goal.returns-clause-step
-returns-clause-step c = record {
-  rows = rw (← c.self.view_is, c.add.ensures.table) (changes.awaits (tables_of c.self.inside.procs c.self.inside.parts.items c.self.inside.ports c.self.inside.waits c.self.inside.names c.self.inside.sections c.self.inside.tokens c.self.inside.token_names) c.self.invariant.named (record { thread = c.args.tid; wait = c.args.wait; message = record { items = [] }; offer = None; accepted = None }) (c.self.inside.waits.spare - 1) (c.self.inside.waits.made + 1));
-  births = rw (← c.self.view_is) refl;
-  calls = rw (← c.self.view_is) refl;
-  made = rw (← c.self.view_is, c.add.ensures.table) (omega arith);
-  room = let x : WaitRow = record { thread = c.args.tid; wait = c.args.wait; message = record { items = [] }; offer = None; accepted = None } in
-      let place = steps.more_alive (tables_of c.self.inside.procs c.self.inside.parts.items c.self.inside.ports c.self.inside.waits c.self.inside.names c.self.inside.sections c.self.inside.tokens c.self.inside.token_names) c.self.inside.calls c.self.inside.made c.self.invariant c.args.tid (rw (← c.self.view_is) at c.requires.live) (rw (← c.self.view_is) at c.requires.ready) in
-      rw (← c.self.view_is, c.add.ensures.table, ap (λ (v : World). v.waits) (changes.awaits (tables_of c.self.inside.procs c.self.inside.parts.items c.self.inside.ports c.self.inside.waits c.self.inside.names c.self.inside.sections c.self.inside.tokens c.self.inside.token_names) c.self.invariant.named x (c.self.inside.waits.spare - 1) (c.self.inside.waits.made + 1))) (rooms.room_wait _ _ _ _ _ _ _ _ _ _ (rows_by (tables_of c.self.inside.procs c.self.inside.parts.items c.self.inside.ports c.self.inside.waits c.self.inside.names c.self.inside.sections c.self.inside.tokens c.self.inside.token_names)) _ (shown_wait (birth_of (births_of (tables_of c.self.inside.procs c.self.inside.parts.items c.self.inside.ports c.self.inside.waits c.self.inside.names c.self.inside.sections c.self.inside.tokens c.self.inside.token_names))) x) place);
-}
-
-pub returns-clause-capacity : goal.returns-clause-capacity
-returns-clause-capacity c =
-    let place = steps.wait_place (tables_of c.self.inside.procs c.self.inside.parts.items c.self.inside.ports c.self.inside.waits c.self.inside.names c.self.inside.sections c.self.inside.tokens c.self.inside.token_names) c.self.inside.calls c.self.inside.made c.self.invariant c.args.tid (rw (← c.self.view_is) at c.requires.live) (rw (← c.self.view_is) at c.requires.ready) in
-    rw (← c.self.view_is)
-    (capacities.of_waits (tables_of c.self.inside.procs c.self.inside.parts.items c.self.inside.ports c.self.inside.waits c.self.inside.names c.self.inside.sections c.self.inside.tokens c.self.inside.token_names) (vec_capacity c.self.inside.parts - vec_len c.self.inside.parts) c.add.new.self (ap (λ (s : WaitTable). s.spare + length s.rows) c.add.ensures.table ∙ capacities.one_more c.self.inside.waits.spare c.self.inside.waits.rows (record { thread = c.args.tid; wait = c.args.wait; message = record { items = [] }; offer = None; accepted = None }) place))
+returns-clause-step c =
+    let none = owed-plain (birth_of c.args.self.now.births) c.args.tid c.args.wait c.requires.plain in
+    record {
+      rows = c.waits_begin.ensures.rows;
+      births = c.waits_begin.ensures.births;
+      calls = c.waits_begin.ensures.calls;
+      made = omega (arith, none, c.waits_begin.ensures.made);
+      room = c.waits_begin.ensures.room;
+    }

@@ -1,9 +1,9 @@
-use Rattle.std.proofs.Common.{refl}
+use Rattle.std.proofs.Common.{refl, arith}
 use Rattle.std.proofs.Common.{ap}
 use Rattle.lpc_base.specs.Rows.{change}
 use Rattle.lpc_model.specs.World.{World}
 use Rattle.lpc_model.specs.Found.{waits_as}
-use Rattle.lpc_rows.specs.Kept.{rows_by}
+use Rattle.lpc_rows.specs.Kept.{owed_rows, rows_by}
 use Rattle.lpc_rows.specs.Shown.{with_message, tables_of}
 use Rattle.lpc_model.specs.Message.{message_of}
 use Rattle.lpc_rows.proofs.Changes as changes
@@ -12,16 +12,19 @@ use Rattle.lpc_rows.proofs.Steps as steps
 use Rattle.lpc_world.proofs.world.World.waits_set_message.Goals as goal
 
 pub set_message-requires-clause-waits : goal.set_message-requires-clause-waits
-set_message-requires-clause-waits c = steps.some_wait (tables_of c.self.inside.procs c.self.inside.parts.items c.self.inside.ports c.self.inside.waits c.self.inside.names c.self.inside.sections c.self.inside.tokens c.self.inside.token_names) c.self.inside.calls c.self.inside.made c.self.invariant c.args.tid (rw (← c.self.view_is) at c.requires.waits)
+set_message-requires-clause-waits c = steps.some_wait (tables_of c.self.inside.procs c.self.inside.parts.items c.self.inside.ports c.self.inside.waits c.self.inside.names c.self.inside.sections c.self.inside.tokens c.self.inside.token_names c.self.inside.marks) c.self.inside.calls c.self.inside.made c.self.invariant c.args.tid (rw (← c.self.view_is) at c.requires.waits)
 
 pub invariant_of-self : goal.invariant_of-self
-invariant_of-self c = rw c.set_message.ensures.table (steps.kept_message (tables_of c.self.inside.procs c.self.inside.parts.items c.self.inside.ports c.self.inside.waits c.self.inside.names c.self.inside.sections c.self.inside.tokens c.self.inside.token_names) c.self.inside.calls c.self.inside.made c.self.invariant c.args.tid c.args.bytes.now)
+invariant_of-self c = rw c.set_message.ensures.table (steps.kept_message (tables_of c.self.inside.procs c.self.inside.parts.items c.self.inside.ports c.self.inside.waits c.self.inside.names c.self.inside.sections c.self.inside.tokens c.self.inside.token_names c.self.inside.marks) c.self.inside.calls c.self.inside.made c.self.invariant c.args.tid c.args.bytes.now)
 
 pub returns-clause-step : goal.returns-clause-step
 returns-clause-step c = record {
-  rows = rw (← c.self.view_is, c.set_message.ensures.table) (changes.keeps_message (tables_of c.self.inside.procs c.self.inside.parts.items c.self.inside.ports c.self.inside.waits c.self.inside.names c.self.inside.sections c.self.inside.tokens c.self.inside.token_names) c.self.invariant.named c.args.tid c.args.bytes.now);
+  rows = rw (← c.self.view_is, c.set_message.ensures.table) (changes.keeps_message (tables_of c.self.inside.procs c.self.inside.parts.items c.self.inside.ports c.self.inside.waits c.self.inside.names c.self.inside.sections c.self.inside.tokens c.self.inside.token_names c.self.inside.marks) c.self.invariant.named c.args.tid c.args.bytes.now);
   births = rw (← c.self.view_is) refl;
   calls = rw (← c.self.view_is) refl;
-  made = rw (← c.self.view_is, c.set_message.ensures.table) refl;
-  room = rw (← c.self.view_is, c.set_message.ensures.table, ap (λ (v : World). v.waits) (changes.keeps_message (tables_of c.self.inside.procs c.self.inside.parts.items c.self.inside.ports c.self.inside.waits c.self.inside.names c.self.inside.sections c.self.inside.tokens c.self.inside.token_names) c.self.invariant.named c.args.tid c.args.bytes.now)) (rooms.room_keep _ _ _ _ _ _ _ _ _ _ (rows_by (tables_of c.self.inside.procs c.self.inside.parts.items c.self.inside.ports c.self.inside.waits c.self.inside.names c.self.inside.sections c.self.inside.tokens c.self.inside.token_names)) _ (change (waits_as c.args.tid) (with_message (message_of c.args.bytes.now)) (rows_by (tables_of c.self.inside.procs c.self.inside.parts.items c.self.inside.ports c.self.inside.waits c.self.inside.names c.self.inside.sections c.self.inside.tokens c.self.inside.token_names)).waits) (changes.length-message c.args.tid c.args.bytes.now (rows_by (tables_of c.self.inside.procs c.self.inside.parts.items c.self.inside.ports c.self.inside.waits c.self.inside.names c.self.inside.sections c.self.inside.tokens c.self.inside.token_names)).waits));
+  made =
+      let owed = ap owed_rows (changes.keeps_message (tables_of c.self.inside.procs c.self.inside.parts.items c.self.inside.ports c.self.inside.waits c.self.inside.names c.self.inside.sections c.self.inside.tokens c.self.inside.token_names c.self.inside.marks) c.self.invariant.named c.args.tid c.args.bytes.now) in
+      let same = changes.message-owed (rows_by (tables_of c.self.inside.procs c.self.inside.parts.items c.self.inside.ports c.self.inside.waits c.self.inside.names c.self.inside.sections c.self.inside.tokens c.self.inside.token_names c.self.inside.marks)) c.args.tid c.args.bytes.now in
+      rw (← c.self.view_is, c.set_message.ensures.table) (omega (arith, owed, same));
+  room = rw (← c.self.view_is, c.set_message.ensures.table, ap (λ (v : World). v.waits) (changes.keeps_message (tables_of c.self.inside.procs c.self.inside.parts.items c.self.inside.ports c.self.inside.waits c.self.inside.names c.self.inside.sections c.self.inside.tokens c.self.inside.token_names c.self.inside.marks) c.self.invariant.named c.args.tid c.args.bytes.now)) (rooms.room_keep _ _ _ _ _ _ _ _ _ _ _ (rows_by (tables_of c.self.inside.procs c.self.inside.parts.items c.self.inside.ports c.self.inside.waits c.self.inside.names c.self.inside.sections c.self.inside.tokens c.self.inside.token_names c.self.inside.marks)) _ (change (waits_as c.args.tid) (with_message (message_of c.args.bytes.now)) (rows_by (tables_of c.self.inside.procs c.self.inside.parts.items c.self.inside.ports c.self.inside.waits c.self.inside.names c.self.inside.sections c.self.inside.tokens c.self.inside.token_names c.self.inside.marks)).waits) (changes.length-message c.args.tid c.args.bytes.now (rows_by (tables_of c.self.inside.procs c.self.inside.parts.items c.self.inside.ports c.self.inside.waits c.self.inside.names c.self.inside.sections c.self.inside.tokens c.self.inside.token_names c.self.inside.marks)).waits));
 }

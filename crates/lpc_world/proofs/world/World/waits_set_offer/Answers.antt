@@ -1,21 +1,22 @@
-use Rattle.std.proofs.Common.{◌+◌, ◌-◌, refl, ap, vec_len, vec_capacity}
-use Rattle.lpc_rows.specs.Kept.{owed_rows}
+use Rattle.std.proofs.Common.{◌-◌, arith, refl, vec_len, vec_capacity}
 use Rattle.lpc_rows.specs.Shown.{tables_of}
 use Rattle.lpc_rows.proofs.Offering as offering
 use Rattle.lpc_rows.proofs.Steps as steps
 use Rattle.lpc_world.proofs.world.World.waits_set_offer.Goals as goal
 
 pub set_offer-requires : goal.set_offer-requires
-set_offer-requires c = record { waits = steps.some_wait (tables_of c.self.inside.procs c.self.inside.parts.items c.self.inside.ports c.self.inside.waits c.self.inside.names c.self.inside.sections c.self.inside.tokens c.self.inside.token_names) c.self.inside.calls c.self.inside.made c.self.invariant c.args.tid (rw (← c.self.view_is) at c.requires.waits) }
+set_offer-requires c = record { waits = steps.some_wait (tables_of c.self.inside.procs c.self.inside.parts.items c.self.inside.ports c.self.inside.waits c.self.inside.names c.self.inside.sections c.self.inside.tokens c.self.inside.token_names c.self.inside.marks) c.self.inside.calls c.self.inside.made c.self.invariant c.args.tid (rw (← c.self.view_is) at c.requires.waits) }
 
 pub invariant_of-self : goal.invariant_of-self
-invariant_of-self c = rw c.set_offer.ensures.table (offering.offered_lawful (tables_of c.self.inside.procs c.self.inside.parts.items c.self.inside.ports c.self.inside.waits c.self.inside.names c.self.inside.sections c.self.inside.tokens c.self.inside.token_names) c.self.inside.calls c.self.inside.made c.args.tid c.self.invariant c.args.offer (rw (← c.self.view_is) at c.requires.section))
+invariant_of-self c = rw c.set_offer.ensures.table (offering.offered_lawful (tables_of c.self.inside.procs c.self.inside.parts.items c.self.inside.ports c.self.inside.waits c.self.inside.names c.self.inside.sections c.self.inside.tokens c.self.inside.token_names c.self.inside.marks) c.self.inside.calls c.self.inside.made c.args.tid c.self.invariant c.args.offer (rw (← c.self.view_is) at c.requires.section))
 
 pub returns-clause-step : goal.returns-clause-step
 returns-clause-step c = record {
-  rows = rw (← c.self.view_is, c.set_offer.ensures.table) (offering.offers (tables_of c.self.inside.procs c.self.inside.parts.items c.self.inside.ports c.self.inside.waits c.self.inside.names c.self.inside.sections c.self.inside.tokens c.self.inside.token_names) c.self.inside.calls c.self.inside.made c.args.tid c.self.invariant c.args.offer);
+  rows = rw (← c.self.view_is, c.set_offer.ensures.table) (offering.offers (tables_of c.self.inside.procs c.self.inside.parts.items c.self.inside.ports c.self.inside.waits c.self.inside.names c.self.inside.sections c.self.inside.tokens c.self.inside.token_names c.self.inside.marks) c.self.inside.calls c.self.inside.made c.args.tid c.self.invariant c.args.offer);
   births = rw (← c.self.view_is) refl;
   calls = rw (← c.self.view_is) refl;
-  made = rw (← c.self.view_is, c.set_offer.ensures.table) (ap (λ w. c.self.inside.made + owed_rows w) (offering.offers (tables_of c.self.inside.procs c.self.inside.parts.items c.self.inside.ports c.self.inside.waits c.self.inside.names c.self.inside.sections c.self.inside.tokens c.self.inside.token_names) c.self.inside.calls c.self.inside.made c.args.tid c.self.invariant c.args.offer));
-  room = rw (← c.self.view_is, c.set_offer.ensures.table) (offering.offered_room (tables_of c.self.inside.procs c.self.inside.parts.items c.self.inside.ports c.self.inside.waits c.self.inside.names c.self.inside.sections c.self.inside.tokens c.self.inside.token_names) c.self.inside.calls c.self.inside.made c.args.tid c.self.invariant c.args.offer (vec_capacity c.self.inside.parts - vec_len c.self.inside.parts));
+  made =
+      let owed = offering.offered_owed (tables_of c.self.inside.procs c.self.inside.parts.items c.self.inside.ports c.self.inside.waits c.self.inside.names c.self.inside.sections c.self.inside.tokens c.self.inside.token_names c.self.inside.marks) c.self.inside.calls c.self.inside.made c.args.tid c.self.invariant c.args.offer in
+      rw (← c.self.view_is, c.set_offer.ensures.table) (omega (arith, owed));
+  room = rw (← c.self.view_is, c.set_offer.ensures.table) (offering.offered_room (tables_of c.self.inside.procs c.self.inside.parts.items c.self.inside.ports c.self.inside.waits c.self.inside.names c.self.inside.sections c.self.inside.tokens c.self.inside.token_names c.self.inside.marks) c.self.inside.calls c.self.inside.made c.args.tid c.self.invariant c.args.offer (vec_capacity c.self.inside.parts - vec_len c.self.inside.parts));
 }

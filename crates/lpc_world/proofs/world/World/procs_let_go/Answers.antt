@@ -1,0 +1,22 @@
+use Rattle.std.proofs.Common.{ap, refl, sym, ◌∙◌}
+use Rattle.lpc_rows.specs.Shown.{tables_of}
+use Rattle.lpc_rows.proofs.Raising as raising
+use Rattle.lpc_rows.proofs.Rooms as rooms
+use Rattle.lpc_rows.proofs.Steps as steps
+use Rattle.lpc_world.proofs.world.World.procs_let_go.Goals as goal
+
+pub let_go-requires : goal.let_go-requires
+let_go-requires c = record { present = sym (steps.process_same (tables_of c.self.inside.procs c.self.inside.parts.items c.self.inside.ports c.self.inside.waits c.self.inside.names c.self.inside.sections c.self.inside.tokens c.self.inside.token_names c.self.inside.marks) c.self.inside.calls c.self.inside.made c.self.invariant c.args.pid) ∙ (rw (← c.self.view_is) at c.requires.process) }
+
+pub invariant_of-self : goal.invariant_of-self
+invariant_of-self c =
+    rw c.let_go.ensures.table (raising.let-go-lawful (tables_of c.self.inside.procs c.self.inside.parts.items c.self.inside.ports c.self.inside.waits c.self.inside.names c.self.inside.sections c.self.inside.tokens c.self.inside.token_names c.self.inside.marks) c.self.inside.calls c.self.inside.made c.self.invariant c.args.pid)
+
+pub returns-clause-step : goal.returns-clause-step
+returns-clause-step c = record {
+  rows = rw (← c.self.view_is, c.let_go.ensures.table) (raising.lets-go (tables_of c.self.inside.procs c.self.inside.parts.items c.self.inside.ports c.self.inside.waits c.self.inside.names c.self.inside.sections c.self.inside.tokens c.self.inside.token_names c.self.inside.marks) c.self.inside.calls c.self.inside.made c.self.invariant c.args.pid);
+  births = rw (← c.self.view_is) refl;
+  calls = rw (← c.self.view_is) refl;
+  made = rw (← c.self.view_is, c.let_go.ensures.table) refl;
+  room = rw (← c.self.view_is, c.let_go.ensures.table) (rooms.roomy_same _);
+}
