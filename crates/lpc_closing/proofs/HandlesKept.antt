@@ -6,7 +6,7 @@ use Rattle.lpc_model.specs.declared.entry.ObjectKind.{ObjectKind}
 use Rattle.lpc_model.specs.declared.entry.ObjectKind.TheVariants as kind
 use Rattle.lpc_model.specs.World.{Birth, MessageRow, PortRow, World}
 use Rattle.lpc_model.specs.Found.{port_row}
-use Rattle.lpc_model.specs.Basics.{AddsHandle, AddsProcess, Basic, DropsHandle, DropsOwned, Empties, Frees, Unbinds, Wakes, Withdraws, basic, freed, world_after}
+use Rattle.lpc_model.specs.Basics.{AddsHandle, AddsProcess, Basic, DropsHandle, DropsOwned, Empties, Frees, Unbinds, Marks, Wakes, Withdraws, basic, freed, world_after}
 use Rattle.lpc_model.specs.Close.{close_port, post_closed, closing_post}
 use Rattle.lpc_model.specs.Entering.{enter}
 use Rattle.lpc_model.proofs.Steps.Closing.{close-pass, stage_five, takes_away}
@@ -26,6 +26,7 @@ kept-away (Withdraws who) is = refl
 kept-away (Empties q) is = refl
 kept-away (Unbinds b) is = refl
 kept-away (DropsOwned b) is = refl
+kept-away (Marks who) is = refl
 kept-away b is = absurd (cc)
 
 kept-steady : (b : Basic) → is_steady b ≡ true → keeps_handles b ≡ true

@@ -4,3 +4,4 @@ pub mod FreshClosings
 pub mod Paid
 pub mod Turns
 pub mod Five
+pub mod Lives

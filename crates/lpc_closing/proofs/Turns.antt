@@ -11,19 +11,22 @@ use Rattle.lpc_handles.specs.declared.table.Row.{Row}
 use Rattle.lpc_homes.specs.declared.object.Object.{Object}
 use Rattle.lpc_model.specs.World.{Birth, HandleRow, World}
 use Rattle.lpc_model.specs.Found.{handle_at, handles_of, has_value, is_table}
-use Rattle.lpc_model.specs.Basics.{DropsHandle, DropsViewsOf, Steps, basic, doing, in_turn, without_handle, world_after, ◌▹◌}
+use Rattle.lpc_model.specs.Basics.{DropsHandle, DropsViewsOf, LetsGo, basic, doing, in_turn, without_handle, world_after, ◌▹◌}
 use Rattle.lpc_model.specs.Close.{close_handle, close_port, is_last}
 use Rattle.lpc_model.specs.SoundWaits.{IsSoundWorld}
 use Rattle.lpc_model.proofs.Steps.Ending.{rows-left}
 use Rattle.lpc_model.proofs.Linked.Close.{handle-plain}
 use Rattle.lpc_model.proofs.Linked.Steps.{plain-all}
 use Rattle.lpc_model.proofs.Sound.Close.{close_handle-sound}
+use Rattle.lpc_model.proofs.Sound.Terminate.{lets-safe}
+use Rattle.lpc_model.proofs.Closings.Single.{hushed-all}
 use Rattle.lpc_model.proofs.Closings.SingleClose.{handle-untold}
 use Rattle.lpc_model.proofs.Steps.InTurn.{after-append}
 use Rattle.lpc_rows.specs.Does.{Left, left_by}
 use Rattle.lpc_rows.specs.Shown.{shown_handle}
 use Rattle.lpc_steps.proofs.Composed.{left-then, left_further}
 use Rattle.lpc_closing.specs.Closing.{CanClose, CanCloseAll}
+use Rattle.lpc_closing.specs.Process.{closing_all}
 use Rattle.lpc_model.specs.Death.{end_process}
 use Rattle.lpc_closing.proofs.HandlesKept.{handles-kept}
 
@@ -52,16 +55,33 @@ closed-can w pid r at can = record {
   single_closings = handle-untold w pid r at can.sound can.single_closings;
 }
 
+pub let-can : (w : World) (pid : ℕ) → CanCloseAll w → CanCloseAll (basic w (LetsGo pid))
+let-can w pid can =
+    let untold = can.single_closings in
+    let safe = lets-safe w pid (record { sound = can.sound; shut = untold.connects }) in
+    record { sound = safe.sound; linked = plain-all w (LetsGo pid ∷ []) refl can.linked; single_closings = hushed-all w (LetsGo pid ∷ []) refl untold }
+
+-- The process's ports are let go first
+pub let-go : (w v : World) (pid : ℕ) (es : List Entry) (loose after : Bool) → v ≡ basic w (LetsGo pid) → after ≡ true
+    → left_by v es after (closing_all pid v) ≡ left_by w es loose (end_process pid w)
+let-go w v pid es loose after went still =
+    let u = basic w (LetsGo pid) in
+    let none = ap (λ ls. left_by u ls true (closing_all pid u)) (sym (append-nil es)) in
+    ap (λ (x : World). left_by x es after (closing_all pid x)) went
+    ∙ ap (λ l. left_by u es l (closing_all pid u)) still
+    ∙ none
+    ∙ left-then w es loose (doing (LetsGo pid ∷ [])) (closing_all pid)
+
 -- All handles: behind the first of them, what is left to be done leaves what all of it leaves
 pub one-closed : (w : World) (pid : ℕ) (r : HandleRow) (rows : List HandleRow) (es : List Entry) (loose : Bool) (l : Left) → handles_of w pid ≡ r ∷ rows → IsSoundWorld w → l ≡ left_by w es loose (close_handle pid r w)
-    → left_further l (end_process pid) ≡ left_by w es loose (end_process pid w)
+    → left_further l (closing_all pid) ≡ left_by w es loose (closing_all pid w)
 one-closed w pid r rows es loose l same sound took =
     let first = left_by w es loose (close_handle pid r w) in
     let others = in_turn (close_handle pid) rows in
     let views = doing (DropsViewsOf pid ∷ []) in
     let rest = ap (λ rs. left_further first (in_turn (close_handle pid) rs ▹ views)) (rows-left w pid r rows same sound) in
     let all = ap (λ rs. left_by w es loose ((in_turn (close_handle pid) rs ▹ views) w)) (sym same) in
-    ap (λ (l : Left). left_further l (end_process pid)) took
+    ap (λ (l : Left). left_further l (closing_all pid)) took
     ∙ rest
     ∙ sym (left-then first.world first.entries first.loose others views)
     ∙ ap (λ (l : Left). left_further l views) (left-then w es loose (close_handle pid r) others)
@@ -70,7 +90,7 @@ one-closed w pid r rows es loose l same sound took =
 
 -- where none is left, the views alone go
 pub none-closed : (w v : World) (pid : ℕ) (es : List Entry) (loose after : Bool) → handles_of w pid ≡ [] → v ≡ basic w (DropsViewsOf pid) → after ≡ true
-    → (let l : Left = record { world = v; entries = es; loose = after } in l ≡ left_by w es loose (end_process pid w))
+    → (let l : Left = record { world = v; entries = es; loose = after } in l ≡ left_by w es loose (closing_all pid w))
 none-closed w v pid es loose after none went still = rw (none, went, still, append-nil es) refl
 
 -- The handle that stands first, if one does

@@ -16,6 +16,7 @@ ghost use Rattle.lpc_rows.specs.Kept.{CanMake};
 ghost use Rattle.lpc_rows.specs.Names.{stands};
 ghost use Rattle.lpc_rows.specs.Ready.{HasRoom, is_ready};
 ghost use Rattle.lpc_rows.specs.Shown.{object_stands};
+ghost use Rattle.lpc_steps.specs.Settling.{CanSettle};
 
 use crate::messages::birth_message;
 use lpc_base::status::SUCCESS;
@@ -23,7 +24,7 @@ use lpc_handles::Row;
 use lpc_message::kind;
 use lpc_model::{CallName, Entries, Entry, Fields, Message, Outcome, refuse};
 use lpc_slots::Key;
-use lpc_steps::{Closed, Ending, closing_post, deliver, end_all, own_handle};
+use lpc_steps::{Closed, Ending, Marking, closing_post, deliver, end_all, mark_all, own_handle};
 use lpc_world::{Object, World};
 
 /// The message that tells of a closed port: it is of the connect that made the port, and names the port by its birth.
@@ -60,8 +61,8 @@ fn post_closed(world: &mut World, port: Key, out: &mut Entries)
     }
 }
 
-/// The queue of a port is emptied: the requests in it end, and the connects to it that aren't accepted; its other
-/// messages go.
+/// The queue of a port is emptied: the requests in it end, the events in it are marked, and the connects to it that
+/// aren't accepted end; its other messages go.
 fn empty_queue(world: &mut World, port: Key, out: &mut Entries)
     requires port { stands world.old.births.ports port ≡ true }
     requires pairs { HasMutualPairs world.old.rows }
@@ -72,17 +73,19 @@ fn empty_queue(world: &mut World, port: Key, out: &mut Entries)
     ensures births { world.new.births ≡ world.old.births }
     ensures calls { world.new.calls ≡ world.old.calls }
     ensures capacity { world.new.capacity ≡ world.old.capacity }
-    ensures made { world.new.made ≡ world.old.made }
+    ensures made { world.new.made ≤ world.old.made }
     ensures spare { out.new.spare + length world.old.rows.waits
         ≡ out.old.spare + length world.new.rows.waits }
 {
     end_all(world, port, Ending::QueuedRequests, out);
+    mark_all(world, port, Marking::Queued);
     end_all(world, port, Ending::Offers, out);
     world.messages_empty(port);
 }
 
-/// A port is cut off from its other end: requests that were sent there end, receives that wait there on a client port,
-/// and the connect that was accepted and isn't completed, with which the views of its client port go.
+/// A port is cut off from its other end: requests that were sent there end, events that were sent there are marked,
+/// receives that wait there on a client port end, and the connect that was accepted and isn't completed, with which the
+/// views of its client port go.
 pub fn cut_pair(world: &mut World, port: Key, out: &mut Entries)
     requires port { stands world.old.births.ports port ≡ true }
     requires pairs { HasMutualPairs world.old.rows }
@@ -92,11 +95,12 @@ pub fn cut_pair(world: &mut World, port: Key, out: &mut Entries)
     ensures births { world.new.births ≡ world.old.births }
     ensures calls { world.new.calls ≡ world.old.calls }
     ensures capacity { world.new.capacity ≡ world.old.capacity }
-    ensures made { world.new.made ≡ world.old.made }
+    ensures made { world.new.made ≤ world.old.made }
     ensures spare { out.new.spare + length world.old.rows.waits
         ≡ out.old.spare + length world.new.rows.waits }
 {
     end_all(world, port, Ending::RequestsAcross, out);
+    mark_all(world, port, Marking::SentAcross);
     end_all(world, port, Ending::ReceivesAcross, out);
     end_all(world, port, Ending::AcceptedAcross, out);
     world.ports_cut(port);
@@ -123,6 +127,7 @@ fn close_port(world: &mut World, port: Key, out: &mut Entries)
     world.names_unbind(port);
     end_all(world, port, Ending::Receives, out);
     end_all(world, port, Ending::Requests, out);
+    mark_all(world, port, Marking::Sent);
     empty_queue(world, port, out);
     cut_pair(world, port, out);
     post_closed(world, port, out);
@@ -191,9 +196,9 @@ pub(crate) fn close_handle(
 }
 
 /// `NtClose`: a handle goes. With the last handle of a port the port is closed: its name goes; receives and listens
-/// made on it or waiting on its queue end; requests sent on it end; its queue is emptied, and the connects that wait on
-/// it end; it is cut off from its other end, whose requests and receives end; that a completed client port is
-/// closed is posted to its connection port; and the views that it owns go.
+/// made on it or waiting on its queue end; requests sent on it end, and events are marked; its queue is emptied, and
+/// the connects that wait on it end; it is cut off from its other end, whose requests and receives end and whose events
+/// are marked; that a completed client port is closed is posted to its connection port; and the views that it owns go.
 ///
 /// Refusal: INVALID_HANDLE where no handle of the caller's process has the value. It takes no memory.
 #[tactic(auto, unfolding(lpc_model::specs::Close::nt_close))]
@@ -205,6 +210,7 @@ pub fn nt_close(world: &mut World, by: u32, handle: u32, out: &mut Entries) -> O
     ensures served { let call = close handle in
         Served by call result world.old world.new out.old out.new }
     ensures spare { out.old.spare ≤ out.new.spare + length world.old.rows.waits + 2 }
+    ensures settles { CanSettle world.new out.new }
     ensures capacity { but_names world.new.capacity ≡ but_names world.old.capacity }
 {
     let caller = world.caller(by);

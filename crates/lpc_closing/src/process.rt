@@ -5,7 +5,7 @@ ghost use Rattle.lpc_closing.specs.Closing.{CanCloseAll};
 ghost use Rattle.lpc_closing.specs.Process.{row_of};
 ghost use Rattle.lpc_model.specs.Death.{end_process};
 ghost use Rattle.lpc_model.specs.Found.{handles_of, is_table};
-ghost use Rattle.lpc_rows.specs.Clauses.{Finds};
+ghost use Rattle.lpc_rows.specs.Clauses.{Finds, has_process};
 ghost use Rattle.lpc_rows.specs.Does.{Took};
 ghost use Rattle.lpc_rows.specs.Capacity.{but_names};
 ghost use Rattle.lpc_rows.specs.Kept.{CanMake};
@@ -30,9 +30,11 @@ fn first_handle(world: &World, pid: u32) -> Option<(u32, Row<Object>)>
     Some((value, row))
 }
 
-/// The handles of a process are closed by rising value, each as `NtClose` does it, and then its views go. It takes no
-/// memory, and makes no row but the messages that the closings of ports owed.
+/// The debug port and the exception port of a process are let go, its handles are closed by rising value, each as
+/// `NtClose` does it, and then its views go. It takes no memory, and makes no row but the messages that the closings of
+/// ports owed.
 pub fn end_process(world: &mut World, pid: u32, out: &mut Entries)
+    requires process { has_process world.old.rows pid ≡ true }
     requires table { has (is_table pid) world.old.rows.handles ≡ true }
     requires can { CanCloseAll world.old.rows }
     requires spare { length world.old.rows.waits ≤ out.old.spare }
@@ -45,6 +47,7 @@ pub fn end_process(world: &mut World, pid: u32, out: &mut Entries)
     ensures spare { out.new.spare + length world.old.rows.waits
         ≡ out.old.spare + length world.new.rows.waits }
 {
+    world.procs_let_go(pid);
     while let Some((value, row)) = first_handle(world, pid) {
         close_handle(world, pid, value, row, out);
     }

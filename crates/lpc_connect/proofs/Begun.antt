@@ -7,9 +7,9 @@ use Rattle.lpc_base.specs.declared.birth.Birth.{Birth}
 use Rattle.lpc_base.proofs.RowWords.{first-push, has-change}
 use Rattle.lpc_model.specs.Basics.{Awaits, Basic, DrawsIdentifier, DrawsOrdinal, Makes, basic, world_after}
 use Rattle.lpc_model.specs.Connect.{client_port, connect_wait}
-use Rattle.lpc_model.specs.Found.{offer_of, waits_as}
+use Rattle.lpc_model.specs.Found.{is_mark, offer_of, waits_as}
 use Rattle.lpc_model.specs.Tests.{next_birth, own_wait}
-use Rattle.lpc_model.specs.World.{Accepted, Connect, Listen, Offer, PortRow, Receive, Request, ThreadRow, WaitKind, WaitRow, World}
+use Rattle.lpc_model.specs.World.{Accepted, Connect, Event, Listen, Offer, PortRow, Receive, Request, ThreadRow, WaitKind, WaitRow, World}
 use Rattle.lpc_model.specs.declared.entry.CallName.TheVariants.{NtConnectPort}
 use Rattle.lpc_model.specs.declared.message.Message.{Message}
 use Rattle.lpc_rows.specs.Kept.{has_queued, is_pending, is_unsent, pends_as}
@@ -37,11 +37,12 @@ pending-offer o x = by x.kind
     by Listen = refl
     by (Connect m old) = refl
     by (Accepted m a) = refl
+    by (Event r) = refl
 
 -- and its message is in no queue, as before
 pub unsent-offer : (w : World) (who : ℕ) (o : Option Offer) → is_unsent (record w { waits = change (waits_as who) (with_offer o) w.waits }) who ≡ is_unsent w who
 unsent-offer w who o =
-    ap (λ b. b && not (has_queued w who)) (has-change (pends_as who) (waits_as who) (with_offer o) (λ x. ap (λ b. waits_as who x && b) (pending-offer o x)) w.waits)
+    ap (λ b. b && not (has_queued w who) && not (has (is_mark who) w.marks)) (has-change (pends_as who) (waits_as who) (with_offer o) (λ x. ap (λ b. waits_as who x && b) (pending-offer o x)) w.waits)
 
 -- a section has the same name wherever sections have the same births
 pub offered-alike : (n k : Births) (offer : Option waits.Offer) → n.sections ≡ k.sections → option_map (shown_offer (birth_of n)) offer ≡ option_map (shown_offer (birth_of k)) offer

@@ -15,7 +15,7 @@ ghost use Rattle.lpc_rows.specs.Ready.{HasRoom, caller, is_ready, waiter};
 use crate::memory::transfer_test;
 use lpc_base::Status;
 use lpc_base::limits::HEADER_SIZE;
-use lpc_base::status::{ACCESS_VIOLATION, INVALID_PARAMETER, SUCCESS};
+use lpc_base::status::{ACCESS_VIOLATION, INVALID_PARAMETER, REPLY_MESSAGE_MISMATCH, SUCCESS};
 use lpc_message::{Header, MessageRef, Range, law_written_header_is_read_back, read_header};
 use lpc_model::{CallName, Entries, Entry, Fields, Outcome, refuse};
 use lpc_steps::{port_at, read_message, reply_test};
@@ -24,7 +24,7 @@ use lpc_world::World;
 
 /// The thread whose request a message fits through the port of a handle: the handle's fault, then the message's, then
 /// INVALID_CID where no live thread has the message's process and thread, and REPLY_MESSAGE_MISMATCH where the message
-/// fits no wait through the port.
+/// fits no wait through the port, or that of an event, which is no request.
 fn asked_test(world: &World, tid: u32, handle: u32, message: &[u8]) -> Result<u32, Status>
     requires { is_ready world.now.rows tid ≡ true }
     ensures found { let by = caller world.now.rows tid in
@@ -36,7 +36,20 @@ fn asked_test(world: &World, tid: u32, handle: u32, message: &[u8]) -> Result<u3
 {
     let port = port_at(world, tid, handle)?;
     let message = read_message(message)?;
-    reply_test(world, port, message.header())
+    let thread = reply_test(world, port, message.header())?;
+    request_test(world, thread)?;
+    Ok(thread)
+}
+
+/// A waiting thread doesn't wait for what is made of an event, which is no request: REPLY_MESSAGE_MISMATCH where it does.
+fn request_test(world: &World, thread: u32) -> Result<(), Status>
+    requires { has (waits_as thread) world.now.rows.waits ≡ true }
+    ensures test { result ≡ ranges.request_test (waiter world.now.rows thread) }
+{
+    match world.waiting(thread).kind {
+        WaitKind::Event(_) => Err(REPLY_MESSAGE_MISMATCH),
+        WaitKind::Request | WaitKind::Receive | WaitKind::Listen | WaitKind::Connect => Ok(()),
+    }
 }
 
 /// The numbers of a header have their widths.
@@ -67,7 +80,7 @@ fn range_of(world: &World, thread: u32, index: u32) -> Option<Range>
 {
     match world.waiting(thread).kind {
         WaitKind::Request => range_in(world.waiting_message(thread), index),
-        WaitKind::Receive | WaitKind::Listen | WaitKind::Connect => None,
+        WaitKind::Receive | WaitKind::Listen | WaitKind::Connect | WaitKind::Event(_) => None,
     }
 }
 

@@ -1,9 +1,9 @@
 -- Replies, and the reply that a receive makes first.
-use Rattle.std.specs.Prelude.{◌≡◌, ℕ, true, false, List, [], ◌∷◌, Option, Some, None}
+use Rattle.std.specs.Prelude.{◌≡◌, ℕ, ◌+◌, ◌≤◌, true, false, List, [], ◌∷◌, length, Option, Some, None}
 use Rattle.lpc_base.specs.Rows.{first, has}
 use Rattle.lpc_model.specs.World.{World}
 use Rattle.lpc_model.specs.Basics.{Basic}
-use Rattle.lpc_model.specs.Found.{is_queued, waits_as}
+use Rattle.lpc_model.specs.Found.{is_mark, is_queued, waits_as}
 use Rattle.lpc_model.specs.Listed.{Listed}
 use Rattle.lpc_model.specs.Request as request
 use Rattle.lpc_model.specs.Request.{reply}
@@ -17,7 +17,7 @@ use Rattle.lpc_rows.specs.Kept.{Kept, has_queued}
 use Rattle.lpc_rows.specs.Ready.{caller, waiter}
 use Rattle.lpc_rows.specs.Callers.{shown_caller}
 
--- a thread's reply wakes the thread that asked
+-- a thread's reply is answered, and made
 abbrev pub Returns : ℕ → ℕ → Message → Kept → Kept → Listed → Listed → Type 0
 Returns tid answered m old new before after =
     Took (request.reply_steps (caller old.rows tid) (waiter old.rows answered) m) old new before after
@@ -30,10 +30,21 @@ replied_steps w (Some r) = reply (waiter w r.thread) r.message ∷ []
 abbrev pub RepliesFirst : Option Replied → Kept → Kept → Listed → Listed → Type 0
 RepliesFirst replied old new before after = Took (replied_steps old.rows replied) old new before after
 
--- the thread waits, and no message of its own stands in a queue
+-- the thread waits, no message of its own stands in a queue, and its event, if it waits with one, isn't marked
 abbrev pub may_be_told : World → Option Replied → Type 0
 may_be_told w None = Unit {0}
-may_be_told w (Some r) = (has (waits_as r.thread) w.waits ≡ true) × (has_queued w r.thread ≡ false)
+may_be_told w (Some r) =
+    (has (waits_as r.thread) w.waits ≡ true) × ((has_queued w r.thread ≡ false) × (has (is_mark r.thread) w.marks ≡ false))
+
+-- all but waits and marks is as it was
+abbrev pub KeepsButWaits : World → World → Type 0
+KeepsButWaits old new = new ≡ record old { waits = new.waits; marks = new.marks }
+
+-- the threads are as they were, and at most so many waits, rows and numbers were made
+pub record MakesWaits (more : ℕ) (old new : Kept) : Type 0 where
+  pub threads : new.rows.threads ≡ old.rows.threads
+  pub waits : length new.rows.waits ≤ length old.rows.waits + more
+  pub made : new.made ≤ old.made + more
 
 -- a thread's receive on a port, behind a reply: the oldest message of the queue is taken, or the thread waits
 abbrev pub receive_by : Caller → Key → Key → Option Replied → Kept → List Basic

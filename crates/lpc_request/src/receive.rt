@@ -1,5 +1,5 @@
 // The receive, which may make a reply first.
-ghost use Rattle.std.specs.Prelude.{option_copied, ◌≡◌, ◌≤◌, ◌<◌, Some, None, true, false, ◌+◌};
+ghost use Rattle.std.specs.Prelude.{[], option_copied, ◌≡◌, ◌≤◌, ◌<◌, Some, None, true, false, ◌+◌};
 ghost use Rattle.lpc_base.specs.Rows.{first, has};
 ghost use Rattle.lpc_base.specs.declared.limits.TheConstants.{LINES_LIMIT};
 ghost use Rattle.lpc_model.specs.Basics.{outcome_of};
@@ -7,22 +7,21 @@ ghost use Rattle.lpc_model.specs.Found.{is_live_thread, is_queued, waits_as};
 ghost use Rattle.lpc_model.specs.Lines.{reply_wait_receive_port};
 ghost use Rattle.lpc_steps.specs.Clauses.{IsUnderName};
 ghost use Rattle.lpc_request.specs.Called.{Received};
-ghost use Rattle.lpc_request.specs.Replied.{RepliesFirst, TakesOrWaits, may_be_told, receive_by};
+ghost use Rattle.lpc_request.specs.Replied.{KeepsButWaits, MakesWaits, RepliesFirst, TakesOrWaits, may_be_told, receive_by};
 ghost use Rattle.lpc_rows.specs.Called.{Served};
 ghost use Rattle.lpc_rows.specs.Clauses.{birth_at};
 ghost use Rattle.lpc_rows.specs.Kept.{HasWholeBudget, Roomy, StaysReady};
 ghost use Rattle.lpc_rows.specs.Names.{stands};
 ghost use Rattle.lpc_rows.specs.Ready.{HasRoom, is_ready};
+ghost use Rattle.lpc_steps.specs.Settling.{CanSettle};
 
-use crate::reply::as_reply;
+use crate::reply::return_reply;
 use lpc_base::Status;
 use lpc_base::status::SUCCESS;
-use lpc_model::{
-    CallName, Entries, Entry, Fields, Message, Outcome, kept, message_field, receipt, refuse,
-};
+use lpc_model::{CallName, Entries, Entry, Fields, Message, Outcome, kept, receipt, refuse};
 use lpc_procs::Caller;
 use lpc_slots::Key;
-use lpc_steps::{port_at, read_message, receive_test, reply_test, wake, wants_answer};
+use lpc_steps::{port_at, read_message, receive_test, reply_test, wants_answer};
 use lpc_waits::{Wait, WaitKind};
 use lpc_world::World;
 
@@ -44,19 +43,13 @@ fn make_reply(world: &mut World, replied: &Option<Replied>, out: &mut Entries)
     ensures births { world.new.births ≡ world.old.births }
     ensures calls { world.new.calls ≡ world.old.calls }
     ensures capacity { world.new.capacity ≡ world.old.capacity }
-    ensures made { world.new.made ≡ world.old.made }
+    ensures keeps { MakesWaits 0 world.old world.new }
     ensures room { Roomy world.old.room world.new.room }
     ensures still { StaysReady world.old.rows world.new.rows }
-    ensures threads { world.new.rows ≡ record world.old.rows { waits = world.new.rows.waits } }
+    ensures others { KeepsButWaits world.old.rows world.new.rows }
 {
     if let Some(reply) = replied {
-        wake(
-            world,
-            reply.thread,
-            SUCCESS,
-            message_field(&as_reply(&reply.message)),
-            out,
-        );
+        return_reply(world, reply.thread, &reply.message, out);
     }
 }
 
@@ -79,6 +72,7 @@ fn wait_for_message(
     requires empty { first (is_queued (birth_at world.old queue)) world.old.rows.messages ≡ None }
     requires told { may_be_told world.old.rows replied.now }
     ensures takes { TakesOrWaits by.now port queue replied.now world.old world.new out.old out.new }
+    ensures keeps { MakesWaits 1 world.old world.new }
     ensures calls { world.new.calls ≡ world.old.calls }
     ensures capacity { world.new.capacity ≡ world.old.capacity }
     ensures spare { out.old.spare ≤ out.new.spare + 2 }
@@ -120,6 +114,7 @@ fn take_or_wait(
     requires name { IsUnderName world.old port }
     requires told { may_be_told world.old.rows replied.now }
     ensures takes { TakesOrWaits by.now port queue replied.now world.old world.new out.old out.new }
+    ensures keeps { MakesWaits 1 world.old world.new }
     ensures outcome { let steps = receive_by by.now port queue replied.now world.old in
         result ≡ outcome_of steps }
     ensures calls { world.new.calls ≡ world.old.calls }
@@ -155,6 +150,7 @@ fn receive(world: &mut World, tid: u32, handle: u32, out: &mut Entries) -> Resul
     requires spare { 2 ≤ out.old.spare }
     requires budget { HasWholeBudget world.old }
     ensures does { Received result tid handle None world.old world.new out.old out.new }
+    ensures keeps { MakesWaits 1 world.old world.new }
     ensures calls { world.new.calls ≡ world.old.calls }
     ensures capacity { world.new.capacity ≡ world.old.capacity }
     ensures spare { out.old.spare ≤ out.new.spare + 2 }
@@ -176,8 +172,10 @@ fn reply_and_receive(
 ) -> Result<Outcome, Status>
     requires ready { is_ready world.old.rows tid ≡ true }
     requires spare { 2 ≤ out.old.spare }
+    requires unmarked { world.old.rows.marks ≡ [] }
     requires budget { HasWholeBudget world.old }
     ensures does { Received result tid handle (Some reply.now) world.old world.new out.old out.new }
+    ensures keeps { MakesWaits 1 world.old world.new }
     ensures calls { world.new.calls ≡ world.old.calls }
     ensures capacity { world.new.capacity ≡ world.old.capacity }
     ensures spare { out.old.spare ≤ out.new.spare + 2 }
@@ -191,8 +189,8 @@ fn reply_and_receive(
     Ok(take_or_wait(world, &by, port, queue, &replied, out))
 }
 
-/// `NtReplyWaitReceivePort`: replies, where it is given a message, and then takes the oldest message of the port's
-/// queue or waits for one.
+/// `NtReplyWaitReceivePort`: replies as `NtReplyPort` does, where it is given a message, and then takes the oldest message
+/// of the port's queue or waits for one.
 ///
 /// Refusals in their order: INVALID_HANDLE where no handle of the caller's process has the value; OBJECT_TYPE_MISMATCH
 /// where it names no port; ACCESS_DENIED where it lacks the right; INVALID_PARAMETER where the message has no lawful
@@ -210,8 +208,10 @@ pub fn nt_reply_wait_receive_port(
     requires ready { is_ready world.old.rows by ≡ true }
     requires room { HasRoom world.old out.old }
     requires calls { world.old.calls < LINES_LIMIT }
+    requires unmarked { world.old.rows.marks ≡ [] }
     ensures served { let call = reply_wait_receive_port handle (option_copied reply.entry) in
         Served by call result world.old world.new out.old out.new }
+    ensures settles { CanSettle world.new out.new }
     ensures spare { out.old.spare ≤ out.new.spare + 2 }
     ensures capacity { world.new.capacity ≡ world.old.capacity }
 {

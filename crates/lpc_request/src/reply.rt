@@ -1,18 +1,25 @@
 // The reply to a request.
-ghost use Rattle.std.specs.Prelude.{◌≡◌, ◌≤◌, ◌<◌, true, false, ◌+◌};
+ghost use Rattle.std.specs.Prelude.{[], ◌∷◌, ◌≡◌, ◌≤◌, ◌<◌, take, true, false, ◌+◌};
+ghost use Rattle.byteorder.specs.Endian.{little_bytes};
 ghost use Rattle.lpc_base.specs.Rows.{has};
 ghost use Rattle.lpc_base.specs.declared.limits.TheConstants.{LINES_LIMIT};
-ghost use Rattle.lpc_model.specs.Found.{waits_as};
+ghost use Rattle.lpc_base.specs.declared.status.TheConstants.{DBG_CONTINUE};
+ghost use Rattle.lpc_model.specs.Found.{is_mark, waits_as};
+ghost use Rattle.lpc_model.specs.Request as request;
+ghost use Rattle.lpc_model.specs.Settle.{has_event};
 ghost use Rattle.lpc_model.specs.Lines.{reply_port};
 ghost use Rattle.lpc_model.specs.Message as kept;
 ghost use Rattle.lpc_request.specs.Called.{Answered};
-ghost use Rattle.lpc_request.specs.Replied.{Returns};
+ghost use Rattle.lpc_request.specs.Replied.{KeepsButWaits, MakesWaits, Returns};
 ghost use Rattle.lpc_rows.specs.Called.{Served};
-ghost use Rattle.lpc_rows.specs.Kept.{has_queued};
-ghost use Rattle.lpc_rows.specs.Ready.{HasRoom, is_ready};
+ghost use Rattle.lpc_rows.specs.Does.{Took};
+ghost use Rattle.lpc_rows.specs.Kept.{Roomy, StaysReady, has_queued};
+ghost use Rattle.lpc_rows.specs.Ready.{HasRoom, is_ready, waiter};
+ghost use Rattle.lpc_steps.specs.Settling.{CanSettle};
 
+use byteorder::{ByteOrder, LittleEndian};
 use lpc_base::Status;
-use lpc_base::status::SUCCESS;
+use lpc_base::status::{DBG_CONTINUE, SUCCESS};
 use lpc_message::kind;
 use lpc_model::{CallName, Entries, Entry, Fields, Message, Outcome, kept, message_field, refuse};
 use lpc_steps::{port_at, read_message, reply_test, wake};
@@ -38,7 +45,9 @@ fn reply(
 ) -> Result<Outcome, Status>
     requires ready { is_ready world.old.rows tid ≡ true }
     requires spare { 2 ≤ out.old.spare }
+    requires unmarked { world.old.rows.marks ≡ [] }
     ensures does { Answered result tid handle message.now world.old world.new out.old out.new }
+    ensures keeps { MakesWaits 0 world.old world.new }
     ensures calls { world.new.calls ≡ world.old.calls }
     ensures capacity { world.new.capacity ≡ world.old.capacity }
     ensures spare { out.old.spare ≤ out.new.spare + 2 }
@@ -50,13 +59,97 @@ fn reply(
     Ok(Outcome::Answered(SUCCESS))
 }
 
-/// A reply is answered, and wakes the thread that asked.
+/// As many of the first bytes as there are, at most so many.
+fn front(bytes: &[u8], count: usize) -> &[u8]
+    ensures { result.now ≡ take count bytes.now }
+{
+    &bytes[..count.min(bytes.len())]
+}
+
+/// The four bytes with which the data of a reply begin by which an exception is handled.
+fn continue_bytes() -> [u8; 4]
+    ensures { result ≡ little_bytes 4 DBG_CONTINUE.0 }
+{
+    let mut bytes = [0u8; 4];
+    LittleEndian::write_u32(&mut bytes, DBG_CONTINUE.0);
+    bytes
+}
+
+/// The data of a message begin with these four bytes.
+fn handles_event(message: &Message) -> bool
+    ensures { result ≡ request.handles_event message.now }
+{
+    let data = front(
+        message.body.as_slice(),
+        usize::from(message.header.data_size),
+    );
+    front(data, 4) == continue_bytes().as_slice()
+}
+
+/// A reply to an event wakes the thread of its exception, or marks the event as not handled.
+fn reply_to_event(world: &mut World, answered: u32, message: &Message, out: &mut Entries)
+    requires spare { 1 ≤ out.old.spare }
+    requires waits { has (waits_as answered) world.old.rows.waits ≡ true }
+    requires event { has_event world.old.rows answered ≡ true }
+    requires left { has_queued world.old.rows answered ≡ false }
+    requires unmarked { has (is_mark answered) world.old.rows.marks ≡ false }
+    ensures takes { let x = waiter world.old.rows answered in
+        Took (request.reply_to_event x message.now ∷ []) world.old world.new out.old out.new }
+    ensures births { world.new.births ≡ world.old.births }
+    ensures calls { world.new.calls ≡ world.old.calls }
+    ensures capacity { world.new.capacity ≡ world.old.capacity }
+    ensures keeps { MakesWaits 0 world.old world.new }
+    ensures others { KeepsButWaits world.old.rows world.new.rows }
+    ensures room { Roomy world.old.room world.new.room }
+    ensures still { StaysReady world.old.rows world.new.rows }
+    ensures spare { out.old.spare ≤ out.new.spare + 1 }
+{
+    if handles_event(message) {
+        wake(world, answered, DBG_CONTINUE, Fields::none(), out);
+    } else {
+        world.events_mark(answered);
+    }
+}
+
+/// A reply to a request wakes the thread that asked, with the reply's message; one to an event wakes the thread of its
+/// exception, or marks the event as not handled.
+pub(crate) fn return_reply(world: &mut World, answered: u32, message: &Message, out: &mut Entries)
+    requires spare { 1 ≤ out.old.spare }
+    requires waits { has (waits_as answered) world.old.rows.waits ≡ true }
+    requires left { has_queued world.old.rows answered ≡ false }
+    requires unmarked { has (is_mark answered) world.old.rows.marks ≡ false }
+    ensures takes { let x = waiter world.old.rows answered in
+        Took (request.reply x message.now ∷ []) world.old world.new out.old out.new }
+    ensures births { world.new.births ≡ world.old.births }
+    ensures calls { world.new.calls ≡ world.old.calls }
+    ensures capacity { world.new.capacity ≡ world.old.capacity }
+    ensures keeps { MakesWaits 0 world.old world.new }
+    ensures others { KeepsButWaits world.old.rows world.new.rows }
+    ensures room { Roomy world.old.room world.new.room }
+    ensures still { StaysReady world.old.rows world.new.rows }
+    ensures spare { out.old.spare ≤ out.new.spare + 1 }
+{
+    match world.raised(answered) {
+        Some(_) => reply_to_event(world, answered, message, out),
+        None => wake(
+            world,
+            answered,
+            SUCCESS,
+            message_field(&as_reply(message)),
+            out,
+        ),
+    }
+}
+
+/// A reply is answered, and made.
 fn send_reply(world: &mut World, tid: u32, answered: u32, message: &Message, out: &mut Entries)
     requires spare { 2 ≤ out.old.spare }
     requires ready { is_ready world.old.rows tid ≡ true }
     requires waits { has (waits_as answered) world.old.rows.waits ≡ true }
     requires left { has_queued world.old.rows answered ≡ false }
+    requires unmarked { has (is_mark answered) world.old.rows.marks ≡ false }
     ensures takes { Returns tid answered message.now world.old world.new out.old out.new }
+    ensures keeps { MakesWaits 0 world.old world.new }
     ensures calls { world.new.calls ≡ world.old.calls }
     ensures capacity { world.new.capacity ≡ world.old.capacity }
     ensures spare { out.old.spare ≤ out.new.spare + 2 }
@@ -68,16 +161,11 @@ fn send_reply(world: &mut World, tid: u32, answered: u32, message: &Message, out
         status: SUCCESS,
         fields: Fields::none(),
     });
-    wake(
-        world,
-        answered,
-        SUCCESS,
-        message_field(&as_reply(message)),
-        out,
-    );
+    return_reply(world, answered, message, out);
 }
 
-/// `NtReplyPort`: replies to a request, and wakes the thread that asked.
+/// `NtReplyPort`: replies to a request, and wakes the thread that asked, or to an event: where the reply's data begin
+/// with 02000100, that wakes the thread of the exception, and else the event is marked as not handled.
 ///
 /// Refusals in their order: INVALID_HANDLE where no handle of the caller's process has the value; OBJECT_TYPE_MISMATCH
 /// where it names no port; ACCESS_DENIED where it lacks the right; INVALID_PARAMETER where the message has no lawful
@@ -93,8 +181,10 @@ pub fn nt_reply_port(
     requires ready { is_ready world.old.rows by ≡ true }
     requires room { HasRoom world.old out.old }
     requires calls { world.old.calls < LINES_LIMIT }
+    requires unmarked { world.old.rows.marks ≡ [] }
     ensures served { let call = reply_port handle message.now in
         Served by call result world.old world.new out.old out.new }
+    ensures settles { CanSettle world.new out.new }
     ensures spare { out.old.spare ≤ out.new.spare + 2 }
     ensures capacity { world.new.capacity ≡ world.old.capacity }
 {

@@ -13,9 +13,9 @@ use Rattle.lpc_model.specs.declared.entry.CallName.{CallName}
 use Rattle.lpc_model.specs.declared.entry.Entry.{Entry}
 use Rattle.lpc_model.specs.declared.entry.Field.{Field}
 use Rattle.lpc_model.specs.declared.message.Message.{Message}
-use Rattle.lpc_model.specs.World.{World, Accepted, Connect, Listen, MessageRow, Receive, Request, WaitKind, WaitRow}
+use Rattle.lpc_model.specs.World.{World, Accepted, Connect, Event, Listen, MessageRow, Receive, Request, WaitKind, WaitRow}
 use Rattle.lpc_model.specs.Message.{asks, is_connection_request}
-use Rattle.lpc_model.specs.Found.{is_listen, is_queued, is_queued_connect, is_receive, same_birth, waits_as, waits_at}
+use Rattle.lpc_model.specs.Found.{is_listen, is_mark, is_queued, is_queued_connect, is_receive, same_birth, waits_as, waits_at}
 use Rattle.lpc_model.specs.Basics.{Basic, Enters, Receives, Wakes, basic, entries_of, received, told, world_after}
 use Rattle.lpc_model.specs.Fields.{msg, receipt}
 use Rattle.lpc_model.specs.Entering.{enter, given_steps, received_steps, shown, take_connect_steps, take_steps, takes, woken}
@@ -63,6 +63,7 @@ passed-as w m Listen q own takes quiet =
     off false h = refl
 passed-as w m (Connect n offer) q own takes quiet = absurd (cc)
 passed-as w m (Accepted n reply) q own takes quiet = absurd (cc)
+passed-as w m (Event r) q own takes quiet = absurd (cc)
 
 pub passed : (w : World) (m : MessageRow) (x : WaitRow) → takes m x ≡ true → is_quiet w.messages x ≡ true → world_after w (Enters m ∷ given_steps x m) ≡ world_after w (received_steps m)
 passed w m x takes quiet = passed-as w m x.kind x.queue (taker-queue m x takes) takes quiet
@@ -104,6 +105,7 @@ silent-given x m bs = by_kind x.kind
     by_kind Listen = silent-receipt m.message.header.client.thread m.queue (asks m.message) bs
     by_kind (Connect n offer) = silent-receipt m.message.header.client.thread m.queue (asks m.message) bs
     by_kind (Accepted n reply) = silent-receipt m.message.header.client.thread m.queue (asks m.message) bs
+    by_kind (Event r) = silent-receipt m.message.header.client.thread m.queue (asks m.message) bs
 
 loose-given : (x : WaitRow) (m : MessageRow) (l : Bool) (wake : Basic) → loosens wake ≡ true → loosened l (given_steps x m ++ wake ∷ []) ≡ true
 loose-given x m l wake is = by_kind x.kind
@@ -117,6 +119,7 @@ loose-given x m l wake is = by_kind x.kind
     by_kind Listen = loose-receipt m.message.header.client.thread m.queue true (asks m.message) (wake ∷ []) ∙ last true
     by_kind (Connect n offer) = loose-receipt m.message.header.client.thread m.queue true (asks m.message) (wake ∷ []) ∙ last true
     by_kind (Accepted n reply) = loose-receipt m.message.header.client.thread m.queue true (asks m.message) (wake ∷ []) ∙ last true
+    by_kind (Event r) = loose-receipt m.message.header.client.thread m.queue true (asks m.message) (wake ∷ []) ∙ last true
 
 pub entered : (w : World) (es : List Entry) (loose : Bool) (m : MessageRow) (x : WaitRow) → first (takes m) w.waits ≡ Some x
     → left_by w es loose (enter m w)
@@ -152,7 +155,7 @@ begun-change f x (y ∷ xs) none = grind (arith, begun-change f x xs)
 -- and its thread is as it was where it waits for a message that is to be sent
 pub unsent-message : (w : World) (who : ℕ) (m : Message) → is_unsent (record w { waits = change (waits_as who) (with_message m) w.waits }) who ≡ is_unsent w who
 unsent-message w who m =
-    ap (λ b. b && not (has_queued w who)) (has-change (pends_as who) (waits_as who) (with_message m) (λ x. ap (λ b. waits_as who x && b) (pending_kept m x)) w.waits)
+    ap (λ b. b && not (has_queued w who) && not (has (is_mark who) w.marks)) (has-change (pends_as who) (waits_as who) (with_message m) (λ x. ap (λ b. waits_as who x && b) (pending_kept m x)) w.waits)
 
 -- the message has entered, and its taker was told
 pub delivered : (w passed after : World) (es list : List Entry) (before loose : Bool) (m : MessageRow) (x : WaitRow) (tid : ℕ) (call : CallName) (fields : List Field)

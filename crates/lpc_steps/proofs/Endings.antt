@@ -31,7 +31,7 @@ which-none p [] none = refl
 which-none p (x ∷ xs) none = grind (arith, which-none p xs)
 
 -- where a thread waits once, the others that pass are those among the waits without its own
-which-rest : (p : WaitRow → Bool) (xs : List WaitRow) (x : WaitRow) → are_single xs ≡ true → first p xs ≡ Some x → which p xs ≡ x ∷ which p (without (waits_as x.thread) xs)
+pub which-rest : (p : WaitRow → Bool) (xs : List WaitRow) (x : WaitRow) → are_single xs ≡ true → first p xs ≡ Some x → which p xs ≡ x ∷ which p (without (waits_as x.thread) xs)
 which-rest p [] x one is = absurd (cc)
 which-rest p (y ∷ ys) x one is = elim (p y) as (λ b. p y ≡ b → which p (y ∷ ys) ≡ x ∷ which p (without (waits_as x.thread) (y ∷ ys))) [
   | true ↦ λ here. let same : y ≡ x = grind arith in

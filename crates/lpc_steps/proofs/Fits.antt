@@ -6,22 +6,22 @@ use Rattle.lpc_base.specs.declared.birth.Birth.{Birth}
 use Rattle.lpc_base.specs.Rows.{first, has}
 use Rattle.lpc_base.proofs.RowWords.{first-passes}
 use Rattle.lpc_message.specs.declared.message.ClientId.{ClientId}
-use Rattle.lpc_model.specs.World.{Accepted, Connect, Request, WaitKind, WaitRow, World}
+use Rattle.lpc_model.specs.World.{Accepted, Connect, Event, Request, WaitKind, WaitRow, World}
 use Rattle.lpc_model.specs.Found.{fits_as, wait_of, waits_as}
 use Rattle.lpc_rows.specs.Kept.{is_pending}
 use Rattle.lpc_rows.specs.Lawful.{are_single}
 use Rattle.lpc_rows.specs.Ready.{wait_in, waiter}
 
 -- a wait that a message fits isn't pending
-fit_idle : (k : WaitKind) (a b c e f : Bool) → (a && (b && (c && ((elim k [ Request m ↦ true | _ ↦ false ]) && (e && f))))) ≡ true
-    → ((elim k [ Request m ↦ true | _ ↦ false ]) || ((elim k [ Connect m offer ↦ true | _ ↦ false ]) || (elim k [ Accepted m reply ↦ true | _ ↦ false ]))) && not e ≡ false
-fit_idle k a b c true f h = no (elim k [ Request m ↦ true | _ ↦ false ]) ((elim k [ Connect m offer ↦ true | _ ↦ false ]) || (elim k [ Accepted m reply ↦ true | _ ↦ false ]))
+fit_idle : (k : WaitKind) (a b c e f : Bool) → (a && (b && (c && (((elim k [ Request m ↦ true | _ ↦ false ]) || (elim k [ Event r ↦ true | _ ↦ false ])) && (e && f))))) ≡ true
+    → ((elim k [ Request m ↦ true | _ ↦ false ]) || ((elim k [ Event r ↦ true | _ ↦ false ]) || ((elim k [ Connect m offer ↦ true | _ ↦ false ]) || (elim k [ Accepted m reply ↦ true | _ ↦ false ])))) && not e ≡ false
+fit_idle k a b c true f h = no (elim k [ Request m ↦ true | _ ↦ false ]) ((elim k [ Event r ↦ true | _ ↦ false ]) || ((elim k [ Connect m offer ↦ true | _ ↦ false ]) || (elim k [ Accepted m reply ↦ true | _ ↦ false ])))
   where
     no : (p q : Bool) → (p || q) && false ≡ false
     no true q = refl
     no false true = refl
     no false false = refl
-fit_idle k true true true false f h = absurd (off (elim k [ Request m ↦ true | _ ↦ false ]) f h)
+fit_idle k true true true false f h = absurd (off ((elim k [ Request m ↦ true | _ ↦ false ]) || (elim k [ Event r ↦ true | _ ↦ false ])) f h)
   where
     off : (p f : Bool) → p && (false && f) ≡ true → ⊥
     off true f h = absurd (cc)

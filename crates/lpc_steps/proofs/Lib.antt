@@ -1,6 +1,7 @@
 pub mod Composed
 pub mod NextEnding
 pub mod Endings
+pub mod Markings
 pub mod Delivered
 pub mod Fits
 pub mod Answered

@@ -57,7 +57,7 @@ module _ (w : World) (pairs : HasMutualPairs w) where
       at (Some p) row is = by_pair p p.pair refl row is
 
   -- a wait was made on a port whose other end this is exactly where it was made on the port's other end
-  turned : (b : Birth) (x : WaitRow) → is_across w b x ≡ is_the x.port (pair_of w b)
+  pub turned : (b : Birth) (x : WaitRow) → is_across w b x ≡ is_the x.port (pair_of w b)
   turned b x = either _ _ (one_way b x.port) (one_way x.port b)
 
   request-turned : (b : Birth) (x : WaitRow) → is_request_across b w x ≡ is_request x && is_the x.port (pair_of w b)
@@ -88,13 +88,13 @@ module _ (w : World) (pairs : HasMutualPairs w) where
 
 -- What is known of a wait that ends
 idle_taker : (k : model.WaitKind) (z received : Bool) → ((elim k [ model.Receive ↦ true | _ ↦ false ]) || (elim k [ model.Listen ↦ true | _ ↦ false ])) && z ≡ true
-    → ((elim k [ model.Request m ↦ true | _ ↦ false ]) || ((elim k [ model.Connect m offer ↦ true | _ ↦ false ]) || (elim k [ model.Accepted m reply ↦ true | _ ↦ false ]))) && not received ≡ false
+    → ((elim k [ model.Request m ↦ true | _ ↦ false ]) || ((elim k [ model.Event r ↦ true | _ ↦ false ]) || ((elim k [ model.Connect m offer ↦ true | _ ↦ false ]) || (elim k [ model.Accepted m reply ↦ true | _ ↦ false ])))) && not received ≡ false
 idle_taker model.Receive z received is = refl
 idle_taker model.Listen z received is = refl
 idle_taker b z received is = absurd (cc)
 
 idle_receive : (k : model.WaitKind) (z received : Bool) → (elim k [ model.Receive ↦ true | _ ↦ false ]) && z ≡ true
-    → ((elim k [ model.Request m ↦ true | _ ↦ false ]) || ((elim k [ model.Connect m offer ↦ true | _ ↦ false ]) || (elim k [ model.Accepted m reply ↦ true | _ ↦ false ]))) && not received ≡ false
+    → ((elim k [ model.Request m ↦ true | _ ↦ false ]) || ((elim k [ model.Event r ↦ true | _ ↦ false ]) || ((elim k [ model.Connect m offer ↦ true | _ ↦ false ]) || (elim k [ model.Accepted m reply ↦ true | _ ↦ false ])))) && not received ≡ false
 idle_receive model.Receive z received is = refl
 idle_receive b z received is = absurd (cc)
 

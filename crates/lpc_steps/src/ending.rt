@@ -74,7 +74,7 @@ fn first_to_end(world: &World, port: Key, ending: Ending) -> Option<u32>
 }
 
 /// A port's other end.
-fn across(world: &World, port: Key) -> Option<Key>
+pub(crate) fn across(world: &World, port: Key) -> Option<Key>
     requires { stands world.now.births.ports port ≡ true }
     ensures pair { some_birth world.now result ≡ pair_at world.now port }
     ensures stands { some_stands world.now.births.ports result ≡ true }
@@ -106,7 +106,7 @@ fn end_wait(world: &mut World, tid: u32, ending: Ending, out: &mut Entries)
     ensures births { world.new.births ≡ world.old.births }
     ensures calls { world.new.calls ≡ world.old.calls }
     ensures capacity { world.new.capacity ≡ world.old.capacity }
-    ensures made { world.new.made ≡ world.old.made }
+    ensures made { world.new.made ≤ world.old.made }
     ensures spare { out.new.spare + 1 ≡ out.old.spare }
 {
     match ending {
@@ -131,7 +131,7 @@ fn end_request(world: &mut World, tid: u32, status: Status, out: &mut Entries)
     ensures births { world.new.births ≡ world.old.births }
     ensures calls { world.new.calls ≡ world.old.calls }
     ensures capacity { world.new.capacity ≡ world.old.capacity }
-    ensures made { world.new.made ≡ world.old.made }
+    ensures made { world.new.made ≤ world.old.made }
     ensures spare { out.new.spare + 1 ≡ out.old.spare }
 {
     world.messages_withdraw(tid);
@@ -149,7 +149,7 @@ fn end_offered(world: &mut World, tid: u32, out: &mut Entries)
     ensures births { world.new.births ≡ world.old.births }
     ensures calls { world.new.calls ≡ world.old.calls }
     ensures capacity { world.new.capacity ≡ world.old.capacity }
-    ensures made { world.new.made ≡ world.old.made }
+    ensures made { world.new.made ≤ world.old.made }
     ensures spare { out.new.spare + 1 ≡ out.old.spare }
 {
     world.messages_withdraw(tid);
@@ -168,7 +168,7 @@ pub fn end_all(world: &mut World, port: Key, ending: Ending, out: &mut Entries)
     ensures births { world.new.births ≡ world.old.births }
     ensures calls { world.new.calls ≡ world.old.calls }
     ensures capacity { world.new.capacity ≡ world.old.capacity }
-    ensures made { world.new.made ≡ world.old.made }
+    ensures made { world.new.made ≤ world.old.made }
     ensures spare { out.new.spare + length world.old.rows.waits
         ≡ out.old.spare + length world.new.rows.waits }
 {

@@ -5,7 +5,7 @@ ghost use Rattle.lpc_model.specs.Found.{is_table, is_the, waits_as};
 ghost use Rattle.lpc_model.specs.Tests as tests;
 ghost use Rattle.lpc_steps.specs.Clauses.{IsUnderName, fits_at};
 ghost use Rattle.lpc_steps.specs.Replies.{answered_by};
-ghost use Rattle.lpc_waits.specs.Table.{is_request};
+ghost use Rattle.lpc_waits.specs.Table.{is_asking};
 ghost use Rattle.lpc_rows.specs.Clauses.{Answers, FindsWait, IsOwnWait, birth_at, pair_at};
 ghost use Rattle.lpc_rows.specs.Kept.{has_queued, is_pending_in};
 ghost use Rattle.lpc_rows.specs.Names.{stands};
@@ -101,12 +101,12 @@ fn is_pair(world: &World, port: Key, other: Key) -> bool
     }
 }
 
-/// The wait is for the reply to a request that was received.
+/// The wait is for the reply to a request or an event that was received.
 fn is_answerable(wait: Wait) -> bool
-    ensures { result ≡ (is_request wait.kind && wait.received) }
+    ensures { result ≡ (is_asking wait.kind && wait.received) }
 {
     match wait.kind {
-        WaitKind::Request => wait.received,
+        WaitKind::Request | WaitKind::Event(_) => wait.received,
         WaitKind::Receive | WaitKind::Listen | WaitKind::Connect => false,
     }
 }

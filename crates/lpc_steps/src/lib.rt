@@ -7,6 +7,7 @@ mod ending;
 mod entering;
 mod fitting;
 mod handles;
+mod marking;
 mod message;
 mod offers;
 mod queues;
@@ -21,6 +22,7 @@ pub use fitting::{client_test, fitted, reply_test};
 pub use handles::{
     give_handle, handles_test, kind_of, object_at, own_handle, port_at, section_at, token_at,
 };
+pub use marking::{Marking, mark_all};
 pub use message::{read_message, wants_answer};
 pub use offers::{
     Wanted, base_of, map_view, mapping_status, offer_test, size_of_view, view_beside, view_test,

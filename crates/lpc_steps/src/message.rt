@@ -40,6 +40,6 @@ pub fn wants_answer(message: &Message) -> bool
 {
     matches!(
         message.header.kind,
-        kind::REQUEST | kind::CONNECTION_REQUEST
+        kind::REQUEST | kind::CONNECTION_REQUEST | kind::EXCEPTION | kind::DEBUG_EVENT
     )
 }

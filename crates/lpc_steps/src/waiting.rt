@@ -4,10 +4,11 @@ ghost use Rattle.lpc_base.specs.Rows.{has};
 ghost use Rattle.lpc_model.specs.Basics.{Awaits, DropsOwned, Wakes, told};
 ghost use Rattle.lpc_model.specs.Entering.{end_connect, shown as shown_to, takes};
 ghost use Rattle.lpc_model.specs.Found.{is_connect, is_live_thread, waits_as};
+ghost use Rattle.lpc_waits.specs.Table.{is_event};
 ghost use Rattle.lpc_steps.specs.Clauses.{has_no_read, waking};
 ghost use Rattle.lpc_rows.specs.Clauses.{HasHandleRoom, HasSmallLoad, IsOwnWait, after, connects, has_table, new_wait, pends};
 ghost use Rattle.lpc_rows.specs.Does.{Took};
-ghost use Rattle.lpc_rows.specs.Kept.{CanMake, IsMakingStep, IsStep, StaysReady, StaysUnqueued, has_queued, is_unsent};
+ghost use Rattle.lpc_rows.specs.Kept.{CanMake, IsEndingStep, IsMakingStep, StaysReady, StaysUnqueued, has_queued, is_unsent};
 ghost use Rattle.lpc_rows.specs.Lawful.{is_quiet};
 ghost use Rattle.lpc_rows.specs.Names.{stands};
 ghost use Rattle.lpc_rows.specs.Ready.{waiter};
@@ -39,6 +40,7 @@ fn call_of_wait(kind: WaitKind) -> CallName
         WaitKind::Receive => CallName::NtReplyWaitReceivePort,
         WaitKind::Listen => CallName::NtListenPort,
         WaitKind::Connect => CallName::NtConnectPort,
+        WaitKind::Event(_) => CallName::Raise,
     }
 }
 
@@ -55,10 +57,12 @@ pub fn taken_fields(world: &World, tid: u32, context: u32, message: &Message) ->
     }
 }
 
-/// A live thread that doesn't wait begins to wait with a message, which its wait keeps.
+/// A live thread that doesn't wait begins to wait with a message, which its wait keeps; it waits for nothing made of an
+/// event.
 pub fn wait_with(world: &mut World, tid: u32, wait: Wait, message: &Message)
     requires live { has (is_live_thread tid) world.old.rows.threads ≡ true }
     requires ready { has (waits_as tid) world.old.rows.waits ≡ false }
+    requires plain { is_event wait.kind ≡ false }
     requires budget { CanMake world.old }
     requires port { stands world.old.births.ports wait.port ≡ true }
     requires queue { stands world.old.births.ports wait.queue ≡ true }
@@ -83,7 +87,7 @@ pub fn wake(world: &mut World, tid: u32, status: Status, fields: Fields, out: &m
     requires plain { has_no_read fields ≡ true }
     requires left { has_queued world.old.rows tid ≡ false }
     ensures step { let left = after world.old (waking world.old tid status fields) in
-        IsStep left world.old world.new }
+        IsEndingStep left world.old world.new }
     ensures loose { world.new.loose ≡ true }
     ensures list { out.new.list ≡ out.old.list ++ told (waking world.old tid status fields) }
     ensures spare { out.new.spare + 1 ≡ out.old.spare }
@@ -107,7 +111,8 @@ pub(crate) fn tell_wake(
     requires spare { 1 ≤ out.old.spare }
     requires plain { has_no_read fields ≡ true }
     requires left { has_queued world.old.rows tid ≡ false }
-    ensures step { IsStep (after world.old (Wakes tid call status fields)) world.old world.new }
+    ensures step { let left = after world.old (Wakes tid call status fields) in
+        IsEndingStep left world.old world.new }
     ensures loose { world.new.loose ≡ true }
     ensures list { out.new.list ≡ out.old.list ++ told (Wakes tid call status fields) }
     ensures spare { out.new.spare + 1 ≡ out.old.spare }
@@ -138,7 +143,7 @@ pub fn end_connect(world: &mut World, tid: u32, info: &[u8], out: &mut Entries)
     ensures births { world.new.births ≡ world.old.births }
     ensures calls { world.new.calls ≡ world.old.calls }
     ensures capacity { world.new.capacity ≡ world.old.capacity }
-    ensures made { world.new.made ≡ world.old.made }
+    ensures made { world.new.made ≤ world.old.made }
     ensures spare { out.new.spare + 1 ≡ out.old.spare }
 {
     let port = world.waiting(tid).port;

@@ -3,8 +3,9 @@ use Rattle.lpc_model.specs.Found.{handles_of}
 use Rattle.lpc_model.specs.World.{World}
 use Rattle.lpc_model.proofs.Steps.Ending.{first-at, rows-left}
 use Rattle.lpc_rows.specs.Clauses.{row_shown}
+use Rattle.lpc_rows.specs.Capacity.{but_names}
 use Rattle.lpc_rows.specs.Does.{Left}
-use Rattle.lpc_closing.proofs.Turns.{closed-can, head-is, head-none, none-closed, one-closed, table-left}
+use Rattle.lpc_closing.proofs.Turns.{closed-can, head-is, head-none, let-can, let-go, none-closed, one-closed, table-left}
 use Rattle.lpc_closing.proofs.process.end_process.Goals as goal
 
 pub close_handle-requires-clause-found : goal.close_handle-requires-clause-found
@@ -12,6 +13,22 @@ close_handle-requires-clause-found c =
     let w = c.loop-value.world.rows in
     let r = row_shown c.loop-value.world c.in-Some.value c.in-Some.row in
     first-at w c.args.pid r (drop 1 (handles_of w c.args.pid)) (head-is (handles_of w c.args.pid) r c.in-Some.ensures.handle)
+
+pub loop-value-init : goal.loop-value-init
+loop-value-init c =
+    let w = c.args.world.now in
+    let v = c.procs_let_go.new.self in
+    let rows = c.procs_let_go.ensures.step.rows in
+    let waits = ap (λ (u : World). length u.waits) rows in
+    record {
+      table = rw rows c.requires.table;
+      can = rw rows (let-can w.rows c.args.pid c.requires.can);
+      leaves = let-go w.rows v.rows c.args.pid c.args.out.now.list w.loose v.loose rows c.procs_let_go.ensures.loose;
+      calls = c.procs_let_go.ensures.step.calls;
+      capacity = ap but_names c.procs_let_go.ensures.capacity;
+      made = omega (arith, c.procs_let_go.ensures.step.made);
+      spare = omega (arith, waits);
+    }
 
 pub loop-value-smaller : goal.loop-value-smaller
 loop-value-smaller c =

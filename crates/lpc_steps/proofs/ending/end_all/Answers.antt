@@ -33,7 +33,7 @@ loop-tid-preserved c =
       births = c.end_wait.ensures.births ∙ c.loop-tid.invariant.births;
       calls = c.end_wait.ensures.calls ∙ c.loop-tid.invariant.calls;
       capacity = c.end_wait.ensures.capacity ∙ c.loop-tid.invariant.capacity;
-      made = c.end_wait.ensures.made ∙ c.loop-tid.invariant.made;
+      made = omega (arith, c.end_wait.ensures.made, c.loop-tid.invariant.made);
       spare = omega (arith, fewer, c.end_wait.ensures.spare, c.loop-tid.invariant.spare);
     }
 

@@ -1,4 +1,4 @@
-use Rattle.std.proofs.Common.{◌≡◌, ◌+◌, true, length}
+use Rattle.std.proofs.Common.{◌≡◌, ◌≤◌, ◌+◌, true, length}
 use Rattle.lpc_rows.specs.Closing.{HasMutualPairs}
 use Rattle.lpc_steps.specs.Closing.{end_all}
 use Rattle.lpc_rows.specs.Does.{left_by}
@@ -17,7 +17,7 @@ invariant-loop-tid l = record {
   births : l.world.births ≡ l.fn.world.births;
   calls : l.world.calls ≡ l.fn.world.calls;
   capacity : l.world.capacity ≡ l.fn.world.capacity;
-  made : l.world.made ≡ l.fn.world.made;
+  made : l.world.made ≤ l.fn.world.made;
   spare : l.out.spare + length l.fn.world.rows.waits ≡ l.fn.out.spare + length l.world.rows.waits;
 }
 
