@@ -1,10 +1,8 @@
 -- What a call on a thread is of: the caller itself, and what is found by a birth.
 use Rattle.std.proofs.Common.{◌≡◌, ◌∙◌, ℕ, List, [], ◌∷◌, Bool, true, false, Option, Some, None, refl, ap, subst, sym, arith}
 use Rattle.std.specs.Prelude.{Ok, ◌==◌, option_map}
-use Rattle.lpc_base.specs.Rows.{first, has}
-use Rattle.lpc_base.proofs.RowMaps.{every-first}
-use Rattle.lpc_model.specs.Found.{is_live_thread, is_table, is_thread, live_thread}
-use Rattle.lpc_model.specs.SoundWaits.{IsSoundWorld, has_home}
+use Rattle.lpc_base.specs.Rows.{first}
+use Rattle.lpc_model.specs.Found.{is_live_thread, is_thread, live_thread}
 use Rattle.lpc_model.specs.Targets.{thread_target}
 use Rattle.lpc_model.specs.World.{ThreadRow, World}
 use Rattle.lpc_model.specs.declared.line.ProcArg.{ProcArg}
@@ -16,14 +14,12 @@ use Rattle.lpc_death.specs.Ends.{living_thread}
 -- the row that is seen so
 record IsSeen (o : Option ThreadRow) (t : BornThread) : Type 0 where
   found : o ≡ Some (thread_in o)
-  process : let r = thread_in o in r.process ≡ t.process
   live : let r = thread_in o in r.live ≡ t.live
 
 seen : (o : Option ThreadRow) (t : BornThread) → option_map born_thread o ≡ Some t → IsSeen o t
 seen None t is = absurd (cc)
 seen (Some r) t is = let same : born_thread r ≡ t = cc in record {
   found = refl;
-  process = ap (λ (x : BornThread). x.process) same;
   live = ap (λ (x : BornThread). x.live) same;
 }
 
@@ -43,24 +39,19 @@ live-first n r (t ∷ ts) is live = at (t.number == n) refl is (λ later. live-f
 pub record IsAimed (w : World) (t : BornThread) : Type 0 where
   pub live : live_thread w t.number ≡ Some (caller w t.number)
   pub row : caller w t.number ≡ thread_in (thread_row w t.number)
-  pub process : let r = caller w t.number in r.process ≡ t.process
   pub lives : let r = caller w t.number in r.live ≡ true
-  pub table : has (is_table t.process) w.handles ≡ true
 
-pub aimed : (w : World) (t : BornThread) → IsSoundWorld w → option_map born_thread (thread_row w t.number) ≡ Some t → t.live ≡ true → IsAimed w t
+pub aimed : (w : World) (t : BornThread) → option_map born_thread (thread_row w t.number) ≡ Some t → t.live ≡ true → IsAimed w t
 unfolding caller
-aimed w t s is live =
+aimed w t is live =
     let k = seen (thread_row w t.number) t is in
     let lives = k.live ∙ live in
     let there = live-first t.number (thread_in (thread_row w t.number)) w.threads k.found lives in
     let row : thread_in (live_thread w t.number) ≡ thread_in (thread_row w t.number) = ap thread_in there in
-    let home = every-first (has_home w) (is_thread t.number) w.threads (thread_in (thread_row w t.number)) s.homes k.found in
     record {
       live = there ∙ ap (λ r. Some r) (sym row);
       row = row;
-      process = ap (λ (r : ThreadRow). r.process) row ∙ k.process;
       lives = ap (λ (r : ThreadRow). r.live) row ∙ lives;
-      table = subst (λ n. has (is_table n) w.handles ≡ true) k.process home;
     }
 
 -- a target that lives is what is to end

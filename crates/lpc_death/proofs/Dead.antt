@@ -10,7 +10,7 @@ use Rattle.lpc_base.proofs.RowMaps.{every-change_to}
 use Rattle.lpc_base.proofs.RowWords.{change-none, count-bound, first-passes, none-counted}
 use Rattle.lpc_model.specs.declared.entry.Entry.{Entry}
 use Rattle.lpc_model.specs.declared.entry.Entry.TheVariants.{Died}
-use Rattle.lpc_model.specs.Basics.{Basic, Cuts, Dies, DropsOwned, Empties, Steps, Unbinds, Wakes, Withdraws, basic, cut, doing, ended, in_turn, is_end_of, world_after, ◌▹◌}
+use Rattle.lpc_model.specs.Basics.{Basic, Cuts, Dies, DropsOwned, Empties, Marks, Steps, Unbinds, Wakes, Withdraws, basic, cut, doing, ended, in_turn, is_end_of, world_after, ◌▹◌}
 use Rattle.lpc_model.specs.Close.{cut_pair, drop_owned}
 use Rattle.lpc_model.specs.Death.{die, dying, end_client}
 use Rattle.lpc_model.specs.Found.{is_accepted, is_connect, is_live_thread, is_offered, wait_of, is_thread, lives_in, live_threads, waits_as}
@@ -144,6 +144,7 @@ keeps_pairs (Empties q) = true
 keeps_pairs (Unbinds b) = true
 keeps_pairs (Cuts b) = true
 keeps_pairs (DropsOwned b) = true
+keeps_pairs (Marks who) = true
 keeps_pairs b = false
 
 away-pairs : (x : Basic) → takes_away x ≡ true → keeps_pairs x ≡ true
@@ -152,6 +153,7 @@ away-pairs (Withdraws who) is = refl
 away-pairs (Empties q) is = refl
 away-pairs (Unbinds b) is = refl
 away-pairs (DropsOwned b) is = refl
+away-pairs (Marks who) is = refl
 away-pairs x is = absurd (cc)
 
 pairs-step : (w : World) (x : Basic) → keeps_pairs x ≡ true → HasMutualPairs w → HasMutualPairs (basic w x)
@@ -162,6 +164,7 @@ pairs-step w (Empties q) is all = pairs-kept w (basic w (Empties q)) refl all
 pairs-step w (Unbinds b) is all = pairs-kept w (basic w (Unbinds b)) refl all
 pairs-step w (Cuts b) is all = cut-pairs w b all
 pairs-step w (DropsOwned b) is all = pairs-kept w (basic w (DropsOwned b)) refl all
+pairs-step w (Marks who) is all = pairs-kept w (basic w (Marks who)) refl all
 pairs-step w x is all = absurd (cc)
 
 pairs-all : (w : World) (bs : List Basic) → every keeps_pairs bs ≡ true → HasMutualPairs w → HasMutualPairs (world_after w bs)

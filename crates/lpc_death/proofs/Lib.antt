@@ -7,3 +7,5 @@ pub mod Registrations
 pub mod Dead
 pub mod Lives
 pub mod Makes
+mod Stands
+mod Doomed

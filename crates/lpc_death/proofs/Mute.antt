@@ -7,7 +7,7 @@ use Rattle.lpc_base.proofs.RowWords.{every-append}
 use Rattle.lpc_base.proofs.Bools.{second-true}
 use Rattle.lpc_model.specs.declared.entry.Outcome.TheVariants as outcome
 use Rattle.lpc_model.specs.World.{Birth, HandleRow, MessageRow, PortRow, ThreadRow, WaitRow, World}
-use Rattle.lpc_model.specs.Basics.{Basic, DropsHandle, DropsOwned, Empties, Receives, Tells, Unbinds, Unregisters, Wakes, Withdraws, basic, in_turn, outcome_of}
+use Rattle.lpc_model.specs.Basics.{Basic, DropsHandle, DropsOwned, Empties, LetsGo, Marks, Receives, Tells, Unbinds, Unregisters, Wakes, Withdraws, basic, in_turn, outcome_of}
 use Rattle.lpc_model.specs.Close.{close_handle, close_port, is_last, post_closed, closing_post}
 use Rattle.lpc_model.specs.Death.{die, end_process, end_threads, post_death, post_deaths, death_post}
 use Rattle.lpc_model.specs.Entering.{enter, given_steps, received_steps, shown, takes, woken}
@@ -36,6 +36,7 @@ mute-away (Withdraws who) is = refl
 mute-away (Empties q) is = refl
 mute-away (Unbinds b) is = refl
 mute-away (DropsOwned b) is = refl
+mute-away (Marks who) is = refl
 mute-away x is = absurd (cc)
 
 -- a message enters
@@ -53,7 +54,8 @@ mute-given m x =
     (λ x. every-append is_mute (received_steps m) _ (mute-receipt m) refl)
     (λ x. every-append is_mute (received_steps m) _ (mute-receipt m) refl)
     (λ x r offer. every-append is_mute (received_steps m) _ (mute-receipt m) refl)
-    (λ x r reply. every-append is_mute (received_steps m) _ (mute-receipt m) refl) x
+    (λ x r reply. every-append is_mute (received_steps m) _ (mute-receipt m) refl)
+    (λ x r. every-append is_mute (received_steps m) _ (mute-receipt m) refl) x
 
 mute-enter : (m : MessageRow) (w : World) → AreMute (enter m w)
 mute-enter m w = at (first (takes m) w.waits)
@@ -95,7 +97,9 @@ mute-end pid code ts w =
     (at (not (is_live two pid)) two))
   where
     at : (last : Bool) (v : World) → AreMute (when last (end_process pid v))
-    at true v = every-append is_mute (in_turn (close_handle pid) (handles_of v pid) v) _ (turn-pass is_mute (close_handle pid) (λ r u. mute-handle pid r u) (handles_of v pid) v) refl
+    at true v =
+        let u = basic v (LetsGo pid) in
+        every-append is_mute (in_turn (close_handle pid) (handles_of u pid) u) _ (turn-pass is_mute (close_handle pid) (λ r x. mute-handle pid r x) (handles_of u pid) u) refl
     at false v = refl
 
 pub ends-gone : (pid : ℕ) (code : Status) (ts : List ThreadRow) (w : World) → outcome.Gone ≡ outcome_of (end_threads pid code ts w)

@@ -16,7 +16,7 @@ use Rattle.lpc_model.specs.Listed.{Listed}
 use Rattle.lpc_model.specs.Message.{asks}
 use Rattle.lpc_model.specs.declared.message.Message.{Message}
 use Rattle.lpc_slots.specs.declared.Key.{Key}
-use Rattle.lpc_model.specs.World.{Accepted, Birth, Connect, Listen, MessageRow, PortRow, Receive, Request, ThreadRow, WaitRow, World}
+use Rattle.lpc_model.specs.World.{Accepted, Birth, Connect, Event, Listen, MessageRow, PortRow, Receive, Request, ThreadRow, WaitRow, World}
 use Rattle.lpc_model.proofs.Lives.SingleRegistrations.{different-less}
 use Rattle.lpc_model.proofs.Sound.Worlds.{by_kind}
 use Rattle.lpc_model.proofs.Calls.Usable.{port-birth}
@@ -71,7 +71,8 @@ entered-threads m w = at (first (takes m) w.waits)
         by_kind (λ x. (world_after (basic w (Enters m)) (given_steps x m ++ woken SUCCESS (shown x m) x ∷ [])).threads ≡ w.threads)
         (λ x r. received (asks m.message) took (record x { kind = Request r }) refl) (λ x. received (asks m.message) took (record x { kind = Receive }) refl)
         (λ x. received (asks m.message) (basic (basic w (Enters m)) (TakesConnect m.queue)) (record x { kind = Listen }) refl)
-        (λ x r offer. received (asks m.message) took (record x { kind = Connect r offer }) refl) (λ x r reply. received (asks m.message) took (record x { kind = Accepted r reply }) refl) x
+        (λ x r offer. received (asks m.message) took (record x { kind = Connect r offer }) refl) (λ x r reply. received (asks m.message) took (record x { kind = Accepted r reply }) refl)
+        (λ x r. received (asks m.message) took (record x { kind = Event r }) refl) x
 
     at : (o : Option WaitRow) → (world_after w (Enters m ∷ given o (λ x. given_steps x m ++ woken SUCCESS (shown x m) x ∷ []))).threads ≡ w.threads
     at None = refl

@@ -1,7 +1,7 @@
 -- Threads of a process end, and the process with its last one: what is to end, what that needs of the world, and what it does
 -- once they died.
 use Rattle.std.specs.Prelude.{ℕ, not, Bool, List, [], ◌∷◌, Result, Ok, if◌then◌else◌}
-use Rattle.lpc_base.specs.Rows.{when}
+use Rattle.lpc_base.specs.Rows.{given, when}
 use Rattle.lpc_model.specs.declared.entry.CallName.{CallName}
 use Rattle.lpc_model.specs.declared.entry.Entry.{Entry}
 use Rattle.lpc_model.specs.declared.entry.Entry.TheVariants.{Answer}
@@ -22,6 +22,7 @@ use Rattle.lpc_closing.specs.Closing.{CanCloseAll}
 use Rattle.lpc_death.specs.Dying.{telling_all}
 use Rattle.lpc_model.specs.Death.{end_process}
 use Rattle.lpc_model.specs.Lawful.{HasThreadsOnce}
+use Rattle.lpc_model.specs.Settle.{doomed_processes, end_doomed, least}
 
 -- threads can end: besides what the closing of all handles needs, no two threads have one number, live threads alone have
 -- registrations, and a thread has a port registered once
@@ -34,6 +35,10 @@ pub record CanEnd (w : World) : Type 0 where
 -- all that isn't told yet of the threads of a process is told, and the process ends if none of them lives
 abbrev pub telling_ends : ℕ → Steps
 telling_ends pid = telling_all pid ▹ provided (λ w. not (is_live w pid)) (end_process pid)
+
+-- the doomed process of the least number ends; nothing does where none is doomed
+abbrev pub doomed_turn : Steps
+doomed_turn w = given (least (doomed_processes w)) (λ p. end_doomed p w)
 
 -- the live thread that a call is to end, and the live process
 abbrev pub living_thread : World → ThreadRow → ProcArg → Result ThreadRow Status

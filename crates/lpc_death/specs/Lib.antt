@@ -1,3 +1,4 @@
 pub mod Room
 pub mod Dying
 pub mod Ends
+pub mod Sets

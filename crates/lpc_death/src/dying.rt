@@ -27,7 +27,7 @@ fn end_thread(world: &mut World, tid: u32, code: Status, out: &mut Entries)
     ensures births { world.new.births ≡ world.old.births }
     ensures calls { world.new.calls ≡ world.old.calls }
     ensures capacity { world.new.capacity ≡ world.old.capacity }
-    ensures made { world.new.made ≡ world.old.made }
+    ensures made { world.new.made ≤ world.old.made }
     ensures spare { out.new.spare + 1 ≡ out.old.spare }
 {
     world.messages_withdraw(tid);
@@ -60,7 +60,7 @@ pub(crate) fn die(world: &mut World, tid: u32, code: Status, out: &mut Entries)
     ensures births { world.new.births ≡ world.old.births }
     ensures calls { world.new.calls ≡ world.old.calls }
     ensures capacity { world.new.capacity ≡ world.old.capacity }
-    ensures made { world.new.made ≡ world.old.made }
+    ensures made { world.new.made ≤ world.old.made }
     ensures spare { out.old.spare + ending_entries world.new.rows
         ≤ out.new.spare + ending_entries world.old.rows }
 {
@@ -81,7 +81,7 @@ fn die_accepted(world: &mut World, tid: u32, port: Key, code: Status, out: &mut 
     ensures births { world.new.births ≡ world.old.births }
     ensures calls { world.new.calls ≡ world.old.calls }
     ensures capacity { world.new.capacity ≡ world.old.capacity }
-    ensures made { world.new.made ≡ world.old.made }
+    ensures made { world.new.made ≤ world.old.made }
     ensures spare { out.old.spare + ending_entries world.new.rows
         ≤ out.new.spare + ending_entries world.old.rows }
 {
@@ -99,7 +99,7 @@ fn die_unaccepted(world: &mut World, tid: u32, code: Status, out: &mut Entries)
     ensures births { world.new.births ≡ world.old.births }
     ensures calls { world.new.calls ≡ world.old.calls }
     ensures capacity { world.new.capacity ≡ world.old.capacity }
-    ensures made { world.new.made ≡ world.old.made }
+    ensures made { world.new.made ≤ world.old.made }
     ensures spare { out.old.spare + ending_entries world.new.rows
         ≤ out.new.spare + ending_entries world.old.rows }
 {
@@ -119,7 +119,7 @@ pub(crate) fn die_all(world: &mut World, pid: u32, code: Status, out: &mut Entri
     ensures births { world.new.births ≡ world.old.births }
     ensures calls { world.new.calls ≡ world.old.calls }
     ensures capacity { world.new.capacity ≡ world.old.capacity }
-    ensures made { world.new.made ≡ world.old.made }
+    ensures made { world.new.made ≤ world.old.made }
     ensures spare { out.old.spare + ending_entries world.new.rows
         ≤ out.new.spare + ending_entries world.old.rows }
 {

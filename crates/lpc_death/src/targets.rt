@@ -5,7 +5,7 @@ ghost use Rattle.lpc_death.specs.Ends.{living_process, living_thread};
 ghost use Rattle.lpc_model.specs.Found.{is_table, live_thread};
 ghost use Rattle.lpc_model.specs.SoundWaits.{IsSoundWorld};
 ghost use Rattle.lpc_model.specs.Targets as targets;
-ghost use Rattle.lpc_rows.specs.Clauses.{Answers, born_thread, thread_row};
+ghost use Rattle.lpc_rows.specs.Clauses.{Answers, born_thread, has_process, thread_row};
 ghost use Rattle.lpc_rows.specs.Ready.{caller, is_ready, thread_in};
 ghost use Rattle.lpc_model.specs.declared.line.ProcArg.TheVariants.{By};
 
@@ -48,6 +48,7 @@ pub(crate) fn living_process(world: &World, by: u32, target: ProcArg) -> Result<
     requires ready { is_ready world.now.rows by ≡ true }
     requires sound { IsSoundWorld world.now.rows }
     ensures process { result ≡ living_process world.now.rows (caller world.now.rows by) target }
+    ensures stands { IfOk result (λ pid. has_process world.now.rows pid ≡ true) }
     ensures table { IfOk result (λ pid. has (is_table pid) world.now.rows.handles ≡ true) }
 {
     let pid = process_target(world, by, target)?;
@@ -74,33 +75,23 @@ fn named_thread(world: &World, by: u32, handle: u32) -> Result<BornThread, Statu
     }
 }
 
-/// The thread that a call is to end, which lives: the caller, or the one that a handle names. INVALID_HANDLE where no
-/// handle of the caller's process has the value, OBJECT_TYPE_MISMATCH where it names no thread, ACCESS_DENIED where it
-/// lacks the right, INVALID_CID where the thread has ended.
-pub(crate) fn living_thread(world: &World, by: u32, target: ProcArg) -> Result<BornThread, Status>
+/// The number of the thread that a call is to end, which lives: the caller, or the one that a handle names.
+/// INVALID_HANDLE where no handle of the caller's process has the value, OBJECT_TYPE_MISMATCH where it names no thread,
+/// ACCESS_DENIED where it lacks the right, INVALID_CID where the thread has ended.
+pub(crate) fn living_thread(world: &World, by: u32, target: ProcArg) -> Result<u32, Status>
     requires ready { is_ready world.now.rows by ≡ true }
-    requires sound { IsSoundWorld world.now.rows }
-    ensures thread { Answers result (λ t. caller world.now.rows t.number)
+    ensures thread { Answers result (caller world.now.rows)
         (living_thread world.now.rows (caller world.now.rows by) target) }
-    ensures live { IfOk result (λ t.
-        live_thread world.now.rows t.number ≡ Some (caller world.now.rows t.number)) }
-    ensures shown { IfOk result (λ t. let row = caller world.now.rows t.number in
-        row.process ≡ t.process) }
-    ensures table { IfOk result (λ t. has (is_table t.process) world.now.rows.handles ≡ true) }
+    ensures live { IfOk result (λ n.
+        live_thread world.now.rows n ≡ Some (caller world.now.rows n)) }
 {
     let handle = match target {
-        ProcArg::Current => {
-            return Ok(BornThread {
-                number: by,
-                process: world.caller(by).process,
-                live: true,
-            });
-        }
+        ProcArg::Current => return Ok(by),
         ProcArg::By(handle) => handle,
     };
     let thread = named_thread(world, by, handle)?;
     if !thread.live {
         return Err(INVALID_CID);
     }
-    Ok(thread)
+    Ok(thread.number)
 }

@@ -4,16 +4,18 @@ ghost use Rattle.lpc_base.specs.Rows.{count, has};
 ghost use Rattle.lpc_base.specs.declared.limits.TheConstants.{LINES_LIMIT};
 ghost use Rattle.lpc_closing.specs.Closing.{CanCloseAll};
 ghost use Rattle.lpc_death.specs.Dying.{ending_entries};
-ghost use Rattle.lpc_death.specs.Ends.{CanEnd, ended_outcome, told_unless, telling_ends};
+ghost use Rattle.lpc_death.specs.Ends.{CanEnd, doomed_turn, ended_outcome, told_unless, telling_ends};
 ghost use Rattle.lpc_model.specs.Deaths.{HasSingleRegistrations};
 ghost use Rattle.lpc_model.specs.Death as model;
 ghost use Rattle.lpc_model.specs.Found.{is_table, live_thread, live_threads};
 ghost use Rattle.lpc_model.specs.Lines.{terminate_process, terminate_thread};
 ghost use Rattle.lpc_rows.specs.Called.{Served};
+ghost use Rattle.lpc_rows.specs.Clauses.{has_process};
 ghost use Rattle.lpc_rows.specs.Does.{Took};
 ghost use Rattle.lpc_rows.specs.Capacity.{but_names};
 ghost use Rattle.lpc_rows.specs.Kept.{CanMake, is_alive};
 ghost use Rattle.lpc_rows.specs.Ready.{HasRoom, caller, is_ready};
+ghost use Rattle.lpc_steps.specs.Settling.{CanSettle};
 
 use crate::dying::{die, die_all};
 use crate::targets::{living_process, living_thread};
@@ -27,6 +29,7 @@ use lpc_world::World;
 /// Threads of a process have ended: the ports that they registered are told of it, and the process ends where none of
 /// its threads lives. It takes no memory.
 fn end_told(world: &mut World, pid: u32, out: &mut Entries)
+    requires process { has_process world.old.rows pid ≡ true }
     requires table { has (is_table pid) world.old.rows.handles ≡ true }
     requires can { CanCloseAll world.old.rows }
     requires single { HasSingleRegistrations world.old.rows }
@@ -48,29 +51,31 @@ fn end_told(world: &mut World, pid: u32, out: &mut Entries)
 }
 
 /// A live thread ends: it dies, the ports that it registered are told of it, and its process ends with its last thread.
-fn end_thread(world: &mut World, tid: u32, pid: u32, code: Status, out: &mut Entries)
+fn end_thread(world: &mut World, tid: u32, code: Status, out: &mut Entries)
     requires live { let t = caller world.old.rows tid in
         live_thread world.old.rows tid ≡ Some t }
-    requires own { let t = caller world.old.rows tid in
-        t.process ≡ pid }
-    requires table { has (is_table pid) world.old.rows.handles ≡ true }
     requires can { CanEnd world.old.rows }
     requires spare { ending_entries world.old.rows ≤ out.old.spare }
     requires budget { CanMake world.old }
     ensures took { let t = caller world.old.rows tid in
-        let steps = model.end_threads pid code (t ∷ []) world.old.rows in
+        let steps = model.end_threads t.process code (t ∷ []) world.old.rows in
         Took steps world.old world.new out.old out.new }
     ensures calls { world.new.calls ≡ world.old.calls }
     ensures capacity { but_names world.new.capacity ≡ but_names world.old.capacity }
+    ensures made { world.new.made ≤ world.old.made }
     ensures spare { out.old.spare + ending_entries world.new.rows
         ≤ out.new.spare + ending_entries world.old.rows }
 {
+    let Some(thread) = world.live_thread(tid) else {
+        unreachable!()
+    };
     die(world, tid, code, out);
-    end_told(world, pid, out);
+    end_told(world, thread.process, out);
 }
 
 /// The live threads of a process end, as `end_thread` ends one.
 fn end_threads(world: &mut World, pid: u32, code: Status, out: &mut Entries)
+    requires process { has_process world.old.rows pid ≡ true }
     requires table { has (is_table pid) world.old.rows.handles ≡ true }
     requires can { CanEnd world.old.rows }
     requires spare { ending_entries world.old.rows ≤ out.old.spare }
@@ -80,11 +85,30 @@ fn end_threads(world: &mut World, pid: u32, code: Status, out: &mut Entries)
         Took steps world.old world.new out.old out.new }
     ensures calls { world.new.calls ≡ world.old.calls }
     ensures capacity { but_names world.new.capacity ≡ but_names world.old.capacity }
+    ensures made { world.new.made ≤ world.old.made }
     ensures spare { out.old.spare + ending_entries world.new.rows
         ≤ out.new.spare + ending_entries world.old.rows }
 {
     die_all(world, pid, code, out);
     end_told(world, pid, out);
+}
+
+/// Of the live processes that are to end, the one of the least number ends with its code; where none is to end, nothing
+/// happens. It takes no memory, and makes no row but the messages that were owed.
+pub fn end_doomed(world: &mut World, out: &mut Entries)
+    requires can { CanEnd world.old.rows }
+    requires spare { ending_entries world.old.rows ≤ out.old.spare }
+    requires budget { CanMake world.old }
+    ensures took { Took (doomed_turn world.old.rows) world.old world.new out.old out.new }
+    ensures calls { world.new.calls ≡ world.old.calls }
+    ensures capacity { but_names world.new.capacity ≡ but_names world.old.capacity }
+    ensures made { world.new.made ≤ world.old.made }
+    ensures spare { out.old.spare + ending_entries world.new.rows
+        ≤ out.new.spare + ending_entries world.old.rows }
+{
+    if let Some(doomed) = world.least_doomed() {
+        end_threads(world, doomed.number, Status(doomed.code), out);
+    }
 }
 
 /// A call that doesn't end its own thread is answered; one that does ends without an answer.
@@ -128,15 +152,16 @@ pub fn nt_terminate_thread(
         Served by call result world.old world.new out.old out.new }
     ensures spare { out.old.spare + ending_entries world.new.rows
         ≤ out.new.spare + ending_entries world.old.rows + 1 }
+    ensures settles { CanSettle world.new out.new }
     ensures capacity { but_names world.new.capacity ≡ but_names world.old.capacity }
 {
     let caller = world.caller(by);
     world.begin_call();
     match living_thread(world, by, thread) {
         Ok(thread) => {
-            let own = thread.number == caller.number;
+            let own = thread == caller.number;
             let outcome = answer_unless(own, caller.number, CallName::NtTerminateThread, out);
-            end_thread(world, thread.number, thread.process, Status(code), out);
+            end_thread(world, thread, Status(code), out);
             outcome
         }
         Err(status) => refuse(caller.number, CallName::NtTerminateThread, status, out),
@@ -165,6 +190,7 @@ pub fn nt_terminate_process(
         Served by call result world.old world.new out.old out.new }
     ensures spare { out.old.spare + ending_entries world.new.rows
         ≤ out.new.spare + ending_entries world.old.rows + 1 }
+    ensures settles { CanSettle world.new out.new }
     ensures capacity { but_names world.new.capacity ≡ but_names world.old.capacity }
 {
     let caller = world.caller(by);

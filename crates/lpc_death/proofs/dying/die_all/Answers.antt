@@ -37,7 +37,7 @@ loop-tid-preserved c =
       births = c.die.ensures.births ∙ c.loop-tid.invariant.births;
       calls = c.die.ensures.calls ∙ c.loop-tid.invariant.calls;
       capacity = c.die.ensures.capacity ∙ c.loop-tid.invariant.capacity;
-      made = c.die.ensures.made ∙ c.loop-tid.invariant.made;
+      made = omega (arith, c.die.ensures.made, c.loop-tid.invariant.made);
       spare = omega (arith, c.die.ensures.spare, c.loop-tid.invariant.spare);
     }
 

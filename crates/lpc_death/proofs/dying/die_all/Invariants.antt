@@ -16,7 +16,7 @@ invariant-loop-tid l = record {
   births : l.world.births ≡ l.fn.world.births;
   calls : l.world.calls ≡ l.fn.world.calls;
   capacity : l.world.capacity ≡ l.fn.world.capacity;
-  made : l.world.made ≡ l.fn.world.made;
+  made : l.world.made ≤ l.fn.world.made;
   spare : l.fn.out.spare + ending_entries l.world.rows ≤ l.out.spare + ending_entries l.fn.world.rows;
 }
 

@@ -18,7 +18,7 @@ returns-clause-thread c =
     let w = c.args.world.now.rows in
     let t = c.in_ok-thread.thread in
     let lives : t.live ≡ true = grind (arith, c.if-not-thread.false) in
-    let k = aimed w t c.requires.sound c.in_ok-thread.ensures.row lives in
+    let k = aimed w t c.in_ok-thread.ensures.row lives in
     let found : thread_target w (caller w c.args.by) (By c.in-By.handle) ≡ Ok (caller w t.number) = c.in_ok-thread.ensures.thread ∙ ap (λ r. Ok r) (sym k.row) in
     rw (c.in-By.is) (target-lives w (caller w c.args.by) (caller w t.number) (By c.in-By.handle) found k.lives)
 
@@ -26,16 +26,4 @@ pub returns-clause-live : goal.returns-clause-live
 returns-clause-live c =
     let t = c.in_ok-thread.thread in
     let lives : t.live ≡ true = grind (arith, c.if-not-thread.false) in
-    let k = aimed c.args.world.now.rows t c.requires.sound c.in_ok-thread.ensures.row lives in k.live
-
-pub returns-clause-shown : goal.returns-clause-shown
-returns-clause-shown c =
-    let t = c.in_ok-thread.thread in
-    let lives : t.live ≡ true = grind (arith, c.if-not-thread.false) in
-    let k = aimed c.args.world.now.rows t c.requires.sound c.in_ok-thread.ensures.row lives in k.process
-
-pub returns-clause-table : goal.returns-clause-table
-returns-clause-table c =
-    let t = c.in_ok-thread.thread in
-    let lives : t.live ≡ true = grind (arith, c.if-not-thread.false) in
-    let k = aimed c.args.world.now.rows t c.requires.sound c.in_ok-thread.ensures.row lives in k.table
+    let k = aimed c.args.world.now.rows t c.in_ok-thread.ensures.row lives in k.live

@@ -6,8 +6,15 @@ use Rattle.lpc_steps.proofs.Composed.{took-then}
 use Rattle.lpc_death.specs.Dying.{dying_all}
 use Rattle.lpc_death.specs.Ends.{telling_ends}
 use Rattle.lpc_death.proofs.CanEnd.{died-can, died-single, died-table}
+use Rattle.lpc_death.proofs.Stands.{died-process}
 use Rattle.lpc_death.proofs.Untelling.{all-end}
 use Rattle.lpc_death.proofs.terminate.end_threads.Goals as goal
+
+pub end_told-requires-clause-process : goal.end_told-requires-clause-process
+end_told-requires-clause-process c =
+    let w = c.args.world.now.rows in
+    let left = ap (λ (l : Left). l.world) c.die_all.ensures.took in
+    rw left (died-process c.args.code (live_threads w c.args.pid) c.args.pid w c.requires.process)
 
 pub end_told-requires-clause-table : goal.end_told-requires-clause-table
 end_told-requires-clause-table c =

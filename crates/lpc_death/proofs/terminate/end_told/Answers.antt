@@ -8,8 +8,14 @@ use Rattle.lpc_steps.proofs.Composed.{took-then}
 use Rattle.lpc_death.specs.Dying.{telling_all}
 use Rattle.lpc_model.specs.Death.{end_process}
 use Rattle.lpc_death.proofs.CanEnd.{told-table, untold-can}
+use Rattle.lpc_death.proofs.Stands.{told-process}
 use Rattle.lpc_death.proofs.Lives.{closed-lives, told-lives}
 use Rattle.lpc_death.proofs.terminate.end_told.Goals as goal
+
+pub end_process-requires-clause-process : goal.end_process-requires-clause-process
+end_process-requires-clause-process c =
+    let w = c.args.world.now in
+    rw (ap (λ (l : Left). l.world) c.tell_all.ensures.took) (told-process (untold_of w.rows c.args.pid) c.args.pid w.rows c.requires.process)
 
 pub end_process-requires-clause-table : goal.end_process-requires-clause-table
 end_process-requires-clause-table c =

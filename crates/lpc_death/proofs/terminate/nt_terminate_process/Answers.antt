@@ -1,4 +1,6 @@
-use Rattle.std.proofs.Common.{◌≡◌, ◌∙◌, ap, subst, sym}
+use Rattle.std.proofs.Common.{◌≡◌, ◌∙◌, ap, arith, length, subst, sym}
+use Rattle.lpc_base.specs.Rows.{count}
+use Rattle.lpc_rows.specs.Kept.{is_alive}
 use Rattle.std.specs.Prelude.{◌==◌, Ok, Err}
 use Rattle.lpc_model.specs.World.{World}
 use Rattle.lpc_procs.specs.declared.rows.Caller.{Caller}
@@ -26,3 +28,21 @@ returns-in-Err-clause-served c =
     let number = ap (λ (x : Caller). x.number) c.caller-caller.ensures.row in
     let found = subst (λ (w : World). living_process w (caller w c.args.by) c.args.process ≡ Err c.in-Err.status) rows (sym c.living_process.ensures.process ∙ c.in-Err.is) in
     served-process-refused c.args.by c.args.code c.args.process c.in-Err.status c.refuse.result old mid c.args.out.now c.refuse.new.out found rows c.begin_call.ensures.loose c.begin_call.ensures.calls (rw number at c.refuse.ensures.list) c.refuse.ensures.outcome
+
+pub returns-in-Ok-clause-settles : goal.returns-in-Ok-clause-settles
+returns-in-Ok-clause-settles c =
+    let alive = ap (λ (w : World). count is_alive w.threads) c.begin_call.ensures.rows in
+    let waits = ap (λ (w : World). length w.waits) c.begin_call.ensures.rows in
+    record {
+      spare = omega (arith, alive, waits, c.caller-caller.ensures.few, c.requires.room, c.answer_unless-outcome.ensures.spare, c.end_threads.ensures.spare);
+      budget = omega (arith, c.begin_call.ensures.budget, c.end_threads.ensures.made, c.end_threads.ensures.calls);
+    }
+
+pub returns-in-Err-clause-settles : goal.returns-in-Err-clause-settles
+returns-in-Err-clause-settles c =
+    let alive = ap (λ (w : World). count is_alive w.threads) c.begin_call.ensures.rows in
+    let waits = ap (λ (w : World). length w.waits) c.begin_call.ensures.rows in
+    record {
+      spare = omega (arith, alive, waits, c.caller-caller.ensures.few, c.requires.room, c.refuse.ensures.spare);
+      budget = omega (arith, c.begin_call.ensures.budget);
+    }
