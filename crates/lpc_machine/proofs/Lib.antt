@@ -2,4 +2,8 @@ pub mod Asked
 pub mod Called
 pub mod Idle
 pub mod Refused
+pub mod Turning
 pub mod Sound
+pub mod Calm
+pub mod Turns
+pub mod Settles

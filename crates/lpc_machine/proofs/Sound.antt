@@ -1,5 +1,5 @@
 -- A step leaves a settled world where it begins in one.
-use Rattle.std.proofs.Common.{◌≡◌, List, [], false, ap, sym, subst, ◌∙◌}
+use Rattle.std.proofs.Common.{◌≡◌, List, [], false, ap, refl, sym, subst, ◌∙◌}
 use Rattle.std.specs.Prelude.{◌++◌}
 use Rattle.lpc_model.specs.declared.entry.Entry.{Entry}
 use Rattle.lpc_model.specs.World.{World, no_rows}
@@ -10,19 +10,17 @@ use Rattle.lpc_model.specs.Lines.{ScriptLine}
 use Rattle.lpc_model.specs.Machine.{Stepped, bare_steps, step}
 use Rattle.lpc_model.specs.Sweep.{loosened, sweep, unheld}
 use Rattle.lpc_model.proofs.Lives.Bare.{bare}
-use Rattle.lpc_model.proofs.Linked.Lines.{line_linked}
-use Rattle.lpc_model.proofs.Lives.Registrations.{line-living}
-use Rattle.lpc_model.proofs.Queues.Open.{queues_line}
 use Rattle.lpc_model.proofs.Held.Lines.{quiet_line}
 use Rattle.lpc_model.proofs.Runs.{lawful_none, lawful_step}
-use Rattle.lpc_model.proofs.Sound.Lines.{line-sound}
 use Rattle.lpc_model.proofs.Held.FreedPort.{step_swept}
-use Rattle.lpc_model.proofs.Standing.Lines.{names_line}
 use Rattle.lpc_model.proofs.Steps.InTurn.{after-append}
 use Rattle.lpc_rows.specs.Does.{Left, left_by}
 use Rattle.lpc_rows.specs.Kept.{Kept, Same}
 use Rattle.lpc_sweep.specs.Sweeping.{CanSweep}
 use Rattle.lpc_machine.specs.Settled.{IsSettled}
+use Rattle.lpc_machine.specs.Unsettling.{HasUsedProcesses}
+use Rattle.lpc_machine.proofs.Calm.{used-all}
+use Rattle.lpc_machine.proofs.Turning.{can-sweep}
 
 -- behind the steps of a line the world can be swept, and need not be where no row went
 module _ (old taken : Kept) (before list : List Entry) (line : ScriptLine) (s : IsSettled old) (empty : before ≡ [])
@@ -31,16 +29,7 @@ module _ (old taken : Kept) (before list : List Entry) (line : ScriptLine) (s : 
   rows_are = ap (λ (l : Left). l.world) takes
 
   pub can_sweep : CanSweep taken.rows
-  can_sweep =
-      let t = s.lawful in
-      let shut = t.single_closings in
-      subst CanSweep (sym rows_are) (record {
-        sound = line-sound old.rows line t.sound shut.connects;
-        linked = line_linked old.rows line t.sound t.linked;
-        queues = queues_line old.rows line t.sound shut.connects t.linked t.queues;
-        standing = names_line old.rows line t.sound shut.connects t.linked t.sound_offers t.names;
-        registrations = line-living old.rows line t.sound t.threads t.registrations;
-      })
+  can_sweep = subst CanSweep (sym rows_are) (can-sweep old.rows line s.lawful)
 
   pub is_still : taken.loose ≡ false → unheld taken.rows ≡ []
   is_still none =
@@ -55,16 +44,16 @@ module _ (old taken : Kept) (before list : List Entry) (line : ScriptLine) (s : 
   told_is = ap (λ (l : Left). l.entries) takes ∙ ap (λ (es : List Entry). es ++ entries_of (bare_steps line old.rows)) empty ∙ sym (ap (λ (e : Stepped). e.entries) (step_swept old.rows line))
 
   pub stays_settled : (new : Kept) → new.rows ≡ world_after taken.rows (sweep taken.rows) → new.loose ≡ false → IsSettled new
-  stays_settled new is still = record { lawful = subst IsLawfulWorld (sym (swept_is new.rows is)) (lawful_step old.rows line s.lawful); still = still }
+  stays_settled new is still = record { lawful = subst IsLawfulWorld (sym (swept_is new.rows is)) (lawful_step old.rows line s.lawful); still = still; used = subst HasUsedProcesses (sym is) (used-all taken.rows (sweep taken.rows) (subst HasUsedProcesses (sym rows_are) (used-all old.rows (bare_steps line old.rows) s.used))) }
 
 -- after want of memory it is as it was
 pub stays_same : (old new : Kept) → Same old new → IsSettled old → IsSettled new
-stays_same old new same s = record { lawful = subst IsLawfulWorld (sym same.rows) s.lawful; still = same.loose ∙ s.still }
+stays_same old new same s = record { lawful = subst IsLawfulWorld (sym same.rows) s.lawful; still = same.loose ∙ s.still; used = subst HasUsedProcesses (sym same.rows) s.used }
 
 -- before the first line
 pub settled_none : (new : Kept) → new.rows ≡ no_rows → new.loose ≡ false → IsSettled new
-settled_none new is still = record { lawful = subst IsLawfulWorld (sym is) lawful_none; still = still }
+settled_none new is still = record { lawful = subst IsLawfulWorld (sym is) lawful_none; still = still; used = subst HasUsedProcesses (sym is) refl }
 
 -- where no process lives nothing is left
 pub leaves_nothing : (w : Kept) → IsSettled w → LeavesNothing w.rows
-leaves_nothing w s = let t = s.lawful in bare w.rows t.sound t.linked t.held t.queues t.living t.views t.pairs
+leaves_nothing w s = let t = s.lawful in bare w.rows t.sound t.linked t.held t.queues t.living t.views t.ports t.pairs

@@ -3,6 +3,7 @@
 
 mod machine;
 mod reading;
+mod settling;
 
 pub use machine::Machine;
 pub use reading::{Condition, condition_of, objects, room_needed};

@@ -14,13 +14,15 @@ ghost use Rattle.lpc_model.specs.Deaths.{DeathsAreTold, HasLivingRegistrations, 
 ghost use Rattle.lpc_model.specs.Left.{LeavesNothing};
 ghost use Rattle.lpc_model.specs.SingleClosings.{HasSingleClosings};
 ghost use Rattle.lpc_base.specs.declared.limits.TheConstants.{LINES_LIMIT};
-ghost use Rattle.lpc_model.specs.Machine.{bare_steps, hosting_status, step, thread_steps};
+ghost use Rattle.lpc_model.specs.Machine.{hosting_status, own_steps, step, thread_steps};
+ghost use Rattle.lpc_model.specs.Settle as settling;
 ghost use Rattle.lpc_model.specs.SoundViews.{HasSoundOffers, HasSoundViews};
 ghost use Rattle.lpc_model.specs.SoundWaits.{HasSoundWaits};
 ghost use Rattle.lpc_model.specs.declared.entry.Entry.TheVariants as entry;
 ghost use Rattle.lpc_closing.specs.Closing.{CanClose};
 ghost use Rattle.lpc_death.specs.Ends.{CanEnd};
 ghost use Rattle.lpc_machine.specs.Settled.{IsSettled};
+ghost use Rattle.lpc_machine.specs.Unsettling.{call_unsettles, unsettles};
 ghost use Rattle.lpc_machine.specs.Short.{has_short_name};
 ghost use Rattle.lpc_machine.specs.Memory.{GoesOn, Halts, call_takes_memory, lacks_call_room, lacks_room, makes_call, takes_memory};
 ghost use Rattle.lpc_rows.specs.Called.{MayServe, service};
@@ -29,8 +31,10 @@ ghost use Rattle.lpc_rows.specs.Capacity.{but_lives, but_names, handle_places};
 ghost use Rattle.lpc_rows.specs.Kept.{Same, grown_handles, grown_messages, grown_ports, grown_processes, grown_threads, grown_waits};
 ghost use Rattle.lpc_rows.specs.Ready as ready;
 ghost use Rattle.lpc_rows.specs.Ready.{HasRoom, is_ready};
+ghost use Rattle.lpc_steps.specs.Settling.{CanSettle};
 
 use crate::reading::{Condition, condition_of, objects, room_needed};
+use crate::settling::settle;
 use lpc_base::status::{INVALID_CID, SUCCESS};
 use lpc_base::{OutOfMemory, Status};
 use lpc_closing::{nt_close, nt_duplicate_object, nt_query_object};
@@ -38,8 +42,12 @@ use lpc_connect::{
     nt_accept_connect_port, nt_complete_connect_port, nt_connect_port, nt_create_port,
     nt_listen_port,
 };
-use lpc_death::{nt_create_process, nt_create_thread, nt_terminate_process, nt_terminate_thread};
+use lpc_death::{
+    nt_create_process, nt_create_thread, nt_set_information_process, nt_terminate_process,
+    nt_terminate_thread,
+};
 use lpc_directives::{boot, directory, link, thread, token};
+use lpc_except::raise;
 use lpc_imperson::{
     nt_impersonate_client_of_port, nt_open_process_token, nt_open_thread_token,
     nt_query_information_token, nt_set_information_thread,
@@ -104,7 +112,10 @@ fn serve(
     requires offers { HasSoundOffers world.old.rows }
     requires ids { has_call_ids (call_of call.now) ≡ true }
     requires unread { out.old.reads ≡ false }
+    requires unmarked { world.old.rows.marks ≡ [] }
     ensures serves { MayServe by (call_of call.now) result world.old world.new out.old out.new }
+    ensures settles { call_unsettles (call_of call.now) ≡ true →
+        CanSettle world.new out.new }
     ensures wanting { OnErr result (lacks_call_room world.old by (call_of call.now) ≡ true) }
     ensures free { call_takes_memory (call_of call.now) ≡ false → IsOk result }
     ensures capacity { call_takes_memory (call_of call.now) ≡ false →
@@ -211,6 +222,12 @@ fn serve(
         Call::QueryInformationToken { handle, class } => {
             Ok(nt_query_information_token(world, by, *handle, *class, out))
         }
+        Call::SetInformationProcess {
+            process,
+            class,
+            port,
+        } => Ok(nt_set_information_process(world, by, *process, *class, *port, out)),
+        Call::Raise { code, handled } => Ok(raise(world, by, *code, *handled, out)),
     }
 }
 
@@ -225,6 +242,9 @@ fn run(world: &mut World, tid: u32, call: &Call<'_>, out: &mut Entries) -> Resul
     ensures takes { let t = live_thread world.old.rows tid in
         let steps = thread_steps tid (call_of call.now) t world.old.rows in
         OnOk result (Took steps world.old world.new out.old out.new) }
+    ensures settles { OnOk result
+        (unsettles world.old.rows (script.run tid (call_of call.now)) ≡ true →
+        CanSettle world.new out.new) }
     ensures counted { OnOk result (is_ready world.old.rows tid ≡ true →
         world.new.calls ≡ world.old.calls + 1) }
     ensures uncounted { OnOk result (is_ready world.old.rows tid ≡ false →
@@ -269,8 +289,8 @@ fn hosting(world: &World, tid: u32) -> Status
     }
 }
 
-/// What a line does on the world alone, before rows go.
-#[tactic(auto, unfolding(lpc_model::specs::Machine::bare_steps), using(crate::proofs::Idle::hosts_alone, crate::proofs::Idle::turn_alone, crate::proofs::Asked::ports_within, crate::proofs::Asked::messages_within, crate::proofs::Asked::waits_within, crate::proofs::Asked::processes_within, crate::proofs::Asked::threads_within, crate::proofs::Asked::places_by_one, crate::proofs::Asked::places_by_two, crate::proofs::Asked::places_kept, crate::proofs::Asked::places_same))]
+/// What the directive or call of a line does on the world alone, before the world settles.
+#[tactic(auto, unfolding(lpc_model::specs::Machine::own_steps), using(crate::proofs::Idle::hosts_alone, crate::proofs::Idle::turn_alone, crate::proofs::Asked::ports_within, crate::proofs::Asked::messages_within, crate::proofs::Asked::waits_within, crate::proofs::Asked::processes_within, crate::proofs::Asked::threads_within, crate::proofs::Asked::places_by_one, crate::proofs::Asked::places_by_two, crate::proofs::Asked::places_kept, crate::proofs::Asked::places_same))]
 fn take(world: &mut World, line: &Line<'_>, out: &mut Entries) -> Result<(), OutOfMemory>
     requires empty { out.old.list ≡ [] }
     requires unread { out.old.reads ≡ false }
@@ -279,8 +299,10 @@ fn take(world: &mut World, line: &Line<'_>, out: &mut Entries) -> Result<(), Out
     requires ids { has_ids (line_of line.now) ≡ true }
     requires named { has_short_name (line_of line.now) ≡ true }
     requires settled { IsSettled world.old }
-    ensures takes { let steps = bare_steps (line_of line.now) world.old.rows in
+    ensures takes { let steps = own_steps (line_of line.now) world.old.rows in
         OnOk result (Took steps world.old world.new out.old out.new) }
+    ensures settles { OnOk result (unsettles world.old.rows (line_of line.now) ≡ true →
+        CanSettle world.new out.new) }
     ensures err { OnErr result (Same world.old world.new) }
     ensures silent { OnErr result (out.new.list ≡ []) }
     ensures counted { OnOk result (makes_call world.old.rows (line_of line.now) ≡ true →
@@ -368,6 +390,7 @@ impl Machine {
         ensures sound { HasSoundWaits result.now.rows }
         ensures held { HasHeldRows result.now.rows }
         ensures named { NamesWhatStands result.now.rows }
+        ensures settled { settling.IsSettled result.now.rows }
     {
         &self.world
     }
@@ -386,10 +409,10 @@ impl Machine {
         objects(&self.world)
     }
 
-    /// One line's step: its call or directive, and then the objects go that no row counts for. Its entries are added to
-    /// `out`, which is empty and has room for [`Machine::room_needed`] more. The line's process and thread numbers are
-    /// from 1 to 2147483647, the name that it gives a token has at most 32 bytes, and fewer than 1,000,000 directives
-    /// and service calls were made before it.
+    /// One line's step: its call or directive, then the world settles, and then the objects go that no row counts for.
+    /// Its entries are added to `out`, which is empty and has room for [`Machine::room_needed`] more. The line's process
+    /// and thread numbers are from 1 to 2147483647, the name that it gives a token has at most 32 bytes, and fewer than
+    /// 1,000,000 directives and service calls were made before it.
     ///
     /// A line about the server on a thread is told as where there is none: whoever keeps the servers tells the others.
     ///
@@ -445,6 +468,7 @@ impl Machine {
             handle_places self.new.capacity pid ≤ grown_handles self.old pid 2 }
     {
         take(&mut self.world, line, out)?;
+        settle(&mut self.world, out);
         sweep(&mut self.world);
         Ok(())
     }

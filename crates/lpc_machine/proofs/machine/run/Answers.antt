@@ -34,3 +34,6 @@ returns-in_ok-serve-in-Ready-clause-takes c =
     let w : World = c.args.world.now.rows in
     let call : ScriptCall = call_of c.args.call.now in
     c.in_ok-serve-in-Ready.ensures.serves.takes ∙ ap (λ (bs : List Basic). left_by w c.args.out.now.list c.args.world.now.loose bs) (sym (called w c.args.tid call (sym c.condition_of.ensures ∙ c.in-Ready.is)))
+
+pub serve-requires-clause-unmarked : goal.serve-requires-clause-unmarked
+serve-requires-clause-unmarked c = c.requires.settled.lawful.settled.marks
