@@ -2,19 +2,18 @@
 use Rattle.lpc_model.specs.Residents.{win32}
 use Rattle.lpc_model.proofs.Residents.{done_bytes}
 use Rattle.lpc_model.specs.World.{no_rows}
-use Rattle.std.proofs.Common.{ℕ, List}
+use Rattle.std.proofs.Common.{List, refl, ℕ}
 use Rattle.lpc_model.specs.Script.{script_lines}
 use Rattle.lpc_model.specs.Run.{first_state, said_from, said_in}
 use Rattle.lpc_model.specs.Replies.{MisfitsAreRefused, RefusedRepliesChangeNothing}
 use Rattle.lpc_model.proofs.GivenBytes.{said_bytes}
-use Rattle.lpc_model.proofs.Runs.{along-keeps, lawful_none}
+use Rattle.lpc_model.proofs.Runs.{along-keeps, lawful_none, lawful_step}
 use Rattle.lpc_isolation.proofs.Gone.Said.{isolation_law}
-use Rattle.lpc_replay.specs.Laws.{ClientsApart, ConnectsReturn, MisfitsRefused, RefusalsIdle, RefusalsStay, RequestsReturn, WaitsEnd}
-use Rattle.lpc_replay.specs.Waits.{WaitsEndAsTold}
-use Rattle.lpc_replay.proofs.Returning.{answers_along, returns_along}
+use Rattle.lpc_replay.specs.Laws.{ClientsApart, ConnectsReturn, LeavesSettled, LinesSettle, MisfitsRefused, RaisesReturn, RefusalsIdle, RefusalsStay, RequestsReturn, ThreadsEnd, WaitsEnd}
+use Rattle.lpc_replay.proofs.Returning.{answers_along, ends_along, raises_along, returns_along}
 use Rattle.lpc_replay.proofs.Refusing.{misfits_refused, refusals_stay}
 use Rattle.lpc_replay.proofs.Removing.{refusals_idle}
-use Rattle.lpc_replay.proofs.Waiting.{waits_told}
+use Rattle.lpc_replay.proofs.Waiting.{waits_along}
 
 pub every_request : (script : List ℕ) → RequestsReturn script
 unfolding RequestsReturn
@@ -22,11 +21,23 @@ every_request script = returns_along no_rows (said_in script) (done_bytes win32 
 
 pub every_wait : (script : List ℕ) → WaitsEnd script
 unfolding WaitsEnd
-every_wait script = along-keeps WaitsEndAsTold (λ w line _. waits_told w line) no_rows (said_in script) lawful_none
+every_wait script = waits_along no_rows (said_in script) (done_bytes win32 first_state (said_from 1 (script_lines script)) (said_bytes 1 (script_lines script))) tt refl lawful_none
 
 pub every_connect : (script : List ℕ) → ConnectsReturn script
 unfolding ConnectsReturn
 every_connect script = answers_along no_rows (said_in script) (done_bytes win32 first_state (said_from 1 (script_lines script)) (said_bytes 1 (script_lines script))) tt lawful_none
+
+pub every_raise : (script : List ℕ) → RaisesReturn script
+unfolding RaisesReturn
+every_raise script = raises_along no_rows (said_in script) (done_bytes win32 first_state (said_from 1 (script_lines script)) (said_bytes 1 (script_lines script))) tt lawful_none
+
+pub every_end : (script : List ℕ) → ThreadsEnd script
+unfolding ThreadsEnd
+every_end script = ends_along no_rows (said_in script) (done_bytes win32 first_state (said_from 1 (script_lines script)) (said_bytes 1 (script_lines script))) tt lawful_none
+
+pub every_settling : (script : List ℕ) → LinesSettle script
+unfolding LinesSettle
+every_settling script = along-keeps LeavesSettled (λ w line t. let after = lawful_step w line t in after.settled) no_rows (said_in script) lawful_none
 
 pub every_misfit : (script : List ℕ) → MisfitsRefused script
 unfolding MisfitsRefused
@@ -34,7 +45,7 @@ every_misfit script = along-keeps MisfitsAreRefused (λ w line _. misfits_refuse
 
 pub every_refusal : (script : List ℕ) → RefusalsStay script
 unfolding RefusalsStay
-every_refusal script = along-keeps RefusedRepliesChangeNothing (λ w line r. refusals_stay w line r.held) no_rows (said_in script) lawful_none
+every_refusal script = along-keeps RefusedRepliesChangeNothing (λ w line r. refusals_stay w line r.settled r.held) no_rows (said_in script) lawful_none
 
 pub every_removal : (script : List ℕ) → RefusalsIdle script
 unfolding RefusalsIdle

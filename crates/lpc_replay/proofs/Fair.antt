@@ -1,5 +1,6 @@
--- What a line tells is right: a request that returns with success has its reply, and a connect that wakes its answer.
-use Rattle.std.proofs.Common.{Bool, List, [], cond, false, map, refl, true, ℕ, ◌++◌, ◌∷◌, ◌≡◌}
+-- What a line tells is right: a request that returns with success has its reply, a connect that wakes its answer, and an
+-- exception its reply or its handler.
+use Rattle.std.proofs.Common.{Bool, List, [], ap, cond, false, inl, inr, map, refl, true, ℕ, ◌++◌, ◌∷◌, ◌≡◌}
 use Rattle.std.specs.List.{AllByRecursion}
 use Rattle.std.specs.Prelude.{None, Option, Some, ◌&&◌, ◌==◌, ◌||◌}
 use Rattle.lpc_base.proofs.RowWords.{first-passes}
@@ -7,16 +8,16 @@ use Rattle.lpc_base.proofs.Bools.{first-true}
 use Rattle.lpc_base.specs.Rows.{first, given, when}
 use Rattle.lpc_base.specs.declared.birth.Birth.{Birth}
 use Rattle.lpc_base.specs.declared.status.Status.{Status}
-use Rattle.lpc_base.specs.declared.status.TheConstants.{SUCCESS}
-use Rattle.lpc_model.specs.Basics.{Accepts, Awaits, Basic, Dies, Frees, Receives, Tells, Wakes, accepted, accepted_as, basic, entries_of, freed, going_on, told, world_after}
+use Rattle.lpc_base.specs.declared.status.TheConstants.{DBG_CONTINUE, SUCCESS}
+use Rattle.lpc_model.specs.Basics.{Accepts, Awaits, Basic, Dies, Frees, Leaves, Receives, Tells, Wakes, accepted, accepted_as, basic, entries_of, freed, going_on, told, world_after}
 use Rattle.lpc_model.specs.Entering.{enter, given_steps, received_steps, shown, take_connect_steps, take_steps, takes, woken}
-use Rattle.lpc_model.specs.Found.{is_accepted, is_listen, is_receive, is_request, same_birth}
+use Rattle.lpc_model.specs.Found.{is_connect, is_event, is_listen, is_receive, is_request, same_birth}
 use Rattle.lpc_model.specs.Lines.{ScriptLine}
 use Rattle.lpc_model.specs.Message.{asks, is_connection_request}
 use Rattle.lpc_model.specs.Offers.{mapped}
-use Rattle.lpc_model.specs.Replies.{HasReply, IsReturnedBy}
+use Rattle.lpc_model.specs.Replies.{HasReply, IsContinuedBy, IsReturnedBy}
 use Rattle.lpc_model.specs.Sweep.{free_unheld, sweep, unheld}
-use Rattle.lpc_model.specs.World.{Acceptance, Accepted, Connect, Listen, MessageRow, ObjectName, Receive, Request, ViewRow, WaitKind, WaitRow, World}
+use Rattle.lpc_model.specs.World.{Acceptance, Accepted, Connect, Event, Listen, MessageRow, ObjectName, Receive, Request, ViewRow, WaitKind, WaitRow, World}
 use Rattle.lpc_model.specs.declared.entry.CallName.TheVariants as call
 use Rattle.lpc_model.specs.declared.entry.CallName.TheVariants.{NtReplyWaitReceivePort}
 use Rattle.lpc_model.specs.declared.entry.CallName.{CallName}
@@ -26,7 +27,9 @@ use Rattle.lpc_model.specs.declared.entry.Field.{Field}
 use Rattle.lpc_model.specs.declared.entry.ObjectKind.TheVariants as kind
 use Rattle.lpc_model.specs.declared.entry.ObjectKind.{ObjectKind}
 use Rattle.lpc_replay.specs.Connects.{HasAnswer, IsAnsweredBy}
-use Rattle.lpc_replay.proofs.Holding.{all_append, all_filter, all_map, find_all}
+use Rattle.lpc_replay.specs.Ends.{HasEnder}
+use Rattle.lpc_replay.specs.Raises.{HasHandler, IsHandledByTurn}
+use Rattle.lpc_replay.proofs.Holding.{all_append, all_filter, all_map, all_more, find_all}
 
 -- the call in which a wait of a kind is
 abbrev pub call_of_kind : WaitKind → CallName
@@ -35,6 +38,7 @@ call_of_kind Receive = call.NtReplyWaitReceivePort
 call_of_kind Listen = call.NtListenPort
 call_of_kind (Connect m offer) = call.NtConnectPort
 call_of_kind (Accepted m a) = call.NtConnectPort
+call_of_kind (Event r) = call.Raise
 
 abbrev pub HasItsCall : WaitRow → Type 0
 HasItsCall x = x.call ≡ call_of_kind x.kind
@@ -42,27 +46,54 @@ HasItsCall x = x.call ≡ call_of_kind x.kind
 abbrev pub HaveTheirCalls : World → Type 0
 HaveTheirCalls w = AllByRecursion HasItsCall w.waits
 
--- what is told has its reply and its answer
-abbrev pub IsRight : World → ScriptLine → Entry → Type 0
-IsRight w line e = HasReply w line e × HasAnswer w line e
+-- a connect that is told of has its answer, an exception its handler, and a thread that ends its ender
+abbrev pub HasCause : World → ScriptLine → Entry → Type 0
+HasCause w line (entry.Wakes who call.Raise status fields) = HasHandler w line (entry.Wakes who call.Raise status fields)
+HasCause w line (entry.Answer who call.Raise status fields) = HasHandler w line (entry.Answer who call.Raise status fields)
+HasCause w line (entry.Died who status) = HasEnder w line (entry.Died who status)
+HasCause w line e = HasAnswer w line e
 
--- a basic step of a line keeps that, and what it tells is right
+-- what is told has its reply and its cause
+abbrev pub IsRight : World → ScriptLine → Entry → Type 0
+IsRight w line e = HasReply w line e × HasCause w line e
+
+-- A basic step of a line keeps that, and what it tells is right. No wait ends untold, and no row of an object goes.
 abbrev pub IsFair : World → ScriptLine → Basic → Type 0
 IsFair w line (Tells e) = IsRight w line e
 IsFair w line (Wakes who name status fields) = IsRight w line (entry.Wakes who name status fields)
+IsFair w line (Dies who status) = IsRight w line (entry.Died who status)
 IsFair w line (Awaits x) = HasItsCall x
+IsFair w line (Leaves who) = ⊥
+IsFair w line (Frees o) = ⊥
 IsFair w line b = Unit {0}
 
 abbrev pub AreFair : World → ScriptLine → List Basic → Type 0
 AreFair w line bs = AllByRecursion (IsFair w line) bs
 
-told_fair : (w : World) (line : ScriptLine) (b : Basic) → IsFair w line b → AllByRecursion (IsRight w line) (told b)
+-- as the world settles waits end untold too, and rows go at the end of a line
+abbrev pub IsRightStep : World → ScriptLine → Basic → Type 0
+IsRightStep w line (Leaves who) = Unit {0}
+IsRightStep w line (Frees o) = Unit {0}
+IsRightStep w line b = IsFair w line b
+
+abbrev pub AreRight : World → ScriptLine → List Basic → Type 0
+AreRight w line bs = AllByRecursion (IsRightStep w line) bs
+
+fair_step : (w : World) (line : ScriptLine) (b : Basic) → IsFair w line b → IsRightStep w line b
+fair_step w line (Leaves who) h = tt
+fair_step w line (Frees o) h = tt
+fair_step w line b h = h
+
+pub are_right : (w : World) (line : ScriptLine) (bs : List Basic) → AreFair w line bs → AreRight w line bs
+are_right w line bs fair = all_more (IsFair w line) (IsRightStep w line) (fair_step w line) bs fair
+
+told_fair : (w : World) (line : ScriptLine) (b : Basic) → IsRightStep w line b → AllByRecursion (IsRight w line) (told b)
 told_fair w line (Tells e) h = (h, tt)
 told_fair w line (Wakes who name status fields) h = (h, tt)
-told_fair w line (Dies who status) h = ((tt, tt), tt)
+told_fair w line (Dies who status) h = (h, tt)
 told_fair w line b h = tt
 
-pub entries_fair : (w : World) (line : ScriptLine) (bs : List Basic) → AreFair w line bs → AllByRecursion (IsRight w line) (entries_of bs)
+pub entries_fair : (w : World) (line : ScriptLine) (bs : List Basic) → AreRight w line bs → AllByRecursion (IsRight w line) (entries_of bs)
 entries_fair w line [] h = tt
 entries_fair w line (b ∷ bs) h = all_append (IsRight w line) (told b) (entries_of bs) (told_fair w line b h.0) (entries_fair w line bs h.1)
 
@@ -77,6 +108,7 @@ same_call a Receive = refl
 same_call a Listen = refl
 same_call a (Connect m offer) = refl
 same_call a (Accepted m before) = refl
+same_call a (Event r) = refl
 
 accepted_call : (a : Acceptance) (x : WaitRow) → HasItsCall x → HasItsCall (accepted a x)
 accepted_call a x h = rw (same_call a x.kind) h
@@ -89,8 +121,9 @@ freed_waits w kind.Token b = refl
 freed_waits w kind.Process b = refl
 freed_waits w kind.Thread b = refl
 
-basic_keeps : (w : World) (line : ScriptLine) (v : World) (b : Basic) → IsFair w line b → HaveTheirCalls v → HaveTheirCalls (basic v b)
+basic_keeps : (w : World) (line : ScriptLine) (v : World) (b : Basic) → IsRightStep w line b → HaveTheirCalls v → HaveTheirCalls (basic v b)
 basic_keeps w line v (Wakes who name status fields) f h = all_filter HasItsCall _ v.waits h
+basic_keeps w line v (Leaves who) f h = all_filter HasItsCall _ v.waits h
 basic_keeps w line v (Dies who status) f h = all_filter HasItsCall _ v.waits h
 basic_keeps w line v (Awaits x) f h = all_append HasItsCall v.waits (x ∷ []) h (f, tt)
 basic_keeps w line v (Receives who queue) f h = all_map HasItsCall _ v.waits (λ x k. changed_call _ x _ k k) h
@@ -98,9 +131,16 @@ basic_keeps w line v (Accepts who a) f h = all_map HasItsCall _ v.waits (λ x k.
 basic_keeps w line v (Frees o) f h = rw (freed_waits v o.kind o.birth) h
 basic_keeps w line v b f h = h
 
-pub steps_keep : (w : World) (line : ScriptLine) (v : World) (bs : List Basic) → AreFair w line bs → HaveTheirCalls v → HaveTheirCalls (world_after v bs)
+pub steps_keep : (w : World) (line : ScriptLine) (v : World) (bs : List Basic) → AreRight w line bs → HaveTheirCalls v → HaveTheirCalls (world_after v bs)
 steps_keep w line v [] f h = h
 steps_keep w line v (b ∷ bs) f h = steps_keep w line (basic v b) bs f.1 (basic_keeps w line v b f.0 h)
+
+pub fair_keep : (w : World) (line : ScriptLine) (v : World) (bs : List Basic) → AreFair w line bs → HaveTheirCalls v → HaveTheirCalls (world_after v bs)
+fair_keep w line v bs fair h = steps_keep w line v bs (are_right w line bs fair) h
+
+-- an exception that is handled isn't continued
+handled_fails : SUCCESS ≡ DBG_CONTINUE → ⊥
+handled_fails same = let n = ap (λ (s : Status). s.0) same in absurd (cc)
 
 -- a receive or a listen ends by any line
 waiter_call : (w : World) (line : ScriptLine) (tid : ℕ) (kind : WaitKind) (status : Status) (fields : List Field) → (elim kind [ Receive ↦ true | _ ↦ false ] || elim kind [ Listen ↦ true | _ ↦ false ]) ≡ true → IsRight w line (entry.Wakes tid (call_of_kind kind) status fields)
@@ -111,36 +151,52 @@ waiter_call w line tid b status fields is = absurd (cc)
 pub waiter_wakes : (w : World) (line : ScriptLine) (x : WaitRow) (status : Status) (fields : List Field) → (is_receive x || is_listen x) ≡ true → HasItsCall x → IsRight w line (entry.Wakes x.thread x.call status fields)
 waiter_wakes w line x status fields is h = rw h (waiter_call w line x.thread x.kind status fields is)
 
--- an accepted connect is no request, and a request no connect
-accepted_call_right : (w : World) (line : ScriptLine) (tid : ℕ) (kind : WaitKind) (status : Status) (fields : List Field) → elim kind [ Accepted m a ↦ true | _ ↦ false ] ≡ true → HasReply w line (entry.Wakes tid (call_of_kind kind) status fields)
-accepted_call_right w line tid (Request m) status fields is = absurd (cc)
-accepted_call_right w line tid b status fields is = tt
+-- a connect is no request and no exception, a request is no connect and no exception
+connect_call_right : (w : World) (line : ScriptLine) (tid : ℕ) (kind : WaitKind) (status : Status) (fields : List Field) → (elim kind [ Connect m offer ↦ true | _ ↦ false ] || elim kind [ Accepted m a ↦ true | _ ↦ false ]) ≡ true → IsAnsweredBy w line tid status fields → IsRight w line (entry.Wakes tid (call_of_kind kind) status fields)
+connect_call_right w line tid (Connect m offer) status fields is a = (tt, a)
+connect_call_right w line tid (Accepted m b) status fields is a = (tt, a)
+connect_call_right w line tid b status fields is a = absurd (cc)
 
-pub accepted_wakes : (w : World) (line : ScriptLine) (x : WaitRow) (status : Status) (fields : List Field) → is_accepted x ≡ true → HasItsCall x → HasReply w line (entry.Wakes x.thread x.call status fields)
-accepted_wakes w line x status fields is h = rw h (accepted_call_right w line x.thread x.kind status fields is)
+pub connect_wakes : (w : World) (line : ScriptLine) (x : WaitRow) (status : Status) (fields : List Field) → is_connect x ≡ true → HasItsCall x → IsAnsweredBy w line x.thread status fields → IsRight w line (entry.Wakes x.thread x.call status fields)
+connect_wakes w line x status fields is h a = rw h (connect_call_right w line x.thread x.kind status fields is a)
 
-request_call_right : (w : World) (line : ScriptLine) (tid : ℕ) (kind : WaitKind) (status : Status) (fields : List Field) → elim kind [ Request m ↦ true | _ ↦ false ] ≡ true → HasAnswer w line (entry.Wakes tid (call_of_kind kind) status fields)
+request_call_right : (w : World) (line : ScriptLine) (tid : ℕ) (kind : WaitKind) (status : Status) (fields : List Field) → elim kind [ Request m ↦ true | _ ↦ false ] ≡ true → HasCause w line (entry.Wakes tid (call_of_kind kind) status fields)
 request_call_right w line tid (Connect m offer) status fields is = absurd (cc)
 request_call_right w line tid (Accepted m a) status fields is = absurd (cc)
+request_call_right w line tid (Event r) status fields is = absurd (cc)
 request_call_right w line tid b status fields is = tt
 
-pub request_wakes : (w : World) (line : ScriptLine) (x : WaitRow) (status : Status) (fields : List Field) → is_request x ≡ true → HasItsCall x → HasAnswer w line (entry.Wakes x.thread x.call status fields)
+pub request_wakes : (w : World) (line : ScriptLine) (x : WaitRow) (status : Status) (fields : List Field) → is_request x ≡ true → HasItsCall x → HasCause w line (entry.Wakes x.thread x.call status fields)
 request_wakes w line x status fields is h = rw h (request_call_right w line x.thread x.kind status fields is)
 
--- a request that wakes without success needs no reply
-pub failure_wakes : (w : World) (line : ScriptLine) (tid : ℕ) (name : CallName) (status : Status) (fields : List Field) → (status.0 == SUCCESS.0) ≡ false → HasReply w line (entry.Wakes tid name status fields)
-failure_wakes w line tid call.NtRequestWaitReplyPort status fields fails = λ is. let same = rw is at fails in absurd (cc)
-failure_wakes w line tid name status fields fails = tt
+-- an exception that is continued by a reply has no other cause, and one that its frame handlers handle needs no reply
+event_call_right : (w : World) (line : ScriptLine) (tid : ℕ) (kind : WaitKind) → elim kind [ Event r ↦ true | _ ↦ false ] ≡ true → IsContinuedBy w line tid → IsRight w line (entry.Wakes tid (call_of_kind kind) DBG_CONTINUE [])
+event_call_right w line tid (Event r) is c = (λ _. c, inl refl)
+event_call_right w line tid b is c = absurd (cc)
+
+pub continued_wakes : (w : World) (line : ScriptLine) (x : WaitRow) → is_event x ≡ true → HasItsCall x → IsContinuedBy w line x.thread → IsRight w line (entry.Wakes x.thread x.call DBG_CONTINUE [])
+continued_wakes w line x is h c = rw h (event_call_right w line x.thread x.kind is c)
+
+handled_call_right : (w : World) (line : ScriptLine) (tid : ℕ) (kind : WaitKind) → elim kind [ Event r ↦ true | _ ↦ false ] ≡ true → IsHandledByTurn w line tid → IsRight w line (entry.Wakes tid (call_of_kind kind) SUCCESS [])
+handled_call_right w line tid (Event r) is c = (λ same. absurd (handled_fails same), inr (refl, c))
+handled_call_right w line tid b is c = absurd (cc)
+
+pub handled_wakes : (w : World) (line : ScriptLine) (x : WaitRow) → is_event x ≡ true → HasItsCall x → IsHandledByTurn w line x.thread → IsRight w line (entry.Wakes x.thread x.call SUCCESS [])
+handled_wakes w line x is h c = rw h (handled_call_right w line x.thread x.kind is c)
+
+-- a request or an exception that wakes by another status needs no reply
+pub failure_wakes : (w : World) (line : ScriptLine) (tid : ℕ) (name : CallName) (status : Status) (fields : List Field) → (status.0 == SUCCESS.0) ≡ false → (status.0 == DBG_CONTINUE.0) ≡ false → HasReply w line (entry.Wakes tid name status fields)
+failure_wakes w line tid call.NtRequestWaitReplyPort status fields fails stops = λ is. let same = rw is at fails in absurd (cc)
+failure_wakes w line tid call.Raise status fields fails stops = λ is. let same = rw is at stops in absurd (cc)
+failure_wakes w line tid name status fields fails stops = tt
 
 -- a request that a reply wakes has it
-pub reply_wakes : (w : World) (line : ScriptLine) (tid : ℕ) (name : CallName) (fields : List Field) → IsReturnedBy w line tid fields → HasReply w line (entry.Wakes tid name SUCCESS fields)
-reply_wakes w line tid call.NtRequestWaitReplyPort fields r = λ _. r
-reply_wakes w line tid name fields r = tt
+request_reply_right : (w : World) (line : ScriptLine) (tid : ℕ) (kind : WaitKind) (fields : List Field) → elim kind [ Request m ↦ true | _ ↦ false ] ≡ true → IsReturnedBy w line tid fields → HasReply w line (entry.Wakes tid (call_of_kind kind) SUCCESS fields)
+request_reply_right w line tid (Request m) fields is r = λ _. r
+request_reply_right w line tid b fields is r = absurd (cc)
 
--- a connect that an answer wakes has it
-pub answer_wakes : (w : World) (line : ScriptLine) (tid : ℕ) (name : CallName) (status : Status) (fields : List Field) → IsAnsweredBy w line tid status fields → HasAnswer w line (entry.Wakes tid name status fields)
-answer_wakes w line tid call.NtConnectPort status fields a = a
-answer_wakes w line tid name status fields a = tt
+pub reply_wakes : (w : World) (line : ScriptLine) (x : WaitRow) (fields : List Field) → is_request x ≡ true → HasItsCall x → IsReturnedBy w line x.thread fields → HasReply w line (entry.Wakes x.thread x.call SUCCESS fields)
+reply_wakes w line x fields is h r = rw h (request_reply_right w line x.thread x.kind fields is r)
 
 -- a message that is taken wakes none
 pub when_fair : (w : World) (line : ScriptLine) (b : Bool) (bs : List Basic) → AreFair w line bs → AreFair w line (when b bs)
@@ -183,7 +239,7 @@ enter_fair w line m v h =
 pub sent_fair : (w : World) (line : ScriptLine) (m : MessageRow) (start : List Basic) → HaveTheirCalls w → AreFair w line start → AreFair w line (start ++ enter m (world_after w start))
 sent_fair w line m start h fair =
     all_append (IsFair w line) start (enter m (world_after w start)) fair
-    (enter_fair w line m (world_after w start) (steps_keep w line w start fair h))
+    (enter_fair w line m (world_after w start) (fair_keep w line w start fair h))
 
 -- a view that a process gets tells nothing
 pub mapped_fair : (w : World) (line : ScriptLine) (pid : ℕ) (view : Option ViewRow) → AreFair w line (mapped pid view)
@@ -191,13 +247,13 @@ mapped_fair w line pid None = tt
 mapped_fair w line pid (Some v) = (tt, tt)
 
 -- rows that go at the end of a line tell nothing
-free_fair : (w : World) (line : ScriptLine) (os : List ObjectName) → AreFair w line (map Frees os)
-free_fair w line [] = tt
-free_fair w line (o ∷ os) = (tt, free_fair w line os)
+free_right : (w : World) (line : ScriptLine) (os : List ObjectName) → AreRight w line (map Frees os)
+free_right w line [] = tt
+free_right w line (o ∷ os) = (tt, free_right w line os)
 
-sweep_fair : (w : World) (line : ScriptLine) (v : World) → AreFair w line (sweep v)
+sweep_right : (w : World) (line : ScriptLine) (v : World) → AreRight w line (sweep v)
 unfolding sweep
-sweep_fair w line v = all_append (IsFair w line) (free_unheld v) _ (free_fair w line (unheld v)) (free_fair w line (unheld (world_after v (free_unheld v))))
+sweep_right w line v = all_append (IsRightStep w line) (free_unheld v) _ (free_right w line (unheld v)) (free_right w line (unheld (world_after v (free_unheld v))))
 
-pub swept_fair : (w : World) (line : ScriptLine) (bs : List Basic) → AreFair w line bs → AreFair w line (going_on w bs sweep)
-swept_fair w line bs fair = all_append (IsFair w line) bs (sweep (world_after w bs)) fair (sweep_fair w line (world_after w bs))
+pub swept_right : (w : World) (line : ScriptLine) (bs : List Basic) → AreRight w line bs → AreRight w line (going_on w bs sweep)
+swept_right w line bs right = all_append (IsRightStep w line) bs (sweep (world_after w bs)) right (sweep_right w line (world_after w bs))

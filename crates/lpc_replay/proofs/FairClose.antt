@@ -1,21 +1,22 @@
 -- What NtClose tells is right: connects end by the closing of the port that they are to, or of an end of their
 -- connection.
-use Rattle.std.proofs.Common.{All, Bool, List, [], arith, false, refl, suc, true, ℕ, ◌++◌, ◌∷◌, ◌≡◌}
+use Rattle.std.proofs.Common.{All, Bool, List, [], arith, false, inl, refl, suc, true, ℕ, ◌++◌, ◌∷◌, ◌≡◌}
 use Rattle.std.specs.List.{AllByRecursion}
-use Rattle.std.specs.Prelude.{Contains, Ok, Some, ◌||◌}
+use Rattle.std.specs.Prelude.{Contains, Ok, Some, ◌&&◌, ◌||◌}
 use Rattle.std.proofs.lemmas.List.Elements.{All-contains_itself}
 use Rattle.lpc_base.specs.Rows.{when}
 use Rattle.lpc_base.specs.declared.status.TheConstants.{PORT_CONNECTION_REFUSED}
 use Rattle.lpc_model.specs.Basics.{DropsHandle}
-use Rattle.lpc_model.specs.Close.{close_handle, close_port, is_accepted_across, is_last, is_offered_to, nt_close}
+use Rattle.lpc_model.specs.Close.{close_handle, close_port, is_accepted_across, is_across, is_last, is_offered_to, nt_close}
 use Rattle.lpc_model.specs.Fields.{info}
-use Rattle.lpc_model.specs.Found.{live_thread}
+use Rattle.lpc_base.specs.declared.birth.Birth.{Birth}
+use Rattle.lpc_model.specs.Found.{is_accepted, is_connect, is_made_on, is_offered, live_thread, same_birth}
 use Rattle.lpc_model.specs.Lines.{ScriptLine, close, run}
 use Rattle.lpc_model.specs.Tests.{own_handle}
 use Rattle.lpc_model.specs.World.{HandleRow, ThreadRow, WaitRow, World}
 use Rattle.lpc_model.proofs.Calls.Holding.{Holds, bind_holds}
 use Rattle.lpc_replay.specs.Connects.{IsAnsweredBy, IsClosedBy}
-use Rattle.lpc_replay.proofs.Fair.{AreFair, HasItsCall, HaveTheirCalls, IsFair, answer_wakes, failure_wakes}
+use Rattle.lpc_replay.proofs.Fair.{AreFair, HasItsCall, HaveTheirCalls, IsFair, connect_wakes}
 use Rattle.lpc_replay.proofs.FairClosing.{HasRefusal, Knows, port_on}
 use Rattle.lpc_replay.proofs.Holding.{all_append}
 
@@ -30,17 +31,26 @@ from_all : {A : Type 0} (P : A → Type 0) (xs : List A) → All P xs → AllByR
 from_all P [] all = tt
 from_all P (x ∷ xs) all = (all 0 x (omega arith), from_all P xs (λ k d below. all (suc k) d (omega (arith, below))))
 
+pub contained : {A : Type 0} (xs : List A) → AllByRecursion (Contains xs) xs
+contained xs = from_all (Contains xs) xs (All-contains_itself xs)
+
 pub knows_first : (w : World) → HaveTheirCalls w → Knows (IsKnown w) w w
-knows_first w h = record { waits = both w.waits h (from_all (Contains w.waits) w.waits (All-contains_itself w.waits)); pairs = λ q b is. is }
+knows_first w h = record { waits = both w.waits h (contained w.waits); pairs = λ q b is. is }
   where
     both : (xs : List WaitRow) → AllByRecursion HasItsCall xs → AllByRecursion (Contains w.waits) xs → AllByRecursion (IsKnown w) xs
     both [] a c = tt
     both (x ∷ xs) a c = ((a.0, c.0), both xs a.1 c.1)
 
 -- a connect that a line's closing ends so has its answer
-pub refusal_right : (w : World) (line : ScriptLine) (x : WaitRow) → IsAnsweredBy w line x.thread PORT_CONNECTION_REFUSED (info [] ∷ []) → HasRefusal w line x
-refusal_right w line x answered =
-    (failure_wakes w line x.thread x.call PORT_CONNECTION_REFUSED (info [] ∷ []) refl, answer_wakes w line x.thread x.call PORT_CONNECTION_REFUSED (info [] ∷ []) answered)
+pub refusal_right : (w : World) (line : ScriptLine) (x : WaitRow) → is_connect x ≡ true → HasItsCall x → IsAnsweredBy w line x.thread PORT_CONNECTION_REFUSED (info [] ∷ []) → HasRefusal w line x
+refusal_right w line x is call answered = connect_wakes w line x PORT_CONNECTION_REFUSED (info [] ∷ []) is call answered
+
+-- what ends where a port is closed, to which it is or of which it is an end, is a connect
+pub connect_ends : (w : World) (b : Birth) (x : WaitRow) → (is_offered_to b x || is_accepted_across b w x) ≡ true → is_connect x ≡ true
+connect_ends w b x is = parts (is_offered x) (same_birth x.queue b) (is_accepted x) (is_made_on b x || is_across w b x) is
+  where
+    parts : (o s a m : Bool) → ((o && s) || (a && m)) ≡ true → (o || a) ≡ true
+    parts o s a m is = grind arith
 
 module _ (w : World) (tid : ℕ) (by : ThreadRow) (handle : ℕ) (r : HandleRow) (live : live_thread w tid ≡ Some by)
     (names : own_handle w by handle ≡ Ok r) (last : is_last r w ≡ true) where
@@ -59,7 +69,7 @@ module _ (w : World) (tid : ℕ) (by : ThreadRow) (handle : ℕ) (r : HandleRow)
         refuses = refl;
         shows = refl;
       } in
-      refusal_right w (run tid (close handle)) x closed
+      refusal_right w (run tid (close handle)) x (connect_ends w r.object.birth x is) k.0 (inl closed)
 
   port_fair : HaveTheirCalls w → AreFair w (run tid (close handle)) (close_port r.object.birth w)
   port_fair h =

@@ -8,9 +8,9 @@ use Rattle.lpc_base.proofs.RowWords.{every-append}
 use Rattle.lpc_base.proofs.Bools.{first-true}
 use Rattle.lpc_base.specs.declared.birth.Birth.{Birth}
 use Rattle.lpc_base.specs.declared.status.Status.{Status}
-use Rattle.lpc_base.specs.declared.status.TheConstants.{LPC_REPLY_LOST, PORT_CONNECTION_REFUSED, PORT_DISCONNECTED, SUCCESS}
-use Rattle.lpc_model.specs.Basics.{Basic, Cuts, Dies, DropsOwned, Empties, Enters, Steps, Takes, TakesConnect, Tells, Unbinds, Unregisters, Wakes, Withdraws, basic, cut, doing, end_each, is_end_of, world_after, ◌▹◌}
-use Rattle.lpc_model.specs.Close.{close_port, closed_row, cut_pair, drop_name, drop_owned, empty_queue, end_accepted, end_offered, end_receives, end_request, end_requests, is_accepted_across, is_offered_to, is_queued_request, is_receive_across, is_receiver, is_request_across, is_request_on, post_closed, server_of, closing_post, wake}
+use Rattle.lpc_base.specs.declared.status.TheConstants.{DBG_CONTINUE, LPC_REPLY_LOST, PORT_CONNECTION_REFUSED, PORT_DISCONNECTED, SUCCESS}
+use Rattle.lpc_model.specs.Basics.{Basic, Cuts, Dies, DropsOwned, Empties, Enters, LetsGo, Marks, Steps, Takes, TakesConnect, Tells, Unbinds, Unregisters, Wakes, Withdraws, basic, cut, doing, end_each, is_end_of, world_after, ◌▹◌}
+use Rattle.lpc_model.specs.Close.{close_port, closed_row, cut_pair, drop_name, drop_owned, empty_queue, end_accepted, end_offered, end_receives, end_request, end_requests, is_accepted_across, is_event_across, is_event_on, is_offered_to, is_queued_event, is_queued_request, is_receive_across, is_receiver, is_request_across, is_request_on, post_closed, server_of, closing_post, mark_event, mark_events, wake}
 use Rattle.lpc_model.specs.Entering.{enter, given_steps, received_steps, shown, takes, woken}
 use Rattle.lpc_model.specs.Fields.{info}
 use Rattle.lpc_model.specs.Found.{is_accepted, is_listen, is_made_on, is_port, is_receive, is_request, is_the, pair_of, port_row}
@@ -54,6 +54,8 @@ keeps_known (Unregisters who b) = true
 keeps_known (Cuts b) = true
 keeps_known (Unbinds b) = true
 keeps_known (DropsOwned b) = true
+keeps_known (Marks who) = true
+keeps_known (LetsGo pid) = true
 keeps_known b = false
 
 abbrev pub KeepKnown : List Basic → Type 0
@@ -65,6 +67,7 @@ away-keeps (Withdraws who) is = refl
 away-keeps (Empties q) is = refl
 away-keeps (Unbinds b) is = refl
 away-keeps (DropsOwned b) is = refl
+away-keeps (Marks who) is = refl
 away-keeps x is = absurd (cc)
 
 -- of a world behind some of the steps something is known of each wait, and no port has another end than it had
@@ -97,6 +100,8 @@ module _ (P : WaitRow → Type 0) (w : World) where
   knows-step v (Unregisters who b) is k = record { waits = k.waits; pairs = k.pairs }
   knows-step v (Unbinds b) is k = record { waits = k.waits; pairs = k.pairs }
   knows-step v (DropsOwned b) is k = record { waits = k.waits; pairs = k.pairs }
+  knows-step v (Marks who) is k = record { waits = k.waits; pairs = k.pairs }
+  knows-step v (LetsGo pid) is k = record { waits = k.waits; pairs = k.pairs }
   knows-step v x is k = absurd (cc)
 
   pub knows-all : (v : World) (bs : List Basic) → KeepKnown bs → Knows P w v → Knows P w (world_after v bs)
@@ -127,6 +132,8 @@ handles-all v (x ∷ bs) all =
     step (Unregisters who b) is = refl
     step (Unbinds b) is = refl
     step (DropsOwned b) is = refl
+    step (Marks who) is = refl
+    step (LetsGo pid) is = refl
     step x is = absurd (cc)
 
 -- a message that doesn't ask is taken without a receipt
@@ -143,7 +150,8 @@ enter-keeps m v quiet = at (first (takes m) v.waits)
         (λ x. every-append keeps_known (received_steps m) _ receipt refl)
         (λ x. every-append keeps_known (received_steps m) _ receipt refl)
         (λ x r offer. every-append keeps_known (received_steps m) _ receipt refl)
-        (λ x r reply. every-append keeps_known (received_steps m) _ receipt refl) x
+        (λ x r reply. every-append keeps_known (received_steps m) _ receipt refl)
+        (λ x r. every-append keeps_known (received_steps m) _ receipt refl) x
 
     at : (o : Option WaitRow) → KeepKnown (given o (λ x. given_steps x m ++ woken SUCCESS (shown x m) x ∷ []))
     at None = refl
@@ -196,11 +204,18 @@ module _ (w : World) (line : ScriptLine) (o : World) (P : WaitRow → Type 0) (c
   receive_right : (status : Status) (x : WaitRow) → P x → (is_receive x || is_listen x) ≡ true → AreFair w line (wake status x)
   receive_right status x q is = (waiter_wakes w line x status [] is (calls x q), tt)
 
-  request_right : (status : Status) (x : WaitRow) → (status.0 == SUCCESS.0) ≡ false → P x → is_request x ≡ true → AreFair w line (end_request status x)
-  request_right status x fails q is = ((failure_wakes w line x.thread x.call status [] fails, request_wakes w line x status [] is (calls x q)), (tt, tt))
+  request_right : (status : Status) (x : WaitRow) → (status.0 == SUCCESS.0) ≡ false → (status.0 == DBG_CONTINUE.0) ≡ false → P x → is_request x ≡ true → AreFair w line (end_request status x)
+  request_right status x fails stops q is = ((failure_wakes w line x.thread x.call status [] fails stops, request_wakes w line x status [] is (calls x q)), (tt, tt))
 
   known_calls : (v : World) → Knows P o v → HaveTheirCalls v
   known_calls v k = all_more P HasItsCall calls v.waits k.waits
+
+  -- an event that is marked waits on
+  marks_on : (test : World → WaitRow → Bool) → AreFairOn (end_each test mark_event)
+  marks_on test = ends_on test mark_event (λ v x k q is. (tt, (tt, tt)))
+
+  marks_keep : (test : World → WaitRow → Bool) (v : World) → KeepKnown (end_each test mark_event v)
+  marks_keep test v = ends_keep test mark_event (λ x. refl) v
 
   -- steps that wake none
   idle_on : (x : Basic) → IsFair w line x → AreFairOn (doing (x ∷ []))
@@ -224,7 +239,7 @@ module _ (w : World) (line : ScriptLine) (o : World) (P : WaitRow → Type 0) (c
     accepted_on = ends_on (is_accepted_across b) end_accepted (λ v x k q is. (accepted x q (across_as v x k is), (tt, tt)))
 
     across_on : AreFairOn (end_each (is_request_across b) (end_request LPC_REPLY_LOST))
-    across_on = ends_on (is_request_across b) (end_request LPC_REPLY_LOST) (λ v x k q is. request_right LPC_REPLY_LOST x refl q (first-true _ _ is))
+    across_on = ends_on (is_request_across b) (end_request LPC_REPLY_LOST) (λ v x k q is. request_right LPC_REPLY_LOST x refl refl q (first-true _ _ is))
 
     received_on : AreFairOn (end_each (is_receive_across b) (wake PORT_DISCONNECTED))
     received_on = ends_on (is_receive_across b) (wake PORT_DISCONNECTED) (λ v x k q is.
@@ -232,26 +247,37 @@ module _ (w : World) (line : ScriptLine) (o : World) (P : WaitRow → Type 0) (c
         receive_right PORT_DISCONNECTED x q (grind (arith, receives)))
 
     pub pair_on : AreFairOn (cut_pair b)
-    pair_on = then_fair (end_each (is_request_across b) (end_request LPC_REPLY_LOST)) (end_each (is_receive_across b) (wake PORT_DISCONNECTED) ▹ (end_each (is_accepted_across b) end_accepted ▹ doing (Cuts b ∷ []))) (ends_keep (is_request_across b) (end_request LPC_REPLY_LOST) (λ x. refl)) across_on
-        (then_fair (end_each (is_receive_across b) (wake PORT_DISCONNECTED)) (end_each (is_accepted_across b) end_accepted ▹ doing (Cuts b ∷ [])) (ends_keep (is_receive_across b) (wake PORT_DISCONNECTED) (λ x. refl)) received_on
-        (then_fair (end_each (is_accepted_across b) end_accepted) (doing (Cuts b ∷ [])) (ends_keep (is_accepted_across b) end_accepted (λ x. refl)) accepted_on (idle_on (Cuts b) tt)))
+    pair_on =
+        let events : Steps = end_each (is_event_across b) mark_event in
+        let receives : Steps = end_each (is_receive_across b) (wake PORT_DISCONNECTED) in
+        let accepts : Steps = end_each (is_accepted_across b) end_accepted in
+        let last : Steps = doing (Cuts b ∷ []) in
+        then_fair (end_each (is_request_across b) (end_request LPC_REPLY_LOST)) (events ▹ (receives ▹ (accepts ▹ last))) (ends_keep (is_request_across b) (end_request LPC_REPLY_LOST) (λ x. refl)) across_on
+        (then_fair events (receives ▹ (accepts ▹ last)) (marks_keep (is_event_across b)) (marks_on (is_event_across b))
+        (then_fair receives (accepts ▹ last) (ends_keep (is_receive_across b) (wake PORT_DISCONNECTED) (λ x. refl)) received_on
+        (then_fair accepts last (ends_keep (is_accepted_across b) end_accepted (λ x. refl)) accepted_on (idle_on (Cuts b) tt))))
 
     module _ (offered : (x : WaitRow) → P x → is_offered_to b x ≡ true → HasRefusal w line x) where
       receives_on : AreFairOn (end_receives b)
       receives_on = ends_on (λ w. is_receiver b) (wake PORT_DISCONNECTED) (λ v x k q is. receive_right PORT_DISCONNECTED x q (first-true _ _ is))
 
       requests_on : AreFairOn (end_requests b)
-      requests_on = ends_on (λ w. is_request_on b) (end_request PORT_DISCONNECTED) (λ v x k q is. request_right PORT_DISCONNECTED x refl q (first-true _ _ is))
+      requests_on = ends_on (λ w. is_request_on b) (end_request PORT_DISCONNECTED) (λ v x k q is. request_right PORT_DISCONNECTED x refl refl q (first-true _ _ is))
 
       queued_on : AreFairOn (end_each (λ w. is_queued_request b) (end_request LPC_REPLY_LOST))
-      queued_on = ends_on (λ w. is_queued_request b) (end_request LPC_REPLY_LOST) (λ v x k q is. request_right LPC_REPLY_LOST x refl q (first-true _ _ is))
+      queued_on = ends_on (λ w. is_queued_request b) (end_request LPC_REPLY_LOST) (λ v x k q is. request_right LPC_REPLY_LOST x refl refl q (first-true _ _ is))
 
       offers_on : AreFairOn (end_each (λ w. is_offered_to b) end_offered)
       offers_on = ends_on (λ w. is_offered_to b) end_offered (λ v x k q is. (offered x q is, (tt, (tt, tt))))
 
       queue_on : AreFairOn (empty_queue b)
-      queue_on = then_fair (end_each (λ w. is_queued_request b) (end_request LPC_REPLY_LOST)) (end_each (λ w. is_offered_to b) end_offered ▹ doing (Empties b ∷ [])) (ends_keep (λ w. is_queued_request b) (end_request LPC_REPLY_LOST) (λ x. refl)) queued_on
-          (then_fair (end_each (λ w. is_offered_to b) end_offered) (doing (Empties b ∷ [])) (ends_keep (λ w. is_offered_to b) end_offered (λ x. refl)) offers_on (idle_on (Empties b) tt))
+      queue_on =
+          let events : Steps = end_each (is_queued_event b) mark_event in
+          let offers : Steps = end_each (λ w. is_offered_to b) end_offered in
+          let last : Steps = doing (Empties b ∷ []) in
+          then_fair (end_each (λ w. is_queued_request b) (end_request LPC_REPLY_LOST)) (events ▹ (offers ▹ last)) (ends_keep (λ w. is_queued_request b) (end_request LPC_REPLY_LOST) (λ x. refl)) queued_on
+          (then_fair events (offers ▹ last) (marks_keep (is_queued_event b)) (marks_on (is_queued_event b))
+          (then_fair offers last (ends_keep (λ w. is_offered_to b) end_offered (λ x. refl)) offers_on (idle_on (Empties b) tt)))
 
       -- what is posted wakes a receive at most
       posted_on : AreFairOn (post_closed b)
@@ -272,9 +298,10 @@ module _ (w : World) (line : ScriptLine) (o : World) (P : WaitRow → Type 0) (c
       pub port_on : AreFairOn (close_port b)
       unfolding close_port
       port_on =
-          then_fair (drop_name b) (end_receives b ▹ (end_requests b ▹ (empty_queue b ▹ (cut_pair b ▹ (post_closed b ▹ drop_owned b))))) (λ v. refl) (idle_on (Unbinds b) tt)
-          (then_fair (end_receives b) (end_requests b ▹ (empty_queue b ▹ (cut_pair b ▹ (post_closed b ▹ drop_owned b)))) (ends_keep (λ w. is_receiver b) (wake PORT_DISCONNECTED) (λ x. refl)) receives_on
-          (then_fair (end_requests b) (empty_queue b ▹ (cut_pair b ▹ (post_closed b ▹ drop_owned b))) (ends_keep (λ w. is_request_on b) (end_request PORT_DISCONNECTED) (λ x. refl)) requests_on
+          then_fair (drop_name b) (end_receives b ▹ (end_requests b ▹ (mark_events b ▹ (empty_queue b ▹ (cut_pair b ▹ (post_closed b ▹ drop_owned b)))))) (λ v. refl) (idle_on (Unbinds b) tt)
+          (then_fair (end_receives b) (end_requests b ▹ (mark_events b ▹ (empty_queue b ▹ (cut_pair b ▹ (post_closed b ▹ drop_owned b))))) (ends_keep (λ w. is_receiver b) (wake PORT_DISCONNECTED) (λ x. refl)) receives_on
+          (then_fair (end_requests b) (mark_events b ▹ (empty_queue b ▹ (cut_pair b ▹ (post_closed b ▹ drop_owned b)))) (ends_keep (λ w. is_request_on b) (end_request PORT_DISCONNECTED) (λ x. refl)) requests_on
+          (then_fair (mark_events b) (empty_queue b ▹ (cut_pair b ▹ (post_closed b ▹ drop_owned b))) (marks_keep (is_event_on b)) (marks_on (is_event_on b))
           (then_fair (empty_queue b) (cut_pair b ▹ (post_closed b ▹ drop_owned b)) (queue-pass keeps_known away-keeps b) queue_on
           (then_fair (cut_pair b) (post_closed b ▹ drop_owned b) (pair-keeps b) pair_on
-          (then_fair (post_closed b) (drop_owned b) (posted-keeps b) posted_on (idle_on (DropsOwned b) tt))))))
+          (then_fair (post_closed b) (drop_owned b) (posted-keeps b) posted_on (idle_on (DropsOwned b) tt)))))))

@@ -26,7 +26,7 @@ use Rattle.lpc_model.proofs.Calls.Holding.{Holds, bind_holds}
 use Rattle.lpc_tokens.specs.Tokens.{counts_as}
 use Rattle.lpc_tokens.specs.declared.level.TheConstants.{IMPERSONATION}
 use Rattle.lpc_replay.proofs.Failing.{Fails, bind_ends, given_fails, offer_fails, refuse_fails, view_fails, wanted_fails}
-use Rattle.lpc_replay.proofs.Fair.{AreFair, HaveTheirCalls, IsFair, enter_fair, mapped_fair, steps_keep}
+use Rattle.lpc_replay.proofs.Fair.{AreFair, HaveTheirCalls, IsFair, enter_fair, fair_keep, mapped_fair}
 use Rattle.lpc_replay.proofs.Holding.{all_append}
 
 name_fault_fails : (fault : NameFault) → not ((status_of fault).0 == 0) ≡ true
@@ -69,7 +69,7 @@ started_fair w line by connection offer own m h =
     let u = world_after w start in
     let row = row_of connection (client_port by connection) m in
     all_append (IsFair w line) start (enter row u ++ mapped by.process own) fair
-    (all_append (IsFair w line) (enter row u) (mapped by.process own) (enter_fair w line row u (steps_keep w line w start fair h)) (mapped_fair w line by.process own))
+    (all_append (IsFair w line) (enter row u) (mapped by.process own) (enter_fair w line row u (fair_keep w line w start fair h)) (mapped_fair w line by.process own))
 
 pub connect_fair : (w : World) (line : ScriptLine) (by : ThreadRow) (name : List ℕ) (quality : Qos) (view : Option ViewWord) (bytes : List ℕ) → HaveTheirCalls w → Holds (AreFair w line) (nt_connect_port w by name quality view bytes)
 unfolding nt_connect_port

@@ -12,7 +12,7 @@ use Rattle.lpc_base.proofs.Bools.{apart-second}
 use Rattle.lpc_base.specs.declared.birth.Birth.{Birth}
 use Rattle.lpc_base.specs.declared.status.Status.{Status}
 use Rattle.lpc_message.specs.declared.kind.TheConstants.{CLIENT_DIED}
-use Rattle.lpc_model.specs.Basics.{Basic, Cuts, Dies, DropsOwned, Empties, Enters, Steps, Takes, TakesConnect, Tells, Unbinds, Unregisters, Wakes, Withdraws, basic, ended, in_turn, unregistering, world_after}
+use Rattle.lpc_model.specs.Basics.{Basic, Cuts, Dies, DropsOwned, Empties, Enters, LetsGo, Marks, Steps, Takes, TakesConnect, Tells, Unbinds, Unregisters, Wakes, Withdraws, basic, ended, in_turn, unregistering, world_after}
 use Rattle.lpc_model.specs.Close.{cut_pair, is_accepted_across}
 use Rattle.lpc_model.specs.Death.{die, end_client, post_death, post_deaths, death_post}
 use Rattle.lpc_model.specs.Deaths.{is_died_post}
@@ -30,7 +30,9 @@ use Rattle.lpc_model.proofs.Sound.Terminate.{IsSafe, die-safe}
 use Rattle.lpc_model.proofs.Sound.Worlds.{by_kind, is_sure, sure-waits}
 use Rattle.lpc_model.proofs.Closings.SingleLines.{its-maker}
 use Rattle.lpc_model.proofs.Steps.InTurn.{after-append}
+use Rattle.lpc_model.specs.declared.entry.Entry.TheVariants.{Died}
 use Rattle.lpc_replay.specs.Connects.{lives_beside}
+use Rattle.lpc_replay.specs.Ends.{HasEnder}
 use Rattle.lpc_replay.proofs.Fair.{AreFair, HasItsCall, IsFair, when_fair}
 use Rattle.lpc_replay.proofs.FairClosing.{AreFairOn, KeepKnown, Knows, keeps_known, away-keeps, enter-keeps, enter_on, knows-all, pair_on, then_fair}
 use Rattle.lpc_replay.proofs.Holding.{all_append}
@@ -46,6 +48,7 @@ elsewhere w n b shut made =
     by_kind (λ z. is_sure w z ≡ true → is_elsewhere w n b z ≡ true)
     (λ z m is. or_right (waits_as n z) true refl) (λ z is. or_right (waits_as n z) true refl) (λ z is. or_right (waits_as n z) true refl) (λ z m offer is. or_right (waits_as n z) true refl)
     (λ z m reply is. none (waits_as n z) (same_birth z.port b) (is_the b (pair_of w z.port)) (own z (maker-part z is)) (unpaired (pair_of w z.port) (opens-part z is)))
+    (λ z r is. or_right (waits_as n z) true refl)
   where
     two-true : (a o s m : Bool) → ((a && o) && (s && m)) ≡ true → o ≡ true
     two-true a o s m is = grind arith
@@ -115,7 +118,12 @@ own-maker w n x safe found is =
     let both : x.port.maker ≡ n = made ∙ its in
     rw both (grind (arith, nat_tests))
 
-module _ (w : World) (line : ScriptLine) (P : WaitRow → Type 0) (calls : (x : WaitRow) → P x → HasItsCall x) where
+-- the line ends the thread with a code
+abbrev pub HasEnd : World → ScriptLine → Status → ThreadRow → Type 0
+HasEnd w line code t = HasEnder w line (Died t.number code)
+
+-- the line is one in another world than that which its steps have left by now
+module _ (start : World) (line : ScriptLine) (w : World) (P : WaitRow → Type 0) (calls : (x : WaitRow) → P x → HasItsCall x) where
   -- the waits of others, none of which the cut of the thread's client port ends
   abbrev IsOther : World → Birth → WaitRow → Type 0
   IsOther v b x = P x × (is_accepted_across b v x ≡ false)
@@ -131,44 +139,44 @@ module _ (w : World) (line : ScriptLine) (P : WaitRow → Type 0) (calls : (x : 
       at true is rest = rest
       at false is rest = ((all.0, not-true (is_accepted_across b v x) is), rest)
 
-  die_fair : (code : Status) (t : ThreadRow) (v : World) → IsSafe v → Knows P w v → AreFair w line (die code t v)
-  die_fair code t v safe k = all_append (IsFair w line) (dead t.number code) (end_client (wait_of v t.number) (left t.number code v)) (tt, (tt, tt)) (at (wait_of v t.number) refl)
+  die_fair : (code : Status) (t : ThreadRow) (v : World) → HasEnd start line code t → IsSafe v → Knows P w v → AreFair start line (die code t v)
+  die_fair code t v ends safe k = all_append (IsFair start line) (dead t.number code) (end_client (wait_of v t.number) (left t.number code v)) ((tt, ends), (tt, tt)) (at (wait_of v t.number) refl)
     where
-      by_accept : (x : WaitRow) → wait_of v t.number ≡ Some x → (a : Bool) → is_accepted x ≡ a → AreFair w line (when a (cut_pair x.port (left t.number code v)))
+      by_accept : (x : WaitRow) → wait_of v t.number ≡ Some x → (a : Bool) → is_accepted x ≡ a → AreFair start line (when a (cut_pair x.port (left t.number code v)))
       by_accept x found false off = tt
       by_accept x found true is =
           let b = x.port in
           let off : every (is_elsewhere v t.number b) v.waits ≡ true = every-more (is_sure v) (is_elsewhere v t.number b) (elsewhere v t.number b (shut-connect v t.number x safe.shut found is) (own-maker v t.number x safe found is)) v.waits (sure-waits v safe.sound) in
-          pair_on w line v (IsOther v b) (λ x q. calls x q.0) b (λ x q across. absurd (cc)) (left t.number code v)
+          pair_on start line v (IsOther v b) (λ x q. calls x q.0) b (λ x q across. absurd (cc)) (left t.number code v)
           (record { waits = others_left v t.number b v.waits k.waits off; pairs = λ q c same. same })
 
-      at : (o : Option WaitRow) → wait_of v t.number ≡ o → AreFair w line (end_client o (left t.number code v))
+      at : (o : Option WaitRow) → wait_of v t.number ≡ o → AreFair start line (end_client o (left t.number code v))
       at None none = tt
       at (Some x) found =
           let cuts = when (is_accepted x) (cut_pair x.port (left t.number code v)) in
           let drops = DropsOwned x.port ∷ [] in
-          all_append (IsFair w line) cuts (when (is_connect x) drops) (by_accept x found (is_accepted x) refl) (when_fair w line (is_connect x) drops (tt, tt))
+          all_append (IsFair start line) cuts (when (is_connect x) drops) (by_accept x found (is_accepted x) refl) (when_fair start line (is_connect x) drops (tt, tt))
 
-  pub dies_fair : (code : Status) (ts : List ThreadRow) (v : World) → IsSafe v → Knows P w v → AreFair w line (in_turn (die code) ts v)
-  dies_fair code [] v safe k = tt
-  dies_fair code (t ∷ ts) v safe k =
+  pub dies_fair : (code : Status) (ts : List ThreadRow) (v : World) → AllByRecursion (HasEnd start line code) ts → IsSafe v → Knows P w v → AreFair start line (in_turn (die code) ts v)
+  dies_fair code [] v ends safe k = tt
+  dies_fair code (t ∷ ts) v ends safe k =
       let u = behind (die code t) v in
-      all_append (IsFair w line) (die code t v) (in_turn (die code) ts u) (die_fair code t v safe k)
-      (dies_fair code ts u (die-safe code t v safe) (knows-all P w v (die code t v) (die_keeps code t v) k))
+      all_append (IsFair start line) (die code t v) (in_turn (die code) ts u) (die_fair code t v ends.0 safe k)
+      (dies_fair code ts u ends.1 (die-safe code t v safe) (knows-all P w v (die code t v) (die_keeps code t v) k))
 
   -- What is told of them
-  told_on : (t : ThreadRow) (b : Birth) → AreFairOn w line w P calls (post_death t b)
+  told_on : (t : ThreadRow) (b : Birth) → AreFairOn start line w P calls (post_death t b)
   told_on t b v k = (tt, at (death_post (basic v (Unregisters t.number b)) t b))
     where
-      at : (o : Option MessageRow) → AreFair w line (given o (λ m. enter m (basic v (Unregisters t.number b))))
+      at : (o : Option MessageRow) → AreFair start line (given o (λ m. enter m (basic v (Unregisters t.number b))))
       at None = tt
-      at (Some m) = enter_on w line w P calls m (basic v (Unregisters t.number b)) (record { waits = k.waits; pairs = k.pairs })
+      at (Some m) = enter_on start line w P calls m (basic v (Unregisters t.number b)) (record { waits = k.waits; pairs = k.pairs })
 
-  turn_on : {A : Type 0} (f : A → Steps) → ((x : A) (v : World) → KeepKnown (f x v)) → ((x : A) → AreFairOn w line w P calls (f x)) → (xs : List A) → AreFairOn w line w P calls (in_turn f xs)
+  turn_on : {A : Type 0} (f : A → Steps) → ((x : A) (v : World) → KeepKnown (f x v)) → ((x : A) → AreFairOn start line w P calls (f x)) → (xs : List A) → AreFairOn start line w P calls (in_turn f xs)
   turn_on f keep fair [] v k = tt
-  turn_on f keep fair (x ∷ xs) v k = then_fair w line w P calls (f x) (in_turn f xs) (keep x) (fair x) (turn_on f keep fair xs) v k
+  turn_on f keep fair (x ∷ xs) v k = then_fair start line w P calls (f x) (in_turn f xs) (keep x) (fair x) (turn_on f keep fair xs) v k
 
-  pub deaths_fair : (ts : List ThreadRow) → AreFairOn w line w P calls (in_turn post_deaths ts)
+  pub deaths_fair : (ts : List ThreadRow) → AreFairOn start line w P calls (in_turn post_deaths ts)
   deaths_fair ts = turn_on post_deaths deaths_keep (λ t. turn_on (post_death t) (λ b v. told_keeps t b v) (told_on t) t.registrations) ts
 
 -- The threads behind them
@@ -186,6 +194,8 @@ beside_step t v (Unregisters who b) known still = has-change (lives_beside t) (i
 beside_step t v (Cuts b) known still = refl
 beside_step t v (Unbinds b) known still = refl
 beside_step t v (DropsOwned b) known still = refl
+beside_step t v (Marks who) known still = refl
+beside_step t v (LetsGo pid) known still = refl
 beside_step t v x known still = absurd (cc)
 
 beside_all : (t : ThreadRow) (v : World) (bs : List Basic) → KeepKnown bs → every is_still bs ≡ true → has (lives_beside t) (world_after v bs).threads ≡ has (lives_beside t) v.threads

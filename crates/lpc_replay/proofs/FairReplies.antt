@@ -1,19 +1,21 @@
 -- A reply that isn't refused is that of its reply call, and returns its bytes.
 use Rattle.std.proofs.Common.{Bool, List, [], ap, false, refl, subst, true, ℕ, ◌∙◌, ◌∷◌, ◌≡◌}
-use Rattle.std.specs.Prelude.{None, Ok, Option, Some, is_some, nat_lt, not, option_and_then, ◌&&◌}
+use Rattle.std.specs.Prelude.{None, Ok, Option, Some, is_some, nat_lt, not, option_and_then, if◌then◌else◌, ◌||◌}
 use Rattle.lpc_base.proofs.RowWords.{first-passes}
 use Rattle.lpc_base.proofs.Births.{birth-same}
 use Rattle.lpc_base.specs.declared.birth.Birth.{Birth}
 use Rattle.lpc_base.specs.declared.limits.TheConstants.{MESSAGE_LIMIT}
-use Rattle.lpc_base.specs.declared.status.TheConstants.{ACCESS_DENIED, INVALID_HANDLE, INVALID_PARAMETER, OBJECT_TYPE_MISMATCH, PORT_MESSAGE_TOO_LONG, REPLY_MESSAGE_MISMATCH, SUCCESS}
+use Rattle.lpc_base.specs.declared.status.TheConstants.{ACCESS_DENIED, DBG_CONTINUE, INVALID_HANDLE, INVALID_PARAMETER, OBJECT_TYPE_MISMATCH, PORT_MESSAGE_TOO_LONG, REPLY_MESSAGE_MISMATCH, SUCCESS}
 use Rattle.lpc_message.specs.Layout.{fault_of, header_of}
 use Rattle.lpc_model.specs.Fields.{msg}
-use Rattle.lpc_model.specs.Found.{fits, fitted, handle_at, is_port, live_thread, port_row, same_kind}
+use Rattle.lpc_model.specs.Found.{fits, fitted, handle_at, is_event, is_port, is_request, live_thread, port_row, same_kind}
 use Rattle.lpc_model.specs.Lines.{ScriptLine}
 use Rattle.lpc_model.specs.Message.{as_reply, bytes_of, message_of, message_test}
 use Rattle.lpc_model.specs.Refusal.{refuse_if}
-use Rattle.lpc_model.specs.Replies.{Reply, as_returned, message_in, port_of, reply_of}
-use Rattle.lpc_model.specs.Request.{reply_test, optional_message, reply}
+use Rattle.lpc_model.specs.Replies.{IsContinuedBy, IsReturnedBy, Reply, as_returned, message_in, port_named_by, port_of, reply_of}
+use Rattle.lpc_model.specs.Basics.{Basic, Marks}
+use Rattle.lpc_model.specs.Entering.{woken}
+use Rattle.lpc_model.specs.Request.{handles_event, optional_message, reply, reply_test}
 use Rattle.lpc_model.specs.Tests.{PORT_RIGHT, client_test, includes, object_test, own_handle, port_test}
 use Rattle.lpc_model.specs.World.{HandleRow, PortRow, ThreadRow, WaitRow, World}
 use Rattle.lpc_model.specs.declared.entry.FieldName.TheVariants.{Msg}
@@ -22,8 +24,9 @@ use Rattle.lpc_model.specs.declared.entry.Value.TheVariants.{Bytes}
 use Rattle.lpc_model.specs.declared.message.Message.{Message}
 use Rattle.lpc_model.proofs.GivenBytes.{HasHeader, written_back}
 use Rattle.lpc_model.proofs.Calls.Holding.{Holds, bind_holds, found_holds, found_ok, holds_ok, not_refused}
-use Rattle.lpc_model.proofs.Sound.Reply.{fits-request}
-use Rattle.lpc_replay.proofs.Fair.{HasItsCall, HaveTheirCalls, IsFair, reply_wakes, request_wakes}
+use Rattle.lpc_model.proofs.Sound.Reply.{fits-asking}
+use Rattle.lpc_model.proofs.Sound.Worlds.{by_kind}
+use Rattle.lpc_replay.proofs.Fair.{HasItsCall, HaveTheirCalls, IsFair, continued_wakes, reply_wakes, request_wakes}
 use Rattle.lpc_replay.proofs.Holding.{find_all, not_false}
 
 -- the port on which a reply is made is the one that its handle names
@@ -82,30 +85,66 @@ shows_own : (bytes : List ℕ) (m : Message) → bytes_of m ≡ bytes → msg (a
 unfolding bytes_of
 shows_own bytes m same = subst (λ own. msg (as_reply m) ∷ [] ≡ record { name = Msg; value = Bytes (record { items = as_returned own }) } ∷ []) same refl
 
--- a reply that a line makes is that of its reply call
-fit_request : (a b c d e : Bool) → (a && (b && (c && (d && e)))) ≡ true → d ≡ true
-fit_request true true true true e is = refl
-fit_request true true true false e is = absurd (cc)
-fit_request true true false d e is = absurd (cc)
-fit_request true false c d e is = absurd (cc)
-fit_request false b c d e is = absurd (cc)
+-- a reply wakes a request, or an event that it handles, and else it marks the event
+module _ (P : Basic → Type 0) (m : Message) where
+  abbrev AsReplied : WaitRow → Type 0
+  AsReplied x =
+      (is_request x || is_event x) ≡ true → (is_request x ≡ true → P (woken SUCCESS (msg (as_reply m) ∷ []) x)) → (is_event x ≡ true → handles_event m ≡ true → P (woken DBG_CONTINUE [] x)) → P (Marks x.thread) → P (reply x m)
 
+  by_word : (x : WaitRow) (handles : Bool) → (handles ≡ true → P (woken DBG_CONTINUE [] x)) → P (Marks x.thread) → P (if handles then woken DBG_CONTINUE [] x else Marks x.thread)
+  by_word x true two three = two refl
+  by_word x false two three = three
+
+  by_asking : (x : WaitRow) → AsReplied x
+  by_asking =
+      by_kind AsReplied (λ x n is one two three. one refl)
+      (λ x is. absurd (cc)) (λ x is. absurd (cc)) (λ x n offer is. absurd (cc)) (λ x n a is. absurd (cc))
+      (λ x r is one two three. by_word x (handles_event m) (two refl) three)
+
+-- a reply that a line makes is that of its reply call
 pub returned_fair : (w : World) (line : ScriptLine) (r : Reply) (by : ThreadRow) (port : PortRow) (m : Message) → HaveTheirCalls w → reply_of line ≡ Some r → HasHeader r.bytes → live_thread w r.by ≡ Some by → port_test w by r.handle ≡ Ok port → message_test r.bytes ≡ Ok m → Holds (λ x. IsFair w line (reply x m)) (reply_test w port m)
 returned_fair w line r by port m h is_reply are live at is =
     let P : WaitRow → Type 0 = λ x. IsFair w line (reply x m) in
     bind_holds (client_test w m.header.client) _ P (λ _ _.
-    found_holds P (fitted w port.birth m) REPLY_MESSAGE_MISMATCH (λ x fit. (
-      reply_wakes w line x.thread x.call (msg (as_reply m) ∷ []) (record {
-        reply = r;
-        port = port.birth;
-        message = m;
-        wait = x;
-        is_reply = is_reply;
-        names_port = rw live (holds_ok _ (port_test w by r.handle) port (port_holds w by r.handle) at);
-        is_message = holds_ok _ (message_test r.bytes) m (message_holds r.by r.handle r.bytes) is;
-        fitting = fit;
-        its_wait = refl;
-        shows = shows_own r.bytes m (bytes_again r.bytes m are is);
-      }),
-      request_wakes w line x SUCCESS (msg (as_reply m) ∷ []) (fits-request w port.birth m x (first-passes (fits w port.birth m) w.waits x fit)) (find_all HasItsCall (fits w port.birth m) w.waits x h fit),
-    )))
+    found_holds P (fitted w port.birth m) REPLY_MESSAGE_MISMATCH (λ x fit.
+    let passes = first-passes (fits w port.birth m) w.waits x fit in
+    let its_call = find_all HasItsCall (fits w port.birth m) w.waits x h fit in
+    let fields = msg (as_reply m) ∷ [] in
+    by_asking (IsFair w line) m x (fits-asking w port.birth m x passes)
+    (λ asks. (reply_wakes w line x fields asks its_call (returned x fit), request_wakes w line x SUCCESS fields asks its_call))
+    (λ event handles. continued_wakes w line x event its_call (continued x fit handles))
+    tt))
+  where
+    named : port_named_by w r ≡ Some port.birth
+    named = rw live (holds_ok _ (port_test w by r.handle) port (port_holds w by r.handle) at)
+
+    read : message_in r ≡ Some m
+    read = holds_ok _ (message_test r.bytes) m (message_holds r.by r.handle r.bytes) is
+
+    returned : (x : WaitRow) → fitted w port.birth m ≡ Some x → IsReturnedBy w line x.thread (msg (as_reply m) ∷ [])
+    returned x fit = record {
+      reply = r;
+      port = port.birth;
+      message = m;
+      wait = x;
+      is_reply = is_reply;
+      names_port = named;
+      is_message = read;
+      fitting = fit;
+      its_wait = refl;
+      shows = shows_own r.bytes m (bytes_again r.bytes m are is);
+    }
+
+    continued : (x : WaitRow) → fitted w port.birth m ≡ Some x → handles_event m ≡ true → IsContinuedBy w line x.thread
+    continued x fit handles = record {
+      reply = r;
+      port = port.birth;
+      message = m;
+      wait = x;
+      is_reply = is_reply;
+      names_port = named;
+      is_message = read;
+      fitting = fit;
+      its_wait = refl;
+      continues = handles;
+    }

@@ -1,5 +1,5 @@
 -- A reply call that is refused: its one entry, and that it is all.
-use Rattle.std.proofs.Common.{Bool, List, [], false, refl, true, ℕ, ◌∷◌, ◌≡◌}
+use Rattle.std.proofs.Common.{Bool, List, [], false, refl, true, ℕ, ◌++◌, ◌∷◌, ◌≡◌}
 use Rattle.std.specs.Prelude.{None, Some, not, option_and_then, ◌&&◌}
 use Rattle.lpc_base.specs.declared.birth.Birth.{Birth}
 use Rattle.lpc_base.specs.declared.status.TheConstants.{INVALID_CID, REPLY_MESSAGE_MISMATCH}
@@ -26,9 +26,10 @@ OneRefusal tid bs = (e : Entry) × (is_refusal tid e ≡ true) × (bs ≡ Tells 
 pub no_fit : (w : World) (r : Reply) (by : ThreadRow) (port : Birth) (m : Message) (x : WaitRow) → live_thread w r.by ≡ Some by → option_and_then port_of (handle_at w by.process r.handle) ≡ Some port → message_in r ≡ Some m → fitted_wait w r ≡ None → fitted w port m ≡ Some x → ⊥
 no_fit w r by port m x live at is misfit fit = let none : fitted w port m ≡ None = rw (live, at, is) at misfit in absurd (cc)
 
--- where the thread's own entry is a refusal, it is all
+-- where the thread's own entry is a refusal, whatever comes behind the steps, it is all of them
 abbrev pub StaysWhereRefused : ℕ → List Basic → Type 0
-StaysWhereRefused tid bs = IsRefused tid (entries_of bs) → (e : Entry) × (bs ≡ Tells e ∷ [])
+StaysWhereRefused tid bs =
+    (later : List Basic) → IsRefused tid (entries_of (bs ++ later)) → (e : Entry) × (bs ≡ Tells e ∷ [])
 
 pub no_success : (b : Bool) → (b && false) ≡ true → ⊥
 no_success true h = absurd (cc)

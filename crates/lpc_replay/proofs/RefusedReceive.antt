@@ -61,10 +61,10 @@ receive_misfits w r by live misfit =
 
 -- the caller's own entry of a receive comes first, and it is no refusal
 made_receive : (tid : ℕ) (by : ThreadRow) (port : PortRow) (queue : Birth) (bs : List Basic) (o : Option MessageRow) → StaysWhereRefused tid (receive_steps by port queue bs o)
-made_receive tid by port queue bs (Some m) r =
+made_receive tid by port queue bs (Some m) later r =
     let same : r.own ≡ Answer by.number NtReplyWaitReceivePort SUCCESS (receipt m) = cc in
     absurd (no_success (by.number == tid) (rw same at r.refusal))
-made_receive tid by port queue bs None r =
+made_receive tid by port queue bs None later r =
     let same : r.own ≡ Waits by.number NtReplyWaitReceivePort [] = cc in
     let none = rw same at r.refusal in
     absurd (cc)

@@ -27,7 +27,7 @@ reply_misfits w r by live misfit =
     absurd (no_fit w r by port.birth m x live (holds_ok _ _ port (port_holds w by r.handle) at) (holds_ok _ _ m (message_holds r.by r.handle r.bytes) is) misfit (holds_ok _ _ x (answered-fits w port m) fit)))))
 
 made_reply : (tid : ℕ) (by : ThreadRow) (x : WaitRow) (m : Message) → StaysWhereRefused tid (reply_steps by x m)
-made_reply tid by x m r =
+made_reply tid by x m later r =
     let same : r.own ≡ Answer by.number NtReplyPort SUCCESS [] = cc in
     absurd (no_success (by.number == tid) (rw same at r.refusal))
 

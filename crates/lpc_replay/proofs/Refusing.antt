@@ -1,24 +1,24 @@
 -- Each reply that fits no wait is refused, and a refused reply changes nothing.
-use Rattle.std.proofs.Common.{Bool, List, [], ap, false, length, refl, subst, true, ℕ, ◌∙◌, ◌∷◌, ◌≡◌}
+use Rattle.std.proofs.Common.{Bool, List, [], ap, false, length, refl, subst, true, ℕ, ◌++◌, ◌∙◌, ◌∷◌, ◌≡◌}
 use Rattle.std.specs.Prelude.{Err, None, Ok, Option, Result, Some, ◌==◌}
 use Rattle.lpc_base.proofs.RowWords.{first-passes}
 use Rattle.lpc_base.proofs.Bools.{first-true, same-number}
 use Rattle.lpc_base.specs.declared.status.Status.{Status}
-use Rattle.lpc_model.specs.Basics.{Basic, Tells, entries_of, going_on, posts_of, world_after}
+use Rattle.lpc_model.specs.Basics.{Basic, Tells, entries_of, posts_of, world_after}
 use Rattle.lpc_model.specs.Fields.{info}
 use Rattle.lpc_model.specs.Found.{is_live_thread, live_thread, wait_of}
-use Rattle.lpc_model.specs.Lines.{ScriptCall, ScriptLine, accept_connect_port, boot, close, complete_connect_port, connect_port, create_port, create_process, create_thread, dir, duplicate_object, link, listen_port, query_object, register_thread_terminate_port, reply_port, reply_wait_receive_port, request_port, request_wait_reply_port, run, terminate_process, terminate_thread, thread, token, create_section, map_view_of_section, read_virtual_memory, unmap_view_of_section, write_virtual_memory, read_request_data, write_request_data, impersonate_client_of_port, open_process_token, open_thread_token, query_information_token, set_information_thread, of_resident}
+use Rattle.lpc_model.specs.Lines.{ScriptCall, ScriptLine, of_resident, accept_connect_port, boot, close, complete_connect_port, connect_port, create_port, create_process, create_thread, dir, duplicate_object, link, listen_port, query_object, register_thread_terminate_port, reply_port, reply_wait_receive_port, request_port, request_wait_reply_port, run, terminate_process, terminate_thread, thread, token, create_section, map_view_of_section, read_virtual_memory, unmap_view_of_section, write_virtual_memory, read_request_data, write_request_data, impersonate_client_of_port, open_process_token, open_thread_token, query_information_token, raise, set_information_process, set_information_thread}
 use Rattle.lpc_model.specs.Linked.{HasHeldRows}
-use Rattle.lpc_model.specs.Machine.{bare_steps, name_of_call, ready_steps, service_of, settled, step, thread_steps}
+use Rattle.lpc_model.specs.Machine.{bare_steps, name_of_call, own_steps, ready_steps, service_of, settled, step, steps, thread_steps}
 use Rattle.lpc_model.specs.Replies.{ChangesNothing, IsRefused, MisfitsAreRefused, RefusedRepliesChangeNothing, Reply, fitted_wait, reply_of}
-use Rattle.lpc_model.specs.Sweep.{sweep}
+use Rattle.lpc_model.specs.Settle.{IsSettled, settle}
 use Rattle.lpc_model.specs.World.{ThreadRow, WaitRow, World}
 use Rattle.lpc_model.specs.declared.entry.CallName.{CallName}
 use Rattle.lpc_model.specs.declared.entry.Entry.TheVariants.{Answer, Busy, NoThread}
 use Rattle.lpc_model.specs.declared.entry.Entry.{Entry}
 use Rattle.lpc_model.proofs.Calls.Holding.{Holds, settled_holds}
 use Rattle.lpc_replay.proofs.Failing.{Ends}
-use Rattle.lpc_replay.proofs.HeldWorlds.{held_sweep, step_tells}
+use Rattle.lpc_replay.proofs.HeldWorlds.{held_sweep, settled_none, step_tells}
 use Rattle.lpc_replay.proofs.Misfits.{OneRefusal, StaysWhereRefused}
 use Rattle.lpc_replay.proofs.RefusedReceive.{receive_misfits, receive_stays}
 use Rattle.lpc_replay.proofs.RefusedReply.{reply_misfits, reply_stays}
@@ -50,8 +50,8 @@ misfit_thread : (w : World) (r : Reply) (receives : Bool) (o : Option ThreadRow)
 misfit_thread w r receives None live misfit = (NoThread r.by, same-number r.by, refl)
 misfit_thread w r receives (Some by) live misfit = misfit_ready w r receives by (wait_of w r.by) live misfit
 
-misfit_steps : (w : World) (r : Reply) (receives : Bool) → fitted_wait w r ≡ None → OneRefusal r.by (bare_steps (run r.by (replying receives r)) w)
-unfolding bare_steps
+misfit_steps : (w : World) (r : Reply) (receives : Bool) → fitted_wait w r ≡ None → OneRefusal r.by (own_steps (run r.by (replying receives r)) w)
+unfolding own_steps
 misfit_steps w r receives misfit = misfit_thread w r receives (live_thread w r.by) refl misfit
 
 -- what holds of each reply call holds of each line that is one
@@ -92,6 +92,8 @@ each_reply P h (run tid (set_information_thread class)) r is = absurd (cc)
 each_reply P h (run tid open_thread_token) r is = absurd (cc)
 each_reply P h (run tid open_process_token) r is = absurd (cc)
 each_reply P h (run tid (query_information_token handle class)) r is = absurd (cc)
+each_reply P h (run tid (set_information_process target class port)) r is = absurd (cc)
+each_reply P h (run tid (raise code handled)) r is = absurd (cc)
 each_reply P h (boot pid tid name) r is = absurd (cc)
 each_reply P h (thread tid pid) r is = absurd (cc)
 each_reply P h (token name content) r is = absurd (cc)
@@ -99,8 +101,21 @@ each_reply P h (of_resident tid what had) r is = absurd (cc)
 each_reply P h (dir path) r is = absurd (cc)
 each_reply P h (link path target) r is = absurd (cc)
 
-one_refused : (w : World) (line : ScriptLine) (tid : ℕ) → OneRefusal tid (bare_steps line w) → IsRefused tid (step w line).entries
-one_refused w line tid one = record { own = one.0; others = []; refusal = one.1; told = step_tells w line ∙ ap entries_of one.2 }
+-- a step tells what its line's own steps do, and what the world does behind them as it settles
+abbrev behind_own : World → ScriptLine → List Basic
+behind_own w line = settle (world_after w (own_steps line w))
+
+own_tells : (w : World) (line : ScriptLine) → (step w line).entries ≡ entries_of (own_steps line w ++ behind_own w line)
+unfolding bare_steps
+own_tells w line = step_tells w line
+
+one_refused : (w : World) (line : ScriptLine) (tid : ℕ) → OneRefusal tid (own_steps line w) → IsRefused tid (step w line).entries
+one_refused w line tid one = record {
+  own = one.0;
+  others = entries_of (behind_own w line);
+  refusal = one.1;
+  told = own_tells w line ∙ ap (λ bs. entries_of (bs ++ behind_own w line)) one.2;
+}
 
 pub misfits_refused : (w : World) (line : ScriptLine) → MisfitsAreRefused w line
 misfits_refused w line =
@@ -113,34 +128,35 @@ service_stays w r true by = receive_stays w r.by by r.handle (Some r.bytes)
 service_stays w r false by = reply_stays w r.by by r.handle r.bytes
 
 ready_stays : (w : World) (r : Reply) (receives : Bool) (by : ThreadRow) (o : Option WaitRow) → StaysWhereRefused r.by (ready_steps by (replying receives r) o w)
-ready_stays w r receives by (Some x) = λ _. (Busy by.number, refl)
+ready_stays w r receives by (Some x) = λ later _. (Busy by.number, refl)
 ready_stays w r receives by None =
     let c = replying receives r in
-    settled_holds (StaysWhereRefused r.by) by (name_of_call c) (service_of w by c) (service_stays w r receives by) (λ s _ _. (Answer by.number (name_of_call c) s [], refl))
+    settled_holds (StaysWhereRefused r.by) by (name_of_call c) (service_of w by c) (service_stays w r receives by) (λ s _ later _. (Answer by.number (name_of_call c) s [], refl))
 
 thread_stays : (w : World) (r : Reply) (receives : Bool) (o : Option ThreadRow) → StaysWhereRefused r.by (thread_steps r.by (replying receives r) o w)
-thread_stays w r receives None = λ _. (NoThread r.by, refl)
+thread_stays w r receives None = λ later _. (NoThread r.by, refl)
 thread_stays w r receives (Some by) = ready_stays w r receives by (wait_of w r.by)
 
-steps_stay : (w : World) (r : Reply) (receives : Bool) → StaysWhereRefused r.by (bare_steps (run r.by (replying receives r)) w)
-unfolding bare_steps
+steps_stay : (w : World) (r : Reply) (receives : Bool) → StaysWhereRefused r.by (own_steps (run r.by (replying receives r)) w)
+unfolding own_steps
 steps_stay w r receives = thread_stays w r receives (live_thread w r.by)
 
--- where nothing is done and each row is held, no row goes
-one_step : (w : World) (bs : List Basic) (e : Entry) → HasHeldRows w → bs ≡ Tells e ∷ [] → going_on w bs sweep ≡ Tells e ∷ []
-one_step w bs e held is = rw (is, held_sweep w held) refl
+-- where nothing is done, nothing is left to settle and each row is held, no row goes
+pub one_step : (w : World) (line : ScriptLine) (e : Entry) → IsSettled w → HasHeldRows w → own_steps line w ≡ Tells e ∷ [] → steps line w ≡ Tells e ∷ []
+unfolding bare_steps
+one_step w line e settles held is = rw (is, settled_none w settles, held_sweep w held) refl
 
-one_changes_nothing : (w : World) (line : ScriptLine) → HasHeldRows w → (e : Entry) × (bare_steps line w ≡ Tells e ∷ []) → ChangesNothing w line
-one_changes_nothing w line held one =
-    let all = one_step w (bare_steps line w) one.0 held one.1 in
+one_changes_nothing : (w : World) (line : ScriptLine) → IsSettled w → HasHeldRows w → (e : Entry) × (own_steps line w ≡ Tells e ∷ []) → ChangesNothing w line
+one_changes_nothing w line settles held one =
+    let all = one_step w line one.0 settles held one.1 in
     record { stays = ap (world_after w) all; silent = ap posts_of all; alone = ap (λ bs. length (entries_of bs)) all }
 
-refused_bare : (w : World) (line : ScriptLine) (tid : ℕ) → IsRefused tid (step w line).entries → IsRefused tid (entries_of (bare_steps line w))
-refused_bare w line tid refused = subst (IsRefused tid) (step_tells w line) refused
+refused_own : (w : World) (line : ScriptLine) (tid : ℕ) → IsRefused tid (step w line).entries → IsRefused tid (entries_of (own_steps line w ++ behind_own w line))
+refused_own w line tid refused = subst (IsRefused tid) (own_tells w line) refused
 
-pub refusals_stay : (w : World) (line : ScriptLine) → HasHeldRows w → RefusedRepliesChangeNothing w line
-refusals_stay w line held =
+pub refusals_stay : (w : World) (line : ScriptLine) → IsSettled w → HasHeldRows w → RefusedRepliesChangeNothing w line
+refusals_stay w line settles held =
     each_reply (λ line r. IsRefused r.by (step w line).entries → ChangesNothing w line)
     (λ r receives refused.
     let line = run r.by (replying receives r) in
-    one_changes_nothing w line held (steps_stay w r receives (refused_bare w line r.by refused))) line
+    one_changes_nothing w line settles held (steps_stay w r receives (behind_own w line) (refused_own w line r.by refused))) line

@@ -1,10 +1,11 @@
 -- Without the line of a refused reply, the other lines tell the same.
-use Rattle.lpc_model.specs.declared.entry.Entry.{Entry}
 use Rattle.lpc_model.specs.declared.entry.Entry.TheVariants.{Answer, Busy, Died, Directive, NoThread, Waits, Wakes}
+use Rattle.lpc_model.specs.declared.entry.Entry.{Entry}
 use Rattle.lpc_model.specs.Linked.{HasHeldRows}
+use Rattle.lpc_model.specs.Settle.{IsSettled}
 use Rattle.lpc_subsys.specs.Clients.{History}
 use Rattle.lpc_model.specs.Residents.{line_done, heard, Resident, State, win32}
-use Rattle.std.proofs.Common.{Bool, true, sym, subst, fold, ◌≡◌, ℕ, ◌+◌, ◌≤◌, false, List, [], ◌∷◌, ◌++◌, length, map, refl, ap, ◌∙◌, arith, length-append}
+use Rattle.std.proofs.Common.{sym, subst, fold, ◌≡◌, ℕ, ◌+◌, ◌≤◌, false, List, [], ◌∷◌, ◌++◌, length, map, refl, ap, ◌∙◌, arith, length-append, Bool, true}
 use Rattle.std.specs.Prelude.{Option, Some, None, Result, Ok, Err, nat_lt}
 use Rattle.std.proofs.lemmas.Bool.Decides.{nat_tests}
 use Rattle.std.proofs.lemmas.List.{length-map, map-append}
@@ -78,11 +79,12 @@ told_append w front back = rw (trace_append w front back) (map-append (λ (s : S
 
 -- Residents
 -- the state behind lines, and what lines in two parts come to
-abbrev state_after : State (List History) → List (Option ScriptLine) → State (List History)
+state_after : State (List History) → List (Option ScriptLine) → State (List History)
 state_after s [] = s
 state_after s (said ∷ later) = state_after (state_behind win32 s said) later
 
 done_append : (s : State (List History)) (front back : List (Option ScriptLine)) → done_from win32 s (front ++ back) ≡ done_from win32 s front ++ done_from win32 (state_after s front) back
+unfolding state_after
 done_append s [] back = refl
 done_append s (said ∷ later) back = ap (λ lines. said_done win32 s said ∷ lines) (done_append (state_behind win32 s said) later back)
 
@@ -91,7 +93,7 @@ done_length s [] = refl
 done_length s (said ∷ later) = let e = done_length (state_behind win32 s said) later in omega arith
 
 world_after_lines : (s : State (List History)) (lines : List (Option ScriptLine)) → (state_after s lines).world ≡ world_behind s.world (done_from win32 s lines)
-unfolding world_behind
+unfolding world_behind state_after
 world_after_lines s [] = refl
 world_after_lines s (said ∷ later) = world_after_lines (state_behind win32 s said) later
 
@@ -130,6 +132,11 @@ says-itself s = each_reply (λ line r. line_done win32 s line ≡ line) (λ r re
 refused-stays : (s : State (List History)) (line : ScriptLine) (r : Reply) → reply_of line ≡ Some r → IsRefused r.by (step s.world line).entries → ChangesNothing s.world line → state_behind win32 s (Some line) ≡ s
 refused-stays s = each_reply (λ line r. IsRefused r.by (step s.world line).entries → ChangesNothing s.world line → state_behind win32 s (Some line) ≡ s) (λ r receives refused nothing. stays-at s r receives refused nothing)
 
+-- where the line is what it says, and leaves the state as it is, what comes behind it is done as without it
+done_line : (s : State (List History)) (says : ScriptLine) (rest : List (Option ScriptLine)) → line_done win32 s says ≡ says → state_behind win32 s (Some says) ≡ s → done_from win32 s (Some says ∷ rest) ≡ Some says ∷ done_from win32 s rest
+done_line s says rest itself stays =
+    ap (λ line. Some line ∷ done_from win32 (state_behind win32 s (Some says)) rest) itself ∙ ap (λ u. Some says ∷ done_from win32 u rest) stays
+
 refusal_idle : (front : List (List ℕ)) (line : List ℕ) (back : List (List ℕ)) → IsRefusedReplyAt front line back → IsIdle front line back
 refusal_idle front line back r =
     let start : State (List History) = first_state in
@@ -143,16 +150,13 @@ refusal_idle front line back r =
     let reached = lawful_behind no_rows (done_in front) lawful_none in
     let refused : IsRefused r.reply.by (step s.world r.says).entries = subst (λ w. IsRefused r.reply.by (step w r.says).entries) (sym here) r.refused in
     let held : HasHeldRows s.world = subst HasHeldRows (sym here) reached.held in
-    let nothing = refusals_stay s.world r.says held r.reply r.is_reply refused in
+    let settled : IsSettled s.world = subst IsSettled (sym here) reached.settled in
+    let nothing = refusals_stay s.world r.says settled held r.reply r.is_reply refused in
     let stays = refused-stays s r.says r.reply r.is_reply refused nothing in
     let rest = said_from n back in
     let told : List Stepped → List (List Entry) = map (λ (t : Stepped). t.entries) in
-    let before = told (trace no_rows (done_in front)) in
-    let one : done_from win32 s (Some r.says ∷ rest) ≡ Some r.says ∷ done_from win32 s rest =
-    ap (λ says. Some says ∷ done_from win32 (state_behind win32 s (Some r.says)) rest) (says-itself s r.says r.reply r.is_reply)
-    ∙ ap (λ (t : State (List History)). Some r.says ∷ done_from win32 t rest) stays in
     record {
-      before = before;
+      before = told (trace no_rows (done_in front));
       own = (step s.world r.says).entries;
       after = told (trace s.world (done_from win32 s rest));
       place = length-map (trace no_rows (done_in front)) (λ (t : Stepped). t.entries) ∙ (trace_length no_rows (done_in front) ∙ (done_length start said ∙ said_length 1 front r.sound));
@@ -161,13 +165,13 @@ refusal_idle front line back r =
           ∙ (ap (λ lines. told (trace no_rows (done_from win32 start (said ++ lines)))) (said_line n line back r.says (omega (arith, long, more, few)) r.reads ∙ ap (λ lines. Some r.says ∷ lines) (said_shift n back (omega (arith, long, more, few))))
           ∙ (ap (λ lines. told (trace no_rows lines)) (done_append start said (Some r.says ∷ rest))
           ∙ (told_append no_rows (done_in front) (done_from win32 s (Some r.says ∷ rest))
-          ∙ (ap (λ w. before ++ told (trace w (done_from win32 s (Some r.says ∷ rest)))) (sym here)
-          ∙ (ap (λ lines. before ++ told (trace s.world lines)) one
-          ∙ ap (λ steps. before ++ told steps) (trace_line s.world r.says (done_from win32 s rest) nothing.stays))))));
+          ∙ (ap (λ lines. told (trace no_rows (done_in front)) ++ told (trace (world_behind no_rows (done_in front)) lines)) (done_line s r.says rest (says-itself s r.says r.reply r.is_reply) stays)
+          ∙ (ap (λ w. told (trace no_rows (done_in front)) ++ told (trace w (Some r.says ∷ done_from win32 s rest))) (sym here)
+          ∙ ap (λ ss. told (trace no_rows (done_in front)) ++ told ss) (trace_line s.world r.says (done_from win32 s rest) nothing.stays))))));
       without_it =
           ap (λ lines. told (trace no_rows (done_from win32 start lines))) (said_append 1 front back r.sound)
           ∙ (ap (λ lines. told (trace no_rows lines)) (done_append start said rest)
-          ∙ (told_append no_rows (done_in front) (done_from win32 s rest) ∙ ap (λ w. before ++ told (trace w (done_from win32 s rest))) (sym here)));
+          ∙ (told_append no_rows (done_in front) (done_from win32 s rest) ∙ rw (sym here) refl));
     }
 
 pub refusals_idle : (lines : List (List ℕ)) → RefusedRepliesAreIdle lines

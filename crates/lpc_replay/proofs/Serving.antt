@@ -7,6 +7,7 @@ use Rattle.lpc_base.specs.declared.status.Status.{Status}
 use Rattle.lpc_base.specs.declared.status.TheConstants.{INVALID_CID, SUCCESS}
 use Rattle.lpc_base.proofs.RowWords.{change-none, first-passes}
 use Rattle.lpc_subsys.specs.Clients.{ClientRow}
+use Rattle.lpc_model.specs.Basics.{Tells, entries_of, world_after}
 use Rattle.lpc_model.specs.declared.entry.Entry.{Entry}
 use Rattle.lpc_model.specs.declared.entry.Entry.TheVariants.{Busy, Directive}
 use Rattle.lpc_model.specs.declared.entry.Word.TheVariants as word
@@ -18,11 +19,11 @@ use Rattle.lpc_model.specs.Grammar.{has_call_ids}
 use Rattle.lpc_model.specs.Found.{live_thread, wait_of}
 use Rattle.lpc_model.specs.Lines.{ResidentLine, ScriptCall, ScriptLine, boot, dir, hosts, line_of, link, moves, of_resident, run, thread, token}
 use Rattle.lpc_model.specs.Linked.{HasHeldRows}
-use Rattle.lpc_model.specs.Machine.{Stepped, bare_steps, hosting_status, idle_entry, resident_entry, step}
+use Rattle.lpc_model.specs.Machine.{hosting_status, idle_entry, own_steps, resident_entry, step, steps}
 use Rattle.lpc_model.specs.Residents.{Resident, begun, bytes_seen, can_call, heard_in_turn, is_on, new_resident, next_call, turn_done}
 use Rattle.lpc_model.specs.Run.{line_step, said_done, state_behind}
+use Rattle.lpc_model.specs.Settle.{IsSettled}
 use Rattle.lpc_model.specs.World.{ThreadRow, WaitRow, World}
-use Rattle.lpc_model.proofs.Held.FreedPort.{step_swept, swept_none_world, unheld_none}
 use Rattle.lpc_machine.specs.Condition.{condition_by, condition_of}
 use Rattle.lpc_machine.specs.declared.reading.Condition.TheVariants.{Absent, Ready, Waits}
 use Rattle.lpc_residents.specs.Kept.{heard_in, kept, state_of}
@@ -31,18 +32,25 @@ use Rattle.lpc_residents.specs.declared.resident.OwnCall.TheVariants.{Answers, C
 use Rattle.lpc_residents.specs.Turns.{bytes_wanted, bytes_wanted_on, own_call, view_wanted}
 use Rattle.lpc_rows.specs.Clauses.{bytes_through}
 use Rattle.lpc_world.specs.Lent.{view_of_thread}
+use Rattle.lpc_replay.proofs.Refusing.{one_step}
 
 abbrev pub Server : Type 0
 Server = Resident (List ClientRow)
 
--- A line about a server tells one entry, and leaves the rows.
-resident_stays : (w : World) (tid : ℕ) (what : ResidentLine) (had : Bool) → HasHeldRows w → (let e = step w (of_resident tid what had) in e.world) ≡ w
-unfolding bare_steps
-resident_stays w tid what had held = swept_none_world w (unheld_none w held)
+-- A world between two lines: nothing is left to settle, and some row counts for each object.
+abbrev pub AtRest : World → Type 0
+AtRest w = IsSettled w × HasHeldRows w
 
-resident_tells : (w : World) (tid : ℕ) (what : ResidentLine) (had : Bool) → (let e = step w (of_resident tid what had) in e.entries) ≡ resident_entry w tid what had ∷ []
-unfolding bare_steps
-resident_tells w tid what had = ap (λ (e : Stepped). e.entries) (step_swept w (of_resident tid what had))
+-- A line about a server tells one entry, and leaves the rows.
+resident_steps : (w : World) (tid : ℕ) (what : ResidentLine) (had : Bool) → AtRest w → steps (of_resident tid what had) w ≡ Tells (resident_entry w tid what had) ∷ []
+unfolding own_steps
+resident_steps w tid what had rest = one_step w (of_resident tid what had) (resident_entry w tid what had) rest.0 rest.1 refl
+
+resident_stays : (w : World) (tid : ℕ) (what : ResidentLine) (had : Bool) → AtRest w → (let e = step w (of_resident tid what had) in e.world) ≡ w
+resident_stays w tid what had rest = ap (world_after w) (resident_steps w tid what had rest)
+
+resident_tells : (w : World) (tid : ℕ) (what : ResidentLine) (had : Bool) → AtRest w → (let e = step w (of_resident tid what had) in e.entries) ≡ resident_entry w tid what had ∷ []
+resident_tells w tid what had rest = ap entries_of (resident_steps w tid what had rest)
 
 -- Every other line is what it says, and the servers hear of it as of no turn.
 abbrev pub IsPlain : ScriptLine → Type 0
@@ -87,26 +95,26 @@ plain_told w rs line plain = ap (λ done. (line_step w done).entries) (sym (plai
 abbrev Hosts : ℕ → Kind → ℕ → ScriptLine
 Hosts tid kind handle = of_resident tid (hosts kind handle) false
 
-pub host_world : (w : World) (rs : List Server) (tid : ℕ) (kind : Kind) (handle : ℕ) → HasHeldRows w → (state_behind kept (state_of w rs) (Some (Hosts tid kind handle))).world ≡ w
-host_world w rs tid kind handle held = resident_stays w tid (hosts kind handle) (has (is_on tid) rs) held
+pub host_world : (w : World) (rs : List Server) (tid : ℕ) (kind : Kind) (handle : ℕ) → AtRest w → (state_behind kept (state_of w rs) (Some (Hosts tid kind handle))).world ≡ w
+host_world w rs tid kind handle rest = resident_stays w tid (hosts kind handle) (has (is_on tid) rs) rest
 
-pub host_told : (w : World) (rs : List Server) (tid : ℕ) (kind : Kind) (handle : ℕ) → (line_step w (said_done kept (state_of w rs) (Some (Hosts tid kind handle)))).entries ≡ resident_entry w tid (hosts kind handle) (has (is_on tid) rs) ∷ []
-host_told w rs tid kind handle = resident_tells w tid (hosts kind handle) (has (is_on tid) rs)
+pub host_told : (w : World) (rs : List Server) (tid : ℕ) (kind : Kind) (handle : ℕ) → AtRest w → (line_step w (said_done kept (state_of w rs) (Some (Hosts tid kind handle)))).entries ≡ resident_entry w tid (hosts kind handle) (has (is_on tid) rs) ∷ []
+host_told w rs tid kind handle rest = resident_tells w tid (hosts kind handle) (has (is_on tid) rs) rest
 
-pub host_tells : (w : World) (rs : List Server) (tid : ℕ) (kind : Kind) (handle : ℕ) (list old : List Entry) (status : Status) (had : Bool) → old ≡ [] → list ≡ old ++ Directive word.Resident status ∷ [] → status ≡ hosting_status (live_thread w tid) had → had ≡ has (is_on tid) rs → list ≡ (line_step w (said_done kept (state_of w rs) (Some (Hosts tid kind handle)))).entries
+pub host_tells : (w : World) (rs : List Server) (tid : ℕ) (kind : Kind) (handle : ℕ) (list old : List Entry) (status : Status) (had : Bool) → AtRest w → old ≡ [] → list ≡ old ++ Directive word.Resident status ∷ [] → status ≡ hosting_status (live_thread w tid) had → had ≡ has (is_on tid) rs → list ≡ (line_step w (said_done kept (state_of w rs) (Some (Hosts tid kind handle)))).entries
 unfolding resident_entry
-host_tells w rs tid kind handle list old status had empty pushed answered is =
+host_tells w rs tid kind handle list old status had rest empty pushed answered is =
     pushed ∙ (ap (λ (es : List Entry). es ++ Directive word.Resident status ∷ []) empty
-    ∙ (ap (λ (s : Status). Directive word.Resident s ∷ []) (answered ∙ ap (λ b. hosting_status (live_thread w tid) b) is) ∙ sym (host_told w rs tid kind handle)))
+    ∙ (ap (λ (s : Status). Directive word.Resident s ∷ []) (answered ∙ ap (λ b. hosting_status (live_thread w tid) b) is) ∙ sym (host_told w rs tid kind handle rest)))
 
 -- the servers behind the line
 abbrev pub hosted_when : Bool → ℕ → ℕ → List Server → List Server
 hosted_when comes tid handle rs = if comes then rs ++ new_resident kept tid handle ∷ [] else rs
 
-pub host_residents : (w : World) (rs : List Server) (tid : ℕ) (kind : Kind) (handle : ℕ) → (state_behind kept (state_of w rs) (Some (Hosts tid kind handle))).residents ≡ hosted_when (is_some (live_thread w tid) && not (has (is_on tid) rs)) tid handle rs
+pub host_residents : (w : World) (rs : List Server) (tid : ℕ) (kind : Kind) (handle : ℕ) → AtRest w → (state_behind kept (state_of w rs) (Some (Hosts tid kind handle))).residents ≡ hosted_when (is_some (live_thread w tid) && not (has (is_on tid) rs)) tid handle rs
 unfolding resident_entry
-host_residents w rs tid kind handle =
-    ap (λ es. hosted_when (is_some (live_thread w tid) && not (has (is_on tid) rs)) tid handle (heard_in kept false rs es)) (host_told w rs tid kind handle)
+host_residents w rs tid kind handle rest =
+    ap (λ es. hosted_when (is_some (live_thread w tid) && not (has (is_on tid) rs)) tid handle (heard_in kept false rs es)) (host_told w rs tid kind handle rest)
 
 -- it comes where it is answered that it does
 comes_by : (o : Option ThreadRow) (had : Bool) (answer : Status) → answer ≡ hosting_status o had → (answer.0 == SUCCESS.0) ≡ (is_some o && not had)
@@ -114,10 +122,10 @@ comes_by None had answer is = rw is refl
 comes_by (Some t) true answer is = rw is refl
 comes_by (Some t) false answer is = rw is refl
 
-pub host_comes : (w : World) (rs : List Server) (tid : ℕ) (kind : Kind) (handle : ℕ) (status : Status) (had comes : Bool) → status ≡ hosting_status (live_thread w tid) had → had ≡ has (is_on tid) rs → comes ≡ (status.0 == SUCCESS.0) → hosted_when comes tid handle rs ≡ (state_behind kept (state_of w rs) (Some (Hosts tid kind handle))).residents
-host_comes w rs tid kind handle status had comes answered is test =
+pub host_comes : (w : World) (rs : List Server) (tid : ℕ) (kind : Kind) (handle : ℕ) (status : Status) (had comes : Bool) → AtRest w → status ≡ hosting_status (live_thread w tid) had → had ≡ has (is_on tid) rs → comes ≡ (status.0 == SUCCESS.0) → hosted_when comes tid handle rs ≡ (state_behind kept (state_of w rs) (Some (Hosts tid kind handle))).residents
+host_comes w rs tid kind handle status had comes rest answered is test =
     ap (λ b. hosted_when b tid handle rs) (test ∙ (comes_by (live_thread w tid) had status answered ∙ ap (λ b. is_some (live_thread w tid) && not b) is))
-    ∙ sym (host_residents w rs tid kind handle)
+    ∙ sym (host_residents w rs tid kind handle rest)
 
 -- A turn
 abbrev Turn : ℕ → ScriptLine
@@ -134,12 +142,12 @@ idle_heard rs tid None had = refl
 idle_heard rs tid (Some t) false = refl
 idle_heard rs tid (Some t) true = refl
 
-idle_turn : (w : World) (rs : List Server) (tid : ℕ) (had : Bool) → HasHeldRows w → turn_done kept w tid (can_call w tid) (first (is_on tid) rs) ≡ of_resident tid moves had → cond (can_call w tid) (change (is_on tid) (begun kept w) rs) rs ≡ rs → IsIdleTurn w rs tid had
+idle_turn : (w : World) (rs : List Server) (tid : ℕ) (had : Bool) → AtRest w → turn_done kept w tid (can_call w tid) (first (is_on tid) rs) ≡ of_resident tid moves had → cond (can_call w tid) (change (is_on tid) (begun kept w) rs) rs ≡ rs → IsIdleTurn w rs tid had
 unfolding resident_entry
-idle_turn w rs tid had held done stay =
-    let tells = ap (λ line. (step w line).entries) done ∙ resident_tells w tid moves had in
+idle_turn w rs tid had rest done stay =
+    let tells = ap (λ line. (step w line).entries) done ∙ resident_tells w tid moves had rest in
     record {
-      world = ap (λ line. (step w line).world) done ∙ resident_stays w tid moves had held;
+      world = ap (λ line. (step w line).world) done ∙ resident_stays w tid moves had rest;
       told = tells;
       residents =
           ap (λ es. fold (heard_in_turn kept) (cond (can_call w tid) (change (is_on tid) (begun kept w) rs) rs) es) tells
@@ -155,18 +163,18 @@ stay_alone : (can : Bool) (w : World) (tid : ℕ) (rs : List Server) → has (is
 stay_alone true w tid rs none = change-none (is_on tid) (begun kept w) rs none
 stay_alone false w tid rs none = refl
 
-pub turn_alone : (w : World) (rs : List Server) (tid : ℕ) → HasHeldRows w → has (is_on tid) rs ≡ false → IsIdleTurn w rs tid false
-turn_alone w rs tid held none =
-    idle_turn w rs tid false held (done_alone w tid (can_call w tid) (first (is_on tid) rs) none) (stay_alone (can_call w tid) w tid rs none)
+pub turn_alone : (w : World) (rs : List Server) (tid : ℕ) → AtRest w → has (is_on tid) rs ≡ false → IsIdleTurn w rs tid false
+turn_alone w rs tid rest none =
+    idle_turn w rs tid false rest (done_alone w tid (can_call w tid) (first (is_on tid) rs) none) (stay_alone (can_call w tid) w tid rs none)
 
 -- the thread can't call
 done_idle : (w : World) (tid : ℕ) (o : Option Server) → is_some o ≡ true → turn_done kept w tid false o ≡ of_resident tid moves true
 done_idle w tid None there = absurd (cc)
 done_idle w tid (Some r) there = refl
 
-pub turn_idle : (w : World) (rs : List Server) (tid : ℕ) → HasHeldRows w → has (is_on tid) rs ≡ true → can_call w tid ≡ false → IsIdleTurn w rs tid true
-turn_idle w rs tid held there idle =
-    idle_turn w rs tid true held
+pub turn_idle : (w : World) (rs : List Server) (tid : ℕ) → AtRest w → has (is_on tid) rs ≡ true → can_call w tid ≡ false → IsIdleTurn w rs tid true
+turn_idle w rs tid rest there idle =
+    idle_turn w rs tid true rest
     (ap (λ can. turn_done kept w tid can (first (is_on tid) rs)) idle ∙ done_idle w tid (first (is_on tid) rs) there)
     (ap (λ can. cond can (change (is_on tid) (begun kept w) rs) rs) idle)
 
@@ -215,18 +223,18 @@ pub idle_told : (w : World) (rs : List Server) (tid : ℕ) (had : Bool) (list ol
 idle_told w rs tid had list old e t is empty pushed =
     pushed ∙ (ap (λ (es : List Entry). es ++ e ∷ []) empty ∙ (ap (λ (x : Entry). x ∷ []) (sym is) ∙ sym t.told))
 
-pub alone_turn : (v w : World) (rs : List Server) (tid : ℕ) → v ≡ w → HasHeldRows v → has (is_on tid) rs ≡ false → IsIdleTurn w rs tid false × (idle_entry tid (live_thread w tid) false ≡ Directive word.Turn INVALID_CID)
-alone_turn v w rs tid here held none = (turn_alone w rs tid (subst HasHeldRows here held) none, told_alone (live_thread w tid) tid)
+pub alone_turn : (v w : World) (rs : List Server) (tid : ℕ) → v ≡ w → AtRest v → has (is_on tid) rs ≡ false → IsIdleTurn w rs tid false × (idle_entry tid (live_thread w tid) false ≡ Directive word.Turn INVALID_CID)
+alone_turn v w rs tid here rest none = (turn_alone w rs tid (subst AtRest here rest) none, told_alone (live_thread w tid) tid)
 
-pub absent_turn : (v w : World) (rs : List Server) (tid : ℕ) → v ≡ w → HasHeldRows v → has (is_on tid) rs ≡ true → condition_of v tid ≡ Absent → IsIdleTurn w rs tid true × (idle_entry tid (live_thread w tid) true ≡ Directive word.Turn INVALID_CID)
-absent_turn v w rs tid here held there is =
+pub absent_turn : (v w : World) (rs : List Server) (tid : ℕ) → v ≡ w → AtRest v → has (is_on tid) rs ≡ true → condition_of v tid ≡ Absent → IsIdleTurn w rs tid true × (idle_entry tid (live_thread w tid) true ≡ Directive word.Turn INVALID_CID)
+absent_turn v w rs tid here rest there is =
     let found = absent_is w tid (subst (λ (u : World). condition_of u tid ≡ Absent) here is) in
-    (turn_idle w rs tid (subst HasHeldRows here held) there found.1, told_absent (live_thread w tid) tid true found.0)
+    (turn_idle w rs tid (subst AtRest here rest) there found.1, told_absent (live_thread w tid) tid true found.0)
 
-pub busy_turn : (v w : World) (rs : List Server) (tid : ℕ) → v ≡ w → HasHeldRows v → has (is_on tid) rs ≡ true → condition_of v tid ≡ Waits → IsIdleTurn w rs tid true × (idle_entry tid (live_thread w tid) true ≡ Busy tid)
-busy_turn v w rs tid here held there is =
+pub busy_turn : (v w : World) (rs : List Server) (tid : ℕ) → v ≡ w → AtRest v → has (is_on tid) rs ≡ true → condition_of v tid ≡ Waits → IsIdleTurn w rs tid true × (idle_entry tid (live_thread w tid) true ≡ Busy tid)
+busy_turn v w rs tid here rest there is =
     let found = waits_is w tid (subst (λ (u : World). condition_of u tid ≡ Waits) here is) in
-    (turn_idle w rs tid (subst HasHeldRows here held) there found.1, told_busy (live_thread w tid) tid found.0)
+    (turn_idle w rs tid (subst AtRest here rest) there found.1, told_busy (live_thread w tid) tid found.0)
 
 -- One that makes a call
 -- the bytes that are lent to the server are those that its thread sees

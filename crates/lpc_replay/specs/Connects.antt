@@ -1,6 +1,6 @@
 -- A connect returns only by its answer, the completion of its connection or the refusal that names it, or by a closing:
--- that of a handle, or those that the end of a process brings.
-use Rattle.std.specs.Prelude.{◌≡◌, ℕ, ◌==◌, ◌&&◌, ◌||◌, Bool, true, false, not, Contains, List, [], ◌∷◌, Some, Ok}
+-- that of a handle, or those that the end of a process brings, by a call or as the world settles.
+use Rattle.std.specs.Prelude.{◌≡◌, ◌⊎◌, ℕ, ◌==◌, ◌&&◌, ◌||◌, Bool, true, false, not, Contains, List, [], ◌∷◌, Some, Ok}
 use Rattle.std.specs.List.{AllByRecursion}
 use Rattle.lpc_base.specs.Rows.{every, has}
 use Rattle.lpc_base.specs.declared.birth.Birth.{Birth}
@@ -11,7 +11,8 @@ use Rattle.lpc_model.specs.declared.entry.Entry.{Entry}
 use Rattle.lpc_model.specs.declared.entry.Entry.TheVariants.{Answer, Wakes}
 use Rattle.lpc_model.specs.declared.entry.Field.{Field}
 use Rattle.lpc_model.specs.declared.line.ProcArg.{ProcArg}
-use Rattle.lpc_model.specs.World.{HandleRow, ThreadRow, WaitRow, World}
+use Rattle.lpc_model.specs.World.{HandleRow, ProcessRow, ThreadRow, WaitRow, World}
+use Rattle.lpc_model.specs.Basics.{world_after}
 use Rattle.lpc_model.specs.Found.{free_handle, has_handle_to, is_open, is_table, is_thread, live_thread, lives_in}
 use Rattle.lpc_model.specs.Fields.{completion_fields, info}
 use Rattle.lpc_model.specs.Lines.{ScriptCall, ScriptLine, accept_connect_port, close, complete_connect_port, run, terminate_process, terminate_thread}
@@ -19,7 +20,8 @@ use Rattle.lpc_model.specs.Close.{is_accepted_across, is_last, is_offered_to}
 use Rattle.lpc_model.specs.Tests.{own_handle}
 use Rattle.lpc_model.specs.Connect.{Completable, ConnectAnswer, acceptance_of, answer_test, complete_test}
 use Rattle.lpc_model.specs.Targets.{process_target, thread_target}
-use Rattle.lpc_model.specs.Machine.{step}
+use Rattle.lpc_model.specs.Machine.{own_steps, step}
+use Rattle.lpc_model.specs.Settle.{doomed_processes, least, turns}
 
 -- A completion wakes the thread: the call's handle names a server port that can be completed, on whose other end the
 -- thread's accepted connect waits. The thread is told its handle, the least that is free in its process, the most bytes
@@ -104,16 +106,50 @@ pub record IsEndedBy (w : World) (by : ℕ) (call : ScriptCall) (tid : ℕ) (sta
   pub refuses : status ≡ PORT_CONNECTION_REFUSED
   pub shows : fields ≡ info [] ∷ []
 
--- the line ends the thread's connect so: no other line does
-abbrev pub IsAnsweredBy : World → ScriptLine → ℕ → Status → List Field → Type 0
-IsAnsweredBy w (run by (complete_connect_port handle)) tid status fields = IsCompletedBy w by handle tid status fields
-IsAnsweredBy w (run by (accept_connect_port context bytes false view)) tid status fields = IsRefusedBy w by bytes tid status fields
-IsAnsweredBy w (run by (close handle)) tid status fields = IsClosedBy w by handle tid status fields
-IsAnsweredBy w (run by (terminate_thread target code)) tid status fields =
+-- the call ends the thread's connect so: no other call does
+abbrev pub IsAnsweredByCall : World → ScriptLine → ℕ → Status → List Field → Type 0
+IsAnsweredByCall w (run by (complete_connect_port handle)) tid status fields = IsCompletedBy w by handle tid status fields
+IsAnsweredByCall w (run by (accept_connect_port context bytes false view)) tid status fields =
+    IsRefusedBy w by bytes tid status fields
+IsAnsweredByCall w (run by (close handle)) tid status fields = IsClosedBy w by handle tid status fields
+IsAnsweredByCall w (run by (terminate_thread target code)) tid status fields =
     IsEndedBy w by (terminate_thread target code) tid status fields
-IsAnsweredBy w (run by (terminate_process target code)) tid status fields =
+IsAnsweredByCall w (run by (terminate_process target code)) tid status fields =
     IsEndedBy w by (terminate_process target code) tid status fields
-IsAnsweredBy w line tid status fields = ⊥
+IsAnsweredByCall w line tid status fields = ⊥
+
+-- Settling
+-- the world that a line's directive or call leaves, and the one behind so many turns of its settling
+abbrev pub own_world : World → ScriptLine → World
+own_world w line = world_after w (own_steps line w)
+
+abbrev pub turned : World → ScriptLine → ℕ → World
+turned w line n = world_after (own_world w line) (turns n (own_world w line))
+
+-- A turn of settling wakes the thread, which is of another process than the one that ends by it: no event is marked, and
+-- of the processes that are to end this is the one of the least number, which alone has handles to an open port. The
+-- thread's connect isn't accepted and is to that port, or it is accepted and its connection isn't completed, and the port
+-- is an end of it. The thread is told no data.
+pub record IsEndedByTurn (w : World) (line : ScriptLine) (tid : ℕ) (status : Status) (fields : List Field) : Type 0 where
+  pub before : ℕ
+  pub process : ProcessRow
+  pub port : Birth
+  pub wait : WaitRow
+  pub unmarked : (turned w line before).marks ≡ []
+  pub ends_process : least (doomed_processes (turned w line before)) ≡ Some process
+  pub opens : is_open (turned w line before) port ≡ true
+  pub alone : is_only_with (turned w line before) process.number port ≡ true
+  pub waits : Contains (turned w line before).waits wait
+  pub ends : (is_offered_to port wait || is_accepted_across port (turned w line before) wait) ≡ true
+  pub its_wait : wait.thread ≡ tid
+  pub other : (wait.process == process.number) ≡ false
+  pub refuses : status ≡ PORT_CONNECTION_REFUSED
+  pub shows : fields ≡ info [] ∷ []
+
+-- the line ends the thread's connect so, by its call or as the world settles
+abbrev pub IsAnsweredBy : World → ScriptLine → ℕ → Status → List Field → Type 0
+IsAnsweredBy w line tid status fields =
+    IsAnsweredByCall w line tid status fields ⊎ IsEndedByTurn w line tid status fields
 
 -- a connect that wakes is answered so by its line; its own call answers no success
 abbrev pub HasAnswer : World → ScriptLine → Entry → Type 0

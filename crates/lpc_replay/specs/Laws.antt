@@ -1,14 +1,20 @@
 -- What holds of the run of every script.
-use Rattle.lpc_model.specs.World.{no_rows}
 use Rattle.std.specs.Prelude.{◌≡◌, ℕ, List, [], ◌∷◌}
 use Rattle.lpc_model.specs.Circle.{IsCircleIn, inputs_of, items_of}
 use Rattle.lpc_model.specs.Script.{script_lines}
 use Rattle.lpc_model.specs.Run.{Along, said_in}
 use Rattle.lpc_model.specs.Replies.{MisfitsAreRefused, RefusedRepliesAreIdle, RefusedRepliesChangeNothing, RequestsReturnByReply}
+use Rattle.lpc_model.specs.Settle.{IsSettled}
+use Rattle.lpc_model.specs.World.{World, no_rows}
+use Rattle.lpc_model.specs.Lines.{ScriptLine}
+use Rattle.lpc_model.specs.Machine.{step}
 use Rattle.lpc_replay.specs.Connects.{ConnectsReturnByAnswer}
+use Rattle.lpc_replay.specs.Ends.{ThreadsEndAsNamed}
+use Rattle.lpc_replay.specs.Raises.{RaisesReturnAsHandled}
 use Rattle.lpc_replay.specs.Waits.{WaitsEndAsTold}
 
--- the lines of a script before its first faulty one: each request returns only by a reply that fits it
+-- the lines of a script before its first faulty one: each request returns only by a reply that fits it, and an exception
+-- is continued only by one
 unfoldable pub RequestsReturn : List ℕ → Type 0
 RequestsReturn script = Along RequestsReturnByReply no_rows (said_in script)
 
@@ -31,6 +37,21 @@ RefusalsIdle script = RefusedRepliesAreIdle (script_lines script)
 -- each connect returns only by its answer or by a closing
 unfoldable pub ConnectsReturn : List ℕ → Type 0
 ConnectsReturn script = Along ConnectsReturnByAnswer no_rows (said_in script)
+
+-- each exception that returns is continued, or is handled by its frame handlers
+unfoldable pub RaisesReturn : List ℕ → Type 0
+RaisesReturn script = Along RaisesReturnAsHandled no_rows (said_in script)
+
+-- each thread that ends does so by the call that names it or its process, or as its process is to end
+unfoldable pub ThreadsEnd : List ℕ → Type 0
+ThreadsEnd script = Along ThreadsEndAsNamed no_rows (said_in script)
+
+-- behind each line no event is marked, and no process that is to end lives
+abbrev pub LeavesSettled : World → ScriptLine → Type 0
+LeavesSettled w line = IsSettled (step w line).world
+
+unfoldable pub LinesSettle : List ℕ → Type 0
+LinesSettle script = Along LeavesSettled no_rows (said_in script)
 
 -- a process with a circle in this script and in another one, and with the same inputs in both, does and is told the
 -- same

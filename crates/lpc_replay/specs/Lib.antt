@@ -1,4 +1,6 @@
 pub mod Connects
+pub mod Raises
+pub mod Ends
 pub mod Waits
 pub mod Laws
 pub mod Sending

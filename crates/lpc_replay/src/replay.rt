@@ -8,7 +8,7 @@ ghost use Rattle.lpc_model.specs.Creators.{RunKeepsConnects};
 ghost use Rattle.lpc_model.specs.Left.{RunLeavesNothing};
 ghost use Rattle.lpc_model.specs.SingleClosings.{RunHasSingleClosings};
 ghost use Rattle.lpc_model.specs.SoundWaits.{RunStaysSound};
-ghost use Rattle.lpc_replay.specs.Laws.{ClientsApart, ConnectsReturn, MisfitsRefused, RefusalsIdle, RefusalsStay, RequestsReturn, WaitsEnd};
+ghost use Rattle.lpc_replay.specs.Laws.{ClientsApart, ConnectsReturn, LinesSettle, MisfitsRefused, RaisesReturn, RefusalsIdle, RefusalsStay, RequestsReturn, ThreadsEnd, WaitsEnd};
 ghost use Rattle.lpc_replay.specs.Playing.{IsUnsure};
 ghost use Rattle.lpc_replay.specs.Reading.{IsAskedForPieces};
 ghost use Rattle.lpc_replay.specs.Sending.{AddsFront};
@@ -301,18 +301,24 @@ pub fn run_words<S: Source, K: Sink>(
         IfSure (S.left source.old) (K.sure sink.old)
         (is_one_of (0 ∷ 2 ∷ 5 ∷ []) result ≡ true) }
 
-    // In the script read a request returns with success only by a reply that fits it. A reply that fits no wait is
-    // refused, a refused reply changes nothing, and without its line the others tell the same. A connect returns only
-    // by its answer or by a closing. A wait ends only by a wake or with its thread.
+    // In the script read a request returns with success only by a reply that fits it, and an exception is continued
+    // only by one whose data begin with 02000100. A reply that fits no wait is refused, a refused reply changes
+    // nothing, and without its line the others tell the same. A connect returns only by its answer or by a closing. An
+    // exception returns otherwise only where its frame handlers handle it. A wait ends only by a wake or with its
+    // thread, and a thread only by the call that names it or its process, or as its process is to end.
     ensures returns { result ≡ 0 → IfSome (S.left source.old) RequestsReturn }
     ensures refused { result ≡ 0 → IfSome (S.left source.old) MisfitsRefused }
     ensures unchanged { result ≡ 0 → IfSome (S.left source.old) RefusalsStay }
     ensures idle { result ≡ 0 → IfSome (S.left source.old) RefusalsIdle }
     ensures answered { result ≡ 0 → IfSome (S.left source.old) ConnectsReturn }
+    ensures raised { result ≡ 0 → IfSome (S.left source.old) RaisesReturn }
     ensures ended { result ≡ 0 → IfSome (S.left source.old) WaitsEnd }
+    ensures died { result ≡ 0 → IfSome (S.left source.old) ThreadsEnd }
 
-    // In the script read each wait behind each line is one that can still end.
+    // In the script read each wait behind each line is one that can still end, no event is marked, and no process that
+    // is to end lives.
     ensures sound { result ≡ 0 → IfSome (S.left source.old) RunStaysSound }
+    ensures settled { result ≡ 0 → IfSome (S.left source.old) LinesSettle }
 
     // In the script read each completed client port that loses its last handle is told of once in that line, where its
     // connection port is open, and keeps until then the connect in whose name that is told.
@@ -320,9 +326,9 @@ pub fn run_words<S: Source, K: Sink>(
     ensures single_closings { result ≡ 0 → IfSome (S.left source.old) RunHasSingleClosings }
     ensures creators { result ≡ 0 → IfSome (S.left source.old) RunKeepsConnects }
 
-    // In the script read whoever asked to be told of a thread's end is told once, behind all ends of that line and
-    // before it closes a handle; what tells of ends and of closed ports is accounted for, and nothing is left where no
-    // process lives.
+    // In the script read whoever asked to be told of a thread's end is told once, behind all ends of that call, or of
+    // that turn of the line's settling, and before it closes a handle; what tells of ends and of closed ports is
+    // accounted for, and nothing is left where no process lives.
     ensures deaths { result ≡ 0 → IfSome (S.left source.old) RunTellsDeaths }
     ensures accounted { result ≡ 0 → IfSome (S.left source.old) RunAccountsForDeaths }
     ensures nothing_left { result ≡ 0 → IfSome (S.left source.old) RunLeavesNothing }

@@ -11,6 +11,7 @@ ghost use Rattle.lpc_model.specs.Lines.{hosts, line_of, moves, of_resident};
 ghost use Rattle.lpc_model.specs.Machine.{hosting_status};
 ghost use Rattle.lpc_model.specs.Words.{is_id};
 ghost use Rattle.lpc_model.specs.Residents.{can_call, is_on};
+ghost use Rattle.lpc_model.specs.Settle.{IsSettled};
 ghost use Rattle.lpc_model.specs.Run.{line_step, said_done, state_behind};
 ghost use Rattle.lpc_residents.specs.Kept.{kept, state_of};
 ghost use Rattle.lpc_residents.specs.Turns.{bytes_wanted_on};
@@ -84,6 +85,7 @@ fn host(
     out: &mut Entries,
 ) -> Result<(), OutOfMemory>
     requires held { HasHeldRows world.now.rows }
+    requires settled { IsSettled world.now.rows }
     requires empty { out.old.list ≡ [] }
     requires room { HasRoom world.now out.old }
     ensures rows { let s = state_of world.now.rows residents.old in

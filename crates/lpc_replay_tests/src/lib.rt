@@ -15,6 +15,8 @@ mod devices;
 #[cfg(test)]
 mod endings;
 #[cfg(test)]
+mod exceptions;
+#[cfg(test)]
 mod lines;
 #[cfg(test)]
 mod memory;

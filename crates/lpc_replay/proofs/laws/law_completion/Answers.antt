@@ -1,4 +1,4 @@
-use Rattle.lpc_replay.proofs.EveryScript.{every_connect, every_misfit, every_refusal, every_removal, every_request, every_wait}
+use Rattle.lpc_replay.proofs.EveryScript.{every_connect, every_end, every_misfit, every_raise, every_refusal, every_removal, every_request, every_settling, every_wait}
 use Rattle.lpc_replay.proofs.laws.law_completion.Goals as goal
 
 pub returns-clause-returns : goal.returns-clause-returns
@@ -15,6 +15,15 @@ returns-clause-idle c = every_removal
 
 pub returns-clause-answered : goal.returns-clause-answered
 returns-clause-answered c = every_connect
+
+pub returns-clause-raised : goal.returns-clause-raised
+returns-clause-raised c = every_raise
+
+pub returns-clause-died : goal.returns-clause-died
+returns-clause-died c = every_end
+
+pub returns-clause-settled : goal.returns-clause-settled
+returns-clause-settled c = every_settling
 
 pub returns-clause-ended : goal.returns-clause-ended
 returns-clause-ended c = every_wait

@@ -2,6 +2,7 @@ use Rattle.lpc_model.proofs.Worked.Closings.{worked_closings}
 use Rattle.lpc_model.proofs.Worked.Connections.{worked_connections}
 use Rattle.lpc_model.proofs.Worked.Creations.{worked_creations}
 use Rattle.lpc_model.proofs.Worked.Endings.{worked_endings}
+use Rattle.lpc_model.proofs.Worked.Exceptions.{worked_exceptions}
 use Rattle.lpc_model.proofs.Worked.Neighbours.{worked_neighbours}
 use Rattle.lpc_model.proofs.Worked.Offers.{worked_offers}
 use Rattle.lpc_model.proofs.Worked.Ranges.{worked_ranges}
@@ -37,6 +38,9 @@ returns-clause-ranges c = worked_ranges
 
 pub returns-clause-tokens : goal.returns-clause-tokens
 returns-clause-tokens c = worked_tokens
+
+pub returns-clause-exceptions : goal.returns-clause-exceptions
+returns-clause-exceptions c = worked_exceptions
 
 pub returns-clause-residents : goal.returns-clause-residents
 returns-clause-residents c = worked_residents

@@ -10,8 +10,8 @@ use Rattle.lpc_model.proofs.Runs.{closings_told_run, deaths_told_run, keeps_run,
 use Rattle.std.proofs.Common.{[]}
 use Rattle.lpc_replay.specs.Playing.{begin}
 use Rattle.lpc_replay.proofs.Played.{cuts_here, played_none}
-use Rattle.lpc_replay.specs.Laws.{ClientsApart, ConnectsReturn, MisfitsRefused, RefusalsIdle, RefusalsStay, RequestsReturn, WaitsEnd}
-use Rattle.lpc_replay.proofs.EveryScript.{every_client, every_connect, every_misfit, every_refusal, every_removal, every_request, every_wait}
+use Rattle.lpc_replay.specs.Laws.{ClientsApart, ConnectsReturn, LinesSettle, MisfitsRefused, RaisesReturn, RefusalsIdle, RefusalsStay, RequestsReturn, ThreadsEnd, WaitsEnd}
+use Rattle.lpc_replay.proofs.EveryScript.{every_client, every_connect, every_end, every_misfit, every_raise, every_refusal, every_removal, every_request, every_settling, every_wait}
 use Rattle.lpc_replay.proofs.Formed.{of_told}
 use Rattle.lpc_replay.proofs.Spending.{honest_status, sure_status}
 use Rattle.lpc_replay.proofs.replay.run_words.Goals as goal
@@ -21,6 +21,15 @@ returns-clause-returns g c = λ _. of_told RequestsReturn every_request (g.S.Sou
 
 pub returns-clause-answered : goal.returns-clause-answered
 returns-clause-answered g c = λ _. of_told ConnectsReturn every_connect (g.S.Source.left c.args.source.now)
+
+pub returns-clause-raised : goal.returns-clause-raised
+returns-clause-raised g c = λ _. of_told RaisesReturn every_raise (g.S.Source.left c.args.source.now)
+
+pub returns-clause-died : goal.returns-clause-died
+returns-clause-died g c = λ _. of_told ThreadsEnd every_end (g.S.Source.left c.args.source.now)
+
+pub returns-clause-settled : goal.returns-clause-settled
+returns-clause-settled g c = λ _. of_told LinesSettle every_settling (g.S.Source.left c.args.source.now)
 
 pub returns-clause-ended : goal.returns-clause-ended
 returns-clause-ended g c = λ _. of_told WaitsEnd every_wait (g.S.Source.left c.args.source.now)
@@ -63,6 +72,15 @@ returns-in-Some-clause-returns g c = λ _. of_told RequestsReturn every_request 
 
 pub returns-in-Some-clause-answered : goal.returns-in-Some-clause-answered
 returns-in-Some-clause-answered g c = λ _. of_told ConnectsReturn every_connect (g.S.Source.left c.args.source.now)
+
+pub returns-in-Some-clause-raised : goal.returns-in-Some-clause-raised
+returns-in-Some-clause-raised g c = λ _. of_told RaisesReturn every_raise (g.S.Source.left c.args.source.now)
+
+pub returns-in-Some-clause-died : goal.returns-in-Some-clause-died
+returns-in-Some-clause-died g c = λ _. of_told ThreadsEnd every_end (g.S.Source.left c.args.source.now)
+
+pub returns-in-Some-clause-settled : goal.returns-in-Some-clause-settled
+returns-in-Some-clause-settled g c = λ _. of_told LinesSettle every_settling (g.S.Source.left c.args.source.now)
 
 pub returns-in-Some-clause-ended : goal.returns-in-Some-clause-ended
 returns-in-Some-clause-ended g c = λ _. of_told WaitsEnd every_wait (g.S.Source.left c.args.source.now)
