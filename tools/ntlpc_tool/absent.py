@@ -10,7 +10,5 @@ CALLS = {
     "NtReplyWaitReceivePortEx",
     "NtReplyWaitReplyPort",
     "NtSecureConnectPort",
-    "NtSetInformationProcess",
-    "raise",
 }
 DIRECTIVES = {"rule", "tick", "version"}

@@ -26,6 +26,8 @@ BASES = {"base": "first address", "target": "at the other side", "vbase": "the o
 # The impersonation levels, and SIDs that stand for the same on each system.
 LEVELS = {"0": "anonymous", "1": "identification", "2": "impersonation", "3": "delegation"}
 WELL_KNOWN = {"S-1-1-0": "everyone", "S-1-5-18": "the local system", "S-1-5-32-544": "the administrators"}
+# The chances of an exception, as the data of an event tell them.
+CHANCES = {1: "the first chance", 2: "the second chance"}
 LABEL = 19
 
 
@@ -68,17 +70,12 @@ def of_entry(found):
     if found.kind == "wait":
         head = f"{who} waits in {found.call}"
     elif found.kind == "died":
-        head = f"{who} died, with the code {code_of(found)}"
+        head = f"{who} died, with the code {statuses.code_with_name(found.status)}"
     elif found.kind == "wake":
         head = f"{who} wakes from {found.call}: {statuses.with_name(found.status)}"
     else:
         head = f"{who} {found.call}: {statuses.with_name(found.status)}"
     return [head, *(f"    {line}" for name, value in found.fields for line in of_field(found, name, value))]
-
-
-def code_of(found):
-    """The code with which a thread died, and its name where it is a status with one."""
-    return statuses.with_name(found.status) if statuses.name_of(found.status) else found.status
 
 
 def of_field(found, name, value):
@@ -134,6 +131,8 @@ def of_message(found):
     rows += of_data(found.data, "data")
     if found.type in (message.PORT_CLOSED, message.CLIENT_DIED) and len(found.data) == BIRTH.size:
         rows.append(_row("", f"({_of_birth(found, *BIRTH.unpack(found.data))})"))
+    if found.raised():
+        rows.append(_row("", f"({_of_exception(found, *found.raised())})"))
     return ["message", *(f"  {it}" for it in rows)]
 
 
@@ -144,6 +143,11 @@ def _of_birth(found, maker, number):
     if maker:
         return f"thread {found.thread} died, which thread {maker} made as number {number}"
     return f"thread {number} died"
+
+
+def _of_exception(found, code, chance):
+    """What the data of an event tell: who raised what, and which chance this is."""
+    return f"thread {found.thread} raised {statuses.code_with_name(code)}; {CHANCES.get(chance, f'chance {chance}')}"
 
 
 def of_data(found, label):

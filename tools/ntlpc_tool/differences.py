@@ -21,6 +21,13 @@ HEADER = (
     ("SectionSize", "section_size", "which section"),
     ("data", "data", "which bytes"),
 )
+# What rules the data of the messages that the machine makes.
+MADE = {
+    message.PORT_CLOSED: "which closing",
+    message.CLIENT_DIED: "which death",
+    message.EXCEPTION: "which event",
+    message.DEBUG_EVENT: "which event",
+}
 # The messages that tell of an end, and what rules whether there is one.
 ENDS = {message.PORT_CLOSED: "port closed", message.CLIENT_DIED: "client died"}
 FOREVER = 1 << 62
@@ -53,7 +60,8 @@ class Step:
             if known is not entry:
                 self.further.append(entry)
         self.first = entries[0] if entries else None
-        kinds = [it.kind for it in entries if it is not self.own]
+        self.others = [(it.kind, it.thread) for it in entries if it is not self.own]
+        kinds = [it for it, _ in self.others]
         self.deaths_are_first = kinds == sorted(kinds, key=lambda it: it != "died")
 
     def maker(self):
@@ -117,7 +125,21 @@ def _of_step(line, wanted, got, context):
     if wanted.own and wanted.own is wanted.first and got.own and got.own is not got.first:
         says = f"the entry of the line's own thread stands behind a {'wake' if got.first.kind == 'wake' else 'death'}"
         found.append(Difference(line, wanted.own, got.own, says, reasons.rule("*", "first"), reasons.MEANS["first"]))
-    return found + _of_wakes(line, wanted, got, maker, context)
+    found += _of_wakes(line, wanted, got, maker, context)
+    return found or _of_deaths_among_wakes(line, wanted, got)
+
+
+def _of_deaths_among_wakes(line, wanted, got):
+    """The difference of two steps that tell the same deaths and the same wakes, each in the same order."""
+    at = next((at for at, pair in enumerate(zip(wanted.others, got.others)) if pair[0] != pair[1]), None)
+    if at is None:
+        return []
+    kinds = {"died": "the death", "wake": "the wake"}
+    (kind, thread), (other, another) = wanted.others[at], got.others[at]
+    says = f"{kinds[kind]} of thread {thread} has to come before {kinds[other]} of thread {another}"
+    here = (wanted.deaths if kind == "died" else wanted.wakes)[thread]
+    there = (got.deaths if other == "died" else got.wakes)[another]
+    return [Difference(line, here, there, says, reasons.rule("died", "settles"), reasons.MEANS["settles"])]
 
 
 def _of_deaths(line, wanted, got):
@@ -318,8 +340,8 @@ def _ruled_by(wanted, here, differ):
     if wanted.kind == "answer" and whose and (len(marks) > 1 or any(it[1] == "data" for it in differ)):
         return "which message"
     first = differ[0]
-    if here.type in ENDS and first[1] == "data":
-        return "which closing" if here.type == message.PORT_CLOSED else "which death"
+    if here.type in MADE and first[1] == "data":
+        return MADE[here.type]
     return (marks or [first])[0][2]
 
 

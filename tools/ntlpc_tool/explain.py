@@ -121,8 +121,8 @@ class Explanation:
     def of_keyword(self, word):
         form = self.form[self.place.word].strip("[]")
         told = [f"expected here: {self.expected()}"]
-        if form == "accept|refuse":
-            return told + self.nearest(word, ("accept", "refuse"))
+        if form in ("accept|refuse", "handled|unhandled"):
+            return told + self.nearest(word, form.split("|"))
         if form == "null":
             return told + self.tried(b"null")
         if form == "TOKEN":
@@ -256,8 +256,8 @@ class Explanation:
         if re.fullmatch(r"[0-9A-Fa-f]+", word):
             return ["hexadecimal digits have 0x before them", *self.tried(b"0x" + word.encode())]
         if word == "self":
-            calls = "NtCreateThread, NtTerminateThread and NtTerminateProcess"
-            return [f"the word self stands for the handle of {calls} alone"]
+            calls = "NtCreateThread, NtTerminateThread, NtTerminateProcess and NtSetInformationProcess"
+            return [f"the word self stands for the first handle of {calls} alone"]
         return ["it isn't made of digits alone"]
 
     def why_out_of_range(self, word):

@@ -10,6 +10,7 @@ from ntlpc_tool import script_lines, statuses
 
 REQUEST, CONNECT = 1, 10
 PORTS = ("unnamed", "connection", "client", "server")
+RESIDENT, TURN, RECEIVE = "resident", "turn", "NtReplyWaitReceivePort"
 
 
 @dataclasses.dataclass(eq=False)
@@ -64,7 +65,7 @@ class World:
         self.threads, self.waits, self.handles = {}, {}, {}
         self.names, self.dead, self.folders = {}, [], []
         self.requests, self.connects, self.asked, self.clients = [], [], {}, {}
-        self.on, self.registered = {}, {}
+        self.on, self.registered, self.servers = {}, {}, {}
 
     def idle(self):
         """The threads that can make a call."""
@@ -86,7 +87,7 @@ class World:
 
     def tell(self, line, entries):
         """Takes what a line told."""
-        words = line.split()
+        words = self._said(line.split())
         # What is sent and wakes somebody who takes it, stands in no queue.
         self.taken = sum(it.kind == "wake" and it.field("msg") is not None for it in entries)
         for entry in entries:
@@ -98,8 +99,12 @@ class World:
                 self._waits(words, entry)
             elif entry.kind == "wake":
                 self._wakes(self.waits.pop(entry.thread, words), entry)
-            elif entry.kind == "answer" and entry.status == statuses.SUCCESS:
+            elif entry.kind == "answer" and entry.status == statuses.SUCCESS and entry.call == words[1]:
                 self._answers(words, entry)
+
+    def _said(self, words):
+        """A turn as a receive on the handle that its server serves; what it calls else isn't followed."""
+        return [words[1], RECEIVE, self.servers.get(words[1], "0")] if words[:1] == [TURN] else words
 
     def _directive(self, words):
         """A process, a thread, or a folder of the name space was made."""
@@ -107,7 +112,9 @@ class World:
             process, thread = (int(words[it]) for it in script_lines.DIRECTIVES_OF_THREADS[words[0]])
             self.threads[thread] = process
             self.handles.setdefault(process, {})
-        else:
+        elif words[0] == RESIDENT:
+            self.servers[words[1]] = words[3]
+        elif words[0] in ("dir", "link"):
             self.folders.append(words[1])
 
     def _waits(self, words, entry):

@@ -29,6 +29,8 @@ CALLS = {
     "NtCreateThread": ("H|self", "TID"),
     "NtTerminateThread": ("H|self", "CODE"),
     "NtTerminateProcess": ("H|self", "CODE"),
+    "NtSetInformationProcess": ("H|self", "CLASS", "PORT"),
+    "raise": ("CODE", "handled|unhandled"),
     "NtCreateSection": ("SIZE", "PROT"),
     "NtMapViewOfSection": ("H", "OFFSET", "SIZE", "PROT"),
     "NtUnmapViewOfSection": ("ADDRESS",),
@@ -51,6 +53,7 @@ WORDS = {
     "TID": ("a thread: a number from 1 to 2147483647", "4"),
     "H": ("a handle: a number from 0 to 4294967295", "4"),
     "H|self": ("a handle: a number from 0 to 4294967295, or self", "self"),
+    "PORT": ("a handle to a port: a number from 0 to 4294967295", "4"),
     "CODE": ("a code: a number from 0 to 4294967295", "0"),
     "CTX": ("a context: a number from 0 to 4294967295", "4"),
     "SIZE": ("a size: a number from 0 to 4294967295", "0"),
@@ -78,6 +81,7 @@ WORDS = {
     "VIEW": ("a view: - for none, or w:H:OFFSET:SIZE", "-"),
     "ACCESS|same": ("rights: a number from 0 to 4294967295, or same", "same"),
     "accept|refuse": ("accept or refuse", "accept"),
+    "handled|unhandled": ("handled or unhandled", "handled"),
 }
 NUMBER = "decimal without leading zeros, or a small 0x and 1 to 8 hexadecimal digits"
 HEX = "pairs of hexadecimal digits, or nothing"

@@ -299,7 +299,7 @@ class Hunter:
         words, world = line.split(), self.world
         form = forms.of_words(words)
         way = self.random.randrange(4)
-        places = [at for at, it in enumerate(form[: len(words)]) if it in ("H", "H|self")]
+        places = [at for at, it in enumerate(form[: len(words)]) if it in ("H", "H|self", "PORT")]
         if way == 0 and words[0].isdigit():
             others = [*world.waits, *(thread for _, thread in world.dead), NEVER]
             words[0] = str(self.random.choice(others))

@@ -15,7 +15,11 @@ TYPES = {
     9: "error event",
     10: "connection request",
 }
-PORT_CLOSED, CLIENT_DIED, CONNECTION_REQUEST = 5, 6, 10
+REQUEST, PORT_CLOSED, CLIENT_DIED, CONNECTION_REQUEST = 1, 5, 6, 10
+# The messages that tell of an exception, and the data of one: the code, and the chance.
+EXCEPTION, DEBUG_EVENT = 7, 8
+EVENTS = (EXCEPTION, DEBUG_EVENT)
+RAISED = struct.Struct("<II")
 LAYOUT = struct.Struct("<HHHHIIII")
 HEADER_SIZE = LAYOUT.size
 RANGE = struct.Struct("<II")
@@ -59,6 +63,13 @@ class Message:
     def type_name(self):
         """The name of the type, None where the number is no type."""
         return TYPES.get(self.type)
+
+    def raised(self):
+        """The code, 8 hexadecimal digits, and the chance of an event; None where it is none, or has other data."""
+        if self.type not in EVENTS or len(self.data) != RAISED.size:
+            return None
+        code, chance = RAISED.unpack(self.data)
+        return f"{code:08x}", chance
 
     def ranges(self):
         """The pairs of base and size in the range table; None where a table is told of that doesn't lie in the data."""

@@ -10,6 +10,8 @@ import struct
 from ntlpc_tool import forms, message, script_lines, statuses
 
 HANDLES = ("h", "thread")
+# The words of a line's form that are handles.
+HANDLE_WORDS = ("H", "H|self", "PORT")
 # Where in a message's header the thread and the identifier of its client stand.
 CLIENT = struct.Struct("<II")
 CLIENT_AT = 12
@@ -87,6 +89,7 @@ class Names:
     def _learn(self, wanted, got):
         """Keeps what an entry gives, and frees the handle that it closed."""
         handles = self._space(self.handles, self.process_of.get(wanted.thread))
+        self._learn_event(wanted, got)
         for name, value in wanted.fields:
             other = got.field(name) if got else None
             given = int(other if other and other.isdigit() else value) if name in (*HANDLES, "id") else None
@@ -95,6 +98,17 @@ class Names:
             elif name == "id":
                 self._space(self.identifiers, wanted.thread).give(int(value), given)
         self._free(wanted, handles)
+
+    def _learn_event(self, wanted, got):
+        """Keeps the identifier of an event that an entry shows: of those that a raise draws behind its first one,
+        nothing else tells."""
+        here, there = wanted.message(), got.message() if got else None
+        if here and here.type in message.EVENTS:
+            space = self._space(self.identifiers, here.thread)
+            if there and (there.process, there.thread) == (here.process, here.thread):
+                space.give(here.message_id, there.message_id)
+            else:
+                space.now.setdefault(here.message_id, here.message_id)
 
     def _free(self, wanted, handles):
         """Frees the handle that a line closed."""
@@ -113,7 +127,7 @@ class Names:
 
     def _word(self, word, kind, call, process):
         """A word with the program's name."""
-        if kind in ("H", "H|self") and word != "self":
+        if kind in HANDLE_WORDS and word != "self":
             value = script_lines.number(word)
             other = self._space(self.handles, process).of(value)
             return word if other == value else str(other)
@@ -168,6 +182,9 @@ class Symbols(Names):
         if wanted.kind != "wake":
             self.calls[wanted.thread] = wanted.line
         line = self.calls.get(wanted.thread)
+        shown = wanted.message()
+        if shown and shown.type in message.EVENTS:
+            self._space(self.identifiers, shown.thread).now.setdefault(shown.message_id, (line, ""))
         handles = self._space(self.handles, self.process_of.get(wanted.thread))
         for name, value in wanted.fields:
             if name in HANDLES:
@@ -185,7 +202,7 @@ class Symbols(Names):
         return f"$l{line}{part}"
 
     def _word(self, word, kind, call, process):
-        if kind in ("H", "H|self") and word != "self":
+        if kind in HANDLE_WORDS and word != "self":
             return self._symbol(self._space(self.handles, process), script_lines.number(word), word)
         if kind in ("MSG", "[MSG]") and call in ANSWERS and word.startswith("r:"):
             client, _, data = word[2:].partition(":")

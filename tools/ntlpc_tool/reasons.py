@@ -39,9 +39,10 @@ REQUEST_DATA = (
     *HANDLE,
     *MESSAGE,
     *CLIENT,
-    ("c000021f", "the message fits no request through this port"),
+    ("c000021f", "the message fits no request through this port; an event is none"),
     ("c000000d", "the request's own range table has no such entry"),
 )
+NOTHING_FITS = ("c000021f", "the message fits no request and no event through this port")
 NO_WAY = (CLOSED, "the pair of the port is cut or was never made, or the port to which the message would go isn't open")
 
 REFUSALS = {
@@ -107,13 +108,13 @@ REFUSALS = {
         ("c0000044", "32 datagrams that were sent on the port aren't received"),
     ),
     "NtRequestWaitReplyPort": (*HANDLE, *MESSAGE, NO_WAY),
-    "NtReplyPort": (*HANDLE, *MESSAGE, *CLIENT, ("c000021f", "the message fits no request through this port")),
+    "NtReplyPort": (*HANDLE, *MESSAGE, *CLIENT, NOTHING_FITS),
     "NtReplyWaitReceivePort": (
         *HANDLE,
         *MESSAGE,
         (CLOSED, "the queue isn't open, or the port is a client port with a cut pair and an empty queue"),
         *CLIENT,
-        ("c000021f", "the message fits no request through this port"),
+        NOTHING_FITS,
     ),
     "NtRegisterThreadTerminatePort": (*HANDLE, ("c0000044", "the thread has registered 16 other ports")),
     "NtCreateProcess": (
@@ -141,6 +142,17 @@ REFUSALS = {
         ("c0000024", "the handle is one to something that is no process"),
         ("c0000022", "the handle doesn't grant the right to end the process"),
         ("c000000b", "the process has ended"),
+    ),
+    "NtSetInformationProcess": (
+        NO_HANDLE,
+        ("c0000024", "the handle is one to something that is no process"),
+        ("c0000022", "the handle doesn't grant the right to set the port of the process"),
+        ("c0000008", "no handle of the caller's process has the value of the port"),
+        ("c0000024", "the port's handle is one to something that is no port"),
+        ("c0000022", "the port's handle doesn't grant the right to use the port"),
+        ("c000000b", "the process has ended"),
+        ("c000000d", "the class is neither 7 nor 8"),
+        ("c0000048", "the process has a port of this class already, open or not"),
     ),
     "NtCreateSection": (
         PROTECTION,
@@ -183,7 +195,7 @@ REFUSALS = {
         *MESSAGE,
         ("c0000042", "the port is no server port"),
         *CLIENT,
-        ("c000021f", "the message names no request of the port's client that was received"),
+        ("c000021f", "the message names no request of the port's client that was received; an event is none"),
     ),
     "NtSetInformationThread": (("c000000d", "the class isn't 5"),),
     "NtOpenThreadToken": (
@@ -214,6 +226,10 @@ TOLD = f"{SERVICES}, Port closed"
 VIEWS = f"{SERVICES}, Sections and views"
 ENDING = f"{SERVICES}, Threads and processes that end"
 DIED = f"{SERVICES}, Client died"
+CHANCES = f"{SERVICES}, The chances of an exception"
+EVENTS = f"{SERVICES}, Events"
+ANSWERS = f"{SERVICES}, Replies to an event"
+SETTLING = f"{SERVICES}, Settling"
 TRANSCRIPT = f"{SCRIPTS}, The transcript"
 FAULTS = f"{SCRIPTS}, Faulty lines"
 
@@ -231,13 +247,26 @@ _STEPS = (
     "What a closing port ends, it ends in this order: receives and listens; requests that were sent on the port; "
     "requests that stand in its queue; connects that wait for it and aren't accepted; then at its other end a connect "
     "that isn't completed, requests that were sent there, and receives there. Inside a step the one that has waited "
-    "longest is first."
+    "longest is first. Events of these ports go on behind all that."
+)
+_SETTLES = (
+    "Behind all that a line's call does, events that weren't handled go on, in the order in which they came to that; "
+    "where none is left, the process of the least number ends whose exception nothing handled, and so on until nothing "
+    "is left to do."
+)
+_EVENT_GOES_ON = (
+    "An event that was replied to without 02000100 in front, or whose port closed, goes on to the next chance of its "
+    "exception: the frame handlers, whose answer is the word of the raise, the debug port again, the exception port."
 )
 _HANDLES_CLOSE = (
     "When the last live thread of a process has died, the process's handles are closed, those with lower values first, "
     "each as NtClose closes it."
 )
 _REPLY_WAKES = "A reply that fits wakes the thread that asked, and nobody else."
+_REPLY_TO_EVENT = (
+    "A reply that fits an event wakes its thread with 00010002 where the data begin with 02000100. Any other one sends "
+    "it on: its thread wakes with 00000000 where the frame handlers come next and handle it."
+)
 _AS_GIVEN = "DataSize, MessageSize, VirtualRangesOffset and the data stay as the caller gave them"
 _SENT = f"{_AS_GIVEN}; a message that the machine makes has MessageSize 24 + DataSize and no range table."
 
@@ -264,14 +293,20 @@ RULES = {
     ),
     ("died", "who"): (
         "NtTerminateThread ends the thread that it names, NtTerminateProcess all live threads of the process, in the "
-        "order in which they were made.",
+        "order in which they were made. An exception that nothing handles ends all live threads of its process so, "
+        "behind all else that its line does.",
         ENDING,
     ),
-    ("died", "code"): ("A thread dies with the code of the call, in 8 hexadecimal digits.", ENDING),
+    ("died", "code"): (
+        "A thread dies with the code of the call, or with that of the exception that ended its process, in 8 "
+        "hexadecimal digits. Of two exceptions of one process the one counts that found no handler first.",
+        ENDING,
+    ),
     ("died", "first"): (
-        "All threads that a line ends die before it tells of anything else, but for the answer of its call.",
+        "All threads that a call ends die before its line tells of anything else, but for the call's answer.",
         ENDING,
     ),
+    ("died", "settles"): (_SETTLES, SETTLING),
     ("*", "call"): ("An answer and a wait name the call of the line; a wake names the call that waited.", TRANSCRIPT),
     ("*", "busy"): (
         "A thread that waits can make no call: its line is answered `busy`, and nothing changes. Once its wait ended "
@@ -283,8 +318,14 @@ RULES = {
         SHARED,
     ),
     ("*", "waits"): (
-        "Only NtConnectPort, NtListenPort, NtRequestWaitReplyPort and NtReplyWaitReceivePort can wait.",
-        f"{SERVICES}, Ports and connections, and Messages",
+        "Only NtConnectPort, NtListenPort, NtRequestWaitReplyPort, NtReplyWaitReceivePort and raise can wait.",
+        f"{SERVICES}, Ports and connections, and Messages, and Exceptions",
+    ),
+    ("raise", "waits"): (
+        "A raise waits where an event is sent: to the debug port of its process first, and where the frame handlers "
+        "don't handle it to the debug port or the exception port. It returns at once with 00000000 where no debug port "
+        "has a way and the frame handlers handle it.",
+        CHANCES,
     ),
     ("NtConnectPort", "waits"): (
         "A connect that isn't refused always waits: it returns when the connection is completed or refused, or a "
@@ -336,12 +377,13 @@ RULES = {
     ),
     ("*", "id"): (
         "Each thread draws identifiers of its own, 1, 2 and so on: one for each datagram, request and connect that "
-        "isn't refused, and none for anything else.",
+        "isn't refused, one for each event of its exceptions, and none for anything else.",
         SHARED,
     ),
     ("*", "ctx"): (
-        "A message that was sent on a client port, and one that tells of its end, have the context with which its "
-        "connect was accepted; every other one, also what a server port sends and a connection request, has 0.",
+        "A message that was sent on a client port, also an event, and one that tells of its end, have the context with "
+        "which its connect was accepted; every other one, also what a server port sends and a connection request, has "
+        "0.",
         KINDS,
     ),
     ("NtConnectPort", "max"): ("A message has at most 256 bytes, which `max` tells.", of_call("NtConnectPort")),
@@ -434,7 +476,8 @@ RULES = {
     ("NtQueryObject", "pointers"): (
         "`pointers` counts the handles to the object. For a port it also counts the ports whose other end it is, the "
         "client and server ports whose connection port it is, the queued messages that were sent on it, the waits that "
-        "were made on it, the live threads that registered it, and the views that it owns; for a section the views "
+        "were made on it, the live threads that registered it, the live processes whose debug port it is and those "
+        "whose exception port, and the views that it owns; for a section the views "
         "that show it, and the connects that wait, offer it and aren't accepted; for a process its live threads; for a "
         "thread one while it lives.",
         of_call("NtQueryObject"),
@@ -450,7 +493,8 @@ RULES = {
     ),
     ("*", "which type"): (
         "What is sent gets the type of its call, whatever type was given: 1 for NtRequestWaitReplyPort, 3 for "
-        "NtRequestPort. A connection request has type 10, a client port's end type 5, a thread's end type 6.",
+        "NtRequestPort. A connection request has type 10, a client port's end type 5, a thread's end type 6, an event "
+        "type 8 at the debug port and 7 at the exception port.",
         WRITTEN,
     ),
     ("NtRequestWaitReplyPort", "which type"): (
@@ -463,8 +507,8 @@ RULES = {
     ),
     ("NtRequestWaitReplyPort", "which client"): ("A reply keeps the ClientId that it was given.", WRITTEN),
     ("*", "which identifier"): (
-        "The identifier that the sending thread drew is written over MessageId; a client port's end has that of its "
-        "connect, a thread's end 0.",
+        "The identifier that the sending thread drew is written over MessageId, a new one for each event; a client "
+        "port's end has that of its connect, a thread's end 0.",
         WRITTEN,
     ),
     ("NtRequestWaitReplyPort", "which identifier"): ("A reply keeps the MessageId that it was given.", WRITTEN),
@@ -485,6 +529,11 @@ RULES = {
         "that this one has made it was, from 1; for a thread of a directive 0, and its own number.",
         DIED,
     ),
+    ("*", "which event"): (
+        "The data of an event are 8 bytes, low bytes first: the code of the exception, and the chance, 1 where the "
+        "debug port is asked before the frame handlers, and else 2.",
+        EVENTS,
+    ),
     # Wakes, by the call of the line and the call that waited.
     ("*", "taker"): (_OLDEST_TAKER, TAKERS),
     ("NtReplyPort", "wakes NtRequestWaitReplyPort"): (_REPLY_WAKES, FITS),
@@ -492,6 +541,13 @@ RULES = {
         f"The reply is made first. {_REPLY_WAKES} Its entry stands behind the caller's.",
         of_call("NtReplyWaitReceivePort"),
     ),
+    ("NtReplyPort", "wakes raise"): (_REPLY_TO_EVENT, ANSWERS),
+    ("NtReplyWaitReceivePort", "wakes raise"): (_REPLY_TO_EVENT, ANSWERS),
+    ("NtReplyPort", "wakes NtReplyWaitReceivePort"): (f"{_EVENT_GOES_ON} {_OLDEST_TAKER}", SETTLING),
+    ("NtReplyWaitReceivePort", "wakes NtReplyWaitReceivePort"): (f"{_EVENT_GOES_ON} {_OLDEST_TAKER}", SETTLING),
+    ("raise", "wakes NtReplyWaitReceivePort"): (_OLDEST_TAKER, TAKERS),
+    ("NtClose", "wakes raise"): (_EVENT_GOES_ON, SETTLING),
+    ("died", "wakes raise"): (_EVENT_GOES_ON, SETTLING),
     ("NtRequestPort", "wakes NtReplyWaitReceivePort"): (_OLDEST_TAKER, TAKERS),
     ("NtRequestWaitReplyPort", "wakes NtReplyWaitReceivePort"): (_OLDEST_TAKER, TAKERS),
     ("NtConnectPort", "wakes NtReplyWaitReceivePort"): (_OLDEST_TAKER, TAKERS),
@@ -538,12 +594,12 @@ RULES = {
     ("died", "wakes NtConnectPort"): (_HANDLES_CLOSE, ENDING),
     ("died", "order"): (
         "First the ends of threads are told, thread by thread and port by port; then the handles of a process that has "
-        "no thread left are closed, those with lower values first.",
+        f"no thread left are closed, those with lower values first. {_SETTLES}",
         ENDING,
     ),
     ("*", "order"): ("Wakes follow the caller's entry in the order in which they come about.", TRANSCRIPT),
     ("*", "wakes nobody"): (
-        "This call wakes nobody: only what is sent, replied, accepted, completed, closed or ended ends a wait.",
+        "This call wakes nobody: only what is sent, raised, replied, accepted, completed, closed or ended ends a wait.",
         SERVICES,
     ),
     # The last line.
@@ -558,8 +614,8 @@ RULES = {
         "those that have ended and that a handle names, ports, sections that a handle names, a view shows or a waiting "
         "connect offers, and tokens that a handle names. A port that "
         "nothing names any longer goes at the end of the line: no handle, no port as its other end or its connection "
-        "port, no queued message that was sent on it, no wait that was made on it, and no live thread that registered "
-        "it.",
+        "port, no queued message that was sent on it, no wait that was made on it, no live thread that registered it, "
+        "and no live process whose debug or exception port it is.",
         SHARED,
     ),
     ("stop", "LINE"): ("The script stops at its first faulty line; the lines before it are run and printed.", FAULTS),
@@ -590,6 +646,8 @@ MEANS = {
     "code": "it ended the thread with another code",
     "order of deaths": "it ended the threads in another order",
     "deaths": "it told of an end, or closed a handle, before all threads had died",
+    "settles": "it did in another order what a line brings about behind its call",
+    "which event": "it names another exception or another chance by the data of the message",
     "client died": "nothing told of the thread's end on the port that it had registered",
     "which death": "it names another thread by the data of the message",
     "first": "it told of a wake before it told of the call that made it",

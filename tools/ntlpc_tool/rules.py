@@ -6,7 +6,7 @@ answer, `wait` a wait, a star before the status a wake.
 import collections
 import re
 
-from ntlpc_tool import inputs, pages, transcript
+from ntlpc_tool import forms, inputs, pages, transcript
 
 STATUS = re.compile(r"\b[0-9A-F]{8}\b")
 NEVER = "can't come about yet"
@@ -64,7 +64,8 @@ def _read_services(rules):
                 printed += re.findall(r"`([^`]*)`", row[1])
     for line in printed:
         for group, outcome in sorted(outcomes(line.encode())):
-            if group in rules.wanted:
+            # (a call may have no refusal)
+            if group in rules.wanted or group in forms.CALLS:
                 rules.add(group, outcome)
 
 

@@ -8,8 +8,16 @@ from typing import Optional, Tuple
 
 from ntlpc_tool import describe, facts, message, script_lines, statuses, transcript, turns
 
-SENDERS = ("NtRequestPort", "NtRequestWaitReplyPort", "NtConnectPort")
-SENT = {"NtRequestPort": "datagram", "NtRequestWaitReplyPort": "request", "NtConnectPort": "connection request"}
+SENDERS = ("NtRequestPort", "NtRequestWaitReplyPort", "NtConnectPort", "raise")
+SENT = {
+    "NtRequestPort": "datagram",
+    "NtRequestWaitReplyPort": "request",
+    "NtConnectPort": "connection request",
+    "raise": "event",
+}
+# The messages whose sender waits, and what a raise returns.
+WAITED_FOR = (message.REQUEST, message.CONNECTION_REQUEST, *message.EVENTS)
+RAISES_RETURN = {statuses.SUCCESS: "handled by its frame handlers", statuses.CONTINUED: "continued"}
 ENDS = (message.PORT_CLOSED, message.CLIENT_DIED)
 MOST_DATA = 24
 
@@ -83,6 +91,7 @@ class Picture:
             steps.setdefault(entry.line, []).append(entry)
         for step in steps.values():
             self._shown_at_once = _received(transcript.Transcript(tuple(step), None))
+            self._answered = any(it.kind == "wake" and it.call in (facts.ASKS, "raise") for it in step)
             own = self._own(step)
             for entry in step:
                 _ENTRIES[entry.kind](self, entry, own)
@@ -139,7 +148,7 @@ class Picture:
     def _died(self, entry, own):
         """A thread dies; at the one whose call it was, the call is told too."""
         words = self.script.words(entry.line) if self.script and entry is own else []
-        told = f"died, code {describe.code_of(entry)}"
+        told = f"died, code {statuses.code_with_name(entry.status)}"
         call = [f"{entry.line} {' '.join(map(_short, words[1:]))}"] if words else []
         self._note(entry.thread, "call", *(call + [told] if call else [f"{entry.line} {told}"]))
         self._end(entry.thread)
@@ -152,10 +161,12 @@ class Picture:
             self._note(entry.thread, "refused", f"{entry.line} {self._words(entry)}", statuses.with_name(entry.status))
         elif entry.message():
             self._delivered(entry)
-        elif entry.call in SENDERS:
+        elif entry.call in SENDERS and entry.field("id") is not None:
             self._sent(entry)
         elif entry.call == "NtAcceptConnectPort":
             self._accepted(entry)
+        elif entry.call == "NtReplyPort" and not self._answered:
+            self._note(entry.thread, "call", f"{entry.line} {self._words(entry)}", "the exception goes on")
         elif entry.call not in ("NtReplyPort", "NtCompleteConnectPort"):
             told = " ".join(f"{name}={value}" for name, value in entry.fields if value != "port")
             self._note(entry.thread, "call", f"{entry.line} {self._words(entry)}{': ' * bool(told)}{told}")
@@ -169,6 +180,8 @@ class Picture:
     def _wake(self, entry, own):
         if entry.call == "NtConnectPort":
             self._connected(entry, own)
+        elif entry.call == "raise" and entry.status in RAISES_RETURN:
+            self._from_own(own, entry, "answer", f"{entry.line} {RAISES_RETURN[entry.status]}")
         elif entry.status != statuses.SUCCESS:
             self._ended(entry, own)
         elif not entry.message():
@@ -197,7 +210,7 @@ class Picture:
         if shown.type == message.CONNECTION_REQUEST:
             self._asking[entry.thread] = shown.thread
         self._arrow(shown.thread, entry.thread, "send", f"{entry.line} {_message_text(shown)}{told}")
-        if entry.kind == "wake" and shown.type_name() in (SENT["NtRequestWaitReplyPort"], SENT["NtConnectPort"]):
+        if entry.kind == "wake" and shown.type in WAITED_FOR:
             self._begin(shown.thread, "")
 
     def _accepted(self, entry):
@@ -296,8 +309,11 @@ def _bytes_text(data):
 
 
 def _message_text(shown):
-    """A message's type, client, identifier and data in short. The data of an end only name the port or the thread."""
+    """A message's type, client, identifier and data in short. The data of an end only name the port or the thread, and
+    those of an event are a code and a chance."""
     kind = shown.type_name() or f"type {shown.type}"
+    if shown.raised():
+        return "{} {}.{}.{} {}, chance {}".format(kind, shown.process, shown.thread, shown.message_id, *shown.raised())
     data = "" if shown.type in ENDS else _bytes_text(shown.data) if shown.data else "without data"
     return f"{kind} {shown.process}.{shown.thread}.{shown.message_id} {data}".rstrip()
 

@@ -3,6 +3,7 @@
 # Those of docs/SERVICES.md, "The statuses".
 PROFILE = {
     "00000000": "SUCCESS",
+    "00010002": "DBG_CONTINUE",
     "c0000005": "ACCESS_VIOLATION",
     "c0000008": "INVALID_HANDLE",
     "c000000b": "INVALID_CID",
@@ -23,6 +24,7 @@ PROFILE = {
     "c0000042": "INVALID_PORT_HANDLE",
     "c0000044": "QUOTA_EXCEEDED",
     "c0000045": "INVALID_PAGE_PROTECTION",
+    "c0000048": "PORT_ALREADY_SET",
     "c000004e": "SECTION_PROTECTION",
     "c000007c": "NO_TOKEN",
     "c00000a5": "BAD_IMPERSONATION_LEVEL",
@@ -46,12 +48,36 @@ OTHERS = {
     "c0000120": "CANCELLED",
 }
 NAMES = {**OTHERS, **PROFILE}
-SUCCESS = "00000000"
+# Windows NT's names for the codes of exceptions, with which threads die too.
+EXCEPTIONS = {
+    "40010005": "CONTROL_C",
+    "80000001": "GUARD_PAGE_VIOLATION",
+    "80000002": "DATATYPE_MISALIGNMENT",
+    "80000003": "BREAKPOINT",
+    "80000004": "SINGLE_STEP",
+    "c0000006": "IN_PAGE_ERROR",
+    "c000001d": "ILLEGAL_INSTRUCTION",
+    "c0000025": "NONCONTINUABLE_EXCEPTION",
+    "c000008c": "ARRAY_BOUNDS_EXCEEDED",
+    "c000008e": "FLOAT_DIVIDE_BY_ZERO",
+    "c0000094": "INTEGER_DIVIDE_BY_ZERO",
+    "c0000095": "INTEGER_OVERFLOW",
+    "c0000096": "PRIVILEGED_INSTRUCTION",
+    "c00000fd": "STACK_OVERFLOW",
+    "c000013a": "CONTROL_C_EXIT",
+}
+SUCCESS, CONTINUED = "00000000", "00010002"
 
 
 def name_of(status):
     """The name of a status of 8 hexadecimal digits, None where it has none here."""
     return NAMES.get(status.lower())
+
+
+def code_with_name(code):
+    """The code of an exception or of a death, and its name where it is known by one."""
+    name = name_of(code) or EXCEPTIONS.get(code.lower())
+    return f"{code} {name}" if name else code
 
 
 def with_name(status):

@@ -18,7 +18,7 @@ REPLY = re.compile(rf"r:{PART}\.{PART}\.{PART}:(.*)")
 FIRST_NUMBER, NUMBERS_APART = 20, 4
 MOST_TOLD = 300
 # What a symbol alone stands for, where that isn't the handle that its call gave.
-IDENTIFIED = ("NtRequestPort", "NtRequestWaitReplyPort")
+IDENTIFIED = ("NtRequestPort", "NtRequestWaitReplyPort", "raise")
 RECEIVES = ("NtListenPort", "NtReplyWaitReceivePort")
 SPELLED_AS_HEX = ("ctx", "access", "base", "target", "vbase")
 # A word of a trace in which a name or a symbol stands.

@@ -1,9 +1,9 @@
-"""A plain implementation of the profile, from the pages, with rules to be broken; no sections, views or tokens.
+"""A plain implementation of the profile, from the pages, with rules to be broken; without views, tokens, events.
 
     python3 tools/tests/plain.py [--wrong NAME] replay < SCRIPT
 
-It is for trying `hunt` alone: it reads well-formed scripts, and is slow. WRONGS of plain_rules.py tells what each
-NAME breaks. This half has the ports and their calls.
+It goes by the pages, and is for trying `hunt` alone: it reads well-formed scripts, and is slow. WRONGS of
+plain_rules.py tells what each NAME breaks. This half has the ports and their calls.
 """
 import struct
 import sys
@@ -17,7 +17,7 @@ from plain_rules import (
 
 
 class Plain(Machine):
-    """The machine with all calls but those on sections, views and memory."""
+    """The machine with all calls but those on sections, views, memory and exceptions."""
 
     def add_port(self, kind, thread, **parts):
         found = It(kind, queue=[], other=None, home=None, open=kind != "client", context=0, place=None, complete=False)

@@ -17,6 +17,8 @@ LEFT_OUT = {
     "NtOpenThreadToken",
     "NtOpenProcessToken",
     "NtQueryInformationToken",
+    "NtSetInformationProcess",
+    "raise",
 }
 WRONGS = {
     "newest-first": "a receive takes the newest message of the queue",

@@ -39,7 +39,7 @@ def with_identifier(data, change):
 
 def word_in(word, kind):
     """A word of a line as the program takes it; what is out of form stays."""
-    if kind in ("H", "H|self") and re.fullmatch(r"0|[1-9]\d{0,9}|0x[0-9A-Fa-f]{1,8}", word):
+    if kind in ("H", "H|self", "PORT") and re.fullmatch(r"0|[1-9]\d{0,9}|0x[0-9A-Fa-f]{1,8}", word):
         value = int(word, 0)
         return str(handle_in(value)) if value < 1 << 32 else word
     view = re.fullmatch(r"w:([^:]*)(:[^:]*:[^:]*)", word)

@@ -68,6 +68,49 @@ class Kinds(unittest.TestCase):
     def test_nothing(self):
         self.assertEqual(between(LINES, LINES), [])
 
+    # A close that wakes by frame handlers, dooms a process, and closes the port of another one; and a raise that waits.
+    RAISED = ["7 36 raise wait id=1", "8 24 NtClose 00000000", "8 *44 raise 00000000", "8 ~36 died 00000005"]
+    RAISED += ["8 *50 raise 00000000", "end 8 5 3"]
+
+    def raised(self, *places):
+        """The lines with others in place of some, each a pair of its place and a line, or of a place and None."""
+        got = list(self.RAISED)
+        for at, line in places:
+            got[at] = line
+        return [it for it in got if it]
+
+    def test_a_death_before_the_wakes_that_precede_it(self):
+        got = self.raised((2, self.RAISED[3]), (3, self.RAISED[2]))
+        says = "the wake of thread 44 has to come before the death of thread 36"
+        self.check(got, 8, says, reasons.SETTLING, "settles", wanted=self.RAISED)
+        got = self.raised((3, self.RAISED[4]), (4, self.RAISED[3]))
+        says = "the death of thread 36 has to come before the wake of thread 50"
+        self.check(got, 8, says, reasons.SETTLING, "settles", wanted=self.RAISED)
+
+    def test_an_exception_that_is_not_settled(self):
+        got = self.raised((3, None), (5, "end 8 4 3"))
+        found = between(self.RAISED, got)
+        self.assertEqual(found[0].says, "thread 36 has to die")
+        self.assertIn("An exception that nothing handles ends all live threads of its process", found[0].rule[0])
+
+    def test_a_raise_that_returns_in_place_of_waiting(self):
+        got = self.raised((0, "7 36 raise 00000000"))
+        says = "`wait` is wanted, got 00000000 (SUCCESS)"
+        self.check(got, 7, says, reasons.CHANCES, "returns", wanted=self.RAISED)
+
+    def test_a_raise_that_is_continued_by_another_reply(self):
+        reply = "7 24 NtReplyPort 00000000"
+        wanted, got = [reply, "7 *36 raise 00000000"], [reply, "7 *36 raise 00010002"]
+        says = "status 00000000 (SUCCESS) is wanted, got 00010002 (DBG_CONTINUE)"
+        found = self.check(got, 7, says, reasons.ANSWERS, "ending", wanted=wanted)
+        self.assertIn("02000100", found.rule[0])
+
+    def test_an_event_with_another_chance(self):
+        shown = "080020000800000020000000240000000200000000000000050000c00%d000000"
+        line = "7 24 NtReplyWaitReceivePort 00000000 ctx=00000000 msg=" + shown
+        says = "the message: data 050000c002000000 is wanted, got 050000c001000000"
+        self.check([line % 1], 7, says, reasons.EVENTS, "which event", wanted=[line % 2])
+
     def test_an_entry_that_is_missing(self):
         found = self.check(changed(2), 3, "the entry is missing", reasons.TRANSCRIPT, "missing")
         self.assertIsNone(found.got)
@@ -120,7 +163,7 @@ class Kinds(unittest.TestCase):
         wanted, got = changed(5, "6 28 NtReplyPort c000021f"), changed(5, "6 28 NtReplyPort 00000000")
         says = "status c000021f (REPLY_MESSAGE_MISMATCH) is wanted, got 00000000 (SUCCESS)"
         found = self.check(got, 6, says, "SERVICES.md, NtReplyPort", "let through", wanted=wanted)
-        self.assertIn("the message fits no request through this port", found.rule[0])
+        self.assertIn("the message fits no request and no event through this port", found.rule[0])
 
     def test_refusals_in_another_order(self):
         # The page has for a reply: handle, message, client, then what fits.
@@ -488,7 +531,8 @@ the first difference: line 4 of the script, thread 24, NtRequestWaitReplyPort
     differs: id=1 is wanted, got id=2
     means:   {reasons.MEANS["id="]}
     rule:    Each thread draws identifiers of its own, 1, 2 and so on: one for each datagram,
-             request and connect that isn't refused, and none for anything else.
+             request and connect that isn't refused, one for each event of its exceptions, and none
+             for anything else.
              (SERVICES.md, Rules that all calls share)
 1 difference
 """

@@ -62,6 +62,52 @@ class Events(unittest.TestCase):
 
     BOOTS = ["1 - boot 00000000", "2 - boot 00000000"]
 
+    def test_an_exception_through_its_chances(self):
+        shown = ["08002000080000002000000024000000%02x00000000000000050000c0%02x000000" % it for it in ((1, 1), (2, 2))]
+        lines = [
+            "4 36 raise wait id=1",
+            f"5 24 NtReplyWaitReceivePort 00000000 ctx=00000000 msg={shown[0]}",
+            "6 24 NtReplyPort 00000000",
+            f"7 24 NtReplyWaitReceivePort 00000000 ctx=00000007 msg={shown[1]}",
+            "8 24 NtReplyPort 00000000",
+            "8 *36 raise 00010002",
+            "9 36 raise 00000000",
+        ]
+        wanted = [
+            "participant T36 as thread 36<br/>process 32",
+            "participant T24 as thread 24<br/>process unknown",
+            "Note over T36: 4 event 1 sent, and waits",
+            "activate T36",
+            "T36->>T24: 5 debug event 32.36.1 c0000005, chance 1",
+            "Note over T24: 6 NtReplyPort<br/>the exception goes on",
+            "T36->>T24: 7 debug event 32.36.2 c0000005, chance 2 context 7",
+            "T24-->>T36: 8 continued",
+            "deactivate T36",
+            "Note over T36: 9 raise",
+        ]
+        self.assertEqual(mermaid(lines), wanted)
+
+    def test_an_exception_that_its_frames_handle_and_one_that_ends_a_process(self):
+        lines = [
+            "4 36 raise wait id=1",
+            "5 44 raise wait id=1",
+            "6 24 NtClose 00000000",
+            "6 *44 raise 00000000",
+            "6 ~36 died c0000005",
+        ]
+        wanted = [
+            "Note over T36: 4 event 1 sent, not received, and waits",
+            "activate T36",
+            "Note over T44: 5 event 1 sent, not received, and waits",
+            "activate T44",
+            "Note over T24: 6 NtClose",
+            "T24-->>T44: 6 handled by its frame handlers",
+            "deactivate T44",
+            "Note over T36: 6 died, code c0000005 ACCESS_VIOLATION",
+            "deactivate T36",
+        ]
+        self.assertEqual(mermaid(lines)[3:], wanted)
+
     def test_what_is_received_at_once_is_one_arrow(self):
         shown = "000018000100000014000000180000000100000000000000"
         lines = [

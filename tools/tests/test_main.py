@@ -164,6 +164,8 @@ class Forms(unittest.TestCase):
             "NtCreateThread": "TID NtCreateThread H|self TID",
             "NtTerminateThread": "TID NtTerminateThread H|self CODE",
             "NtTerminateProcess": "TID NtTerminateProcess H|self CODE",
+            "NtSetInformationProcess": "TID NtSetInformationProcess H|self CLASS PORT",
+            "raise": "TID raise CODE handled|unhandled",
         }
         self.assertEqual(set(named), {*forms.DIRECTIVES, *forms.CALLS})
         for name in named:

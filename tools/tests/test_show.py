@@ -127,6 +127,22 @@ class Show(support.WithFolder):
         self.assertIn("type                5 (port closed)", told)
         self.assertIn("(thread 36, the port that it made as number 1)", told)
 
+    def test_an_exception(self):
+        head = "0800200008000000200000002400000001000000" + "00" * 4
+        text = f"1 24 NtReplyWaitReceivePort 00000000 ctx=00000000 msg={head}940000c001000000\n2 ~36 died c0000094\n"
+        told = support.run("show", source=f"{text}3 *40 raise 00010002\n4 *44 raise 00000000\n".encode()).stdout
+        self.assertIn("type                8 (debug event)", told)
+        self.assertIn("(thread 36 raised c0000094 INTEGER_DIVIDE_BY_ZERO; the first chance)", told)
+        self.assertIn("thread 36 died, with the code c0000094 INTEGER_DIVIDE_BY_ZERO", told)
+        self.assertIn("thread 40 wakes from raise: 00010002 DBG_CONTINUE", told)
+        self.assertIn("thread 44 wakes from raise: 00000000 SUCCESS", told)
+
+    def test_an_event_with_other_data_is_shown_as_it_is(self):
+        head = "0400200007000000200000002400000001000000" + "00" * 4
+        told = support.run("show", source=f"1 24 NtListenPort 00000000 msg={head}01020304\n".encode()).stdout
+        self.assertIn("type                7 (exception)", told)
+        self.assertNotIn("raised", told)
+
     def test_a_file_that_is_not_its_script_is_refused(self):
         transcript = support.ROOT / "examples" / "first-request.transcript"
         ran = support.run("show", "--script", self.file("binary", bytes(range(256)) * 9), transcript)

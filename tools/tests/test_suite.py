@@ -13,7 +13,7 @@ import support
 SUITE = support.ROOT / "conformance"
 sys.path.insert(0, str(SUITE))
 import suite
-from ntlpc_tool import judge, needs, own_names, program, transcript
+from ntlpc_tool import forms, judge, needs, own_names, program, transcript
 
 EXAMPLE = [sys.executable, str(SUITE / "example.py")]
 # Of thread/ the example passes 8 scripts, 2 need calls that it doesn't have, and one shows its wrong rule.
@@ -69,7 +69,7 @@ class Needs(unittest.TestCase):
     def test_each_probe_is_well_formed_and_names_one_thing(self):
         for name in needs.NAMES:
             self.assertEqual(needs.of(needs.probe(name), b"end 1 1 0\n"), {name})
-        self.assertEqual(needs.not_built(lambda script: b"stop 1 3\n"), [it for it in needs.NAMES if it[0] == "N"])
+        self.assertEqual(needs.not_built(lambda script: b"stop 1 3\n"), list(forms.CALLS))
         self.assertEqual(needs.not_built(lambda script: b""), [])
 
     @support.needs_program
@@ -295,6 +295,39 @@ class Names(unittest.TestCase):
         told = own_names.Symbols(script, transcript.read(wanted)).trace().splitlines()
         self.assertEqual(told[:2], [b"$l1 = 24 NtCreateProcess 32 36", b"24 NtTerminateThread $l1.thread 0"])
         self.assertEqual(told[2:], [b"$l3 = 24 NtConnectPort \\P - - -", b"24 NtClose $l3"])
+
+    RAISED = (
+        b"boot 20 24\n24 NtCreatePort -\n24 NtCreateProcess 32 36\n24 NtSetInformationProcess 8 7 4\n"
+        b"36 raise 5 unhandled\n24 NtReplyWaitReceivePort 4\n24 NtReplyPort 4 r:32.36.1:\n24 NtReplyWaitReceivePort 4\n"
+        b"24 NtReplyPort 4 r:32.36.2:02000100\n"
+    )
+    CONTINUED = (
+        b"1 - boot 00000000\n2 24 NtCreatePort 00000000 h=4\n3 24 NtCreateProcess 00000000 h=8 thread=12\n"
+        b"4 24 NtSetInformationProcess 00000000\n5 36 raise wait id=1\n"
+        b"6 24 NtReplyWaitReceivePort 00000000 ctx=00000000 "
+        b"msg=08002000080000002000000024000000010000000000000005000000" b"01000000\n7 24 NtReplyPort 00000000\n"
+        b"8 24 NtReplyWaitReceivePort 00000000 ctx=00000000 "
+        b"msg=08002000080000002000000024000000020000000000000005000000" b"02000000\n9 24 NtReplyPort 00000000\n"
+        b"9 *36 raise 00010002\nend 9 10 5\n"
+    )
+
+    def test_an_event_that_goes_on_has_the_programs_identifier(self):
+        names = own_names.Names(self.RAISED, transcript.read(self.CONTINUED))
+        got = self.CONTINUED.replace(b"h=4", b"h=16").replace(b"id=1", b"id=7")
+        got = got.replace(b"24000000010000", b"24000000070000").replace(b"24000000020000", b"240000000b0000")
+        told = names.of_got(transcript.read(got)).splitlines()
+        self.assertEqual(told[3], b"24 NtSetInformationProcess 8 7 16")
+        self.assertEqual(told[6::2], [b"24 NtReplyPort 16 r:32.36.7:", b"24 NtReplyPort 16 r:32.36.11:02000100"])
+
+    def test_an_event_that_goes_on_has_the_symbol_of_the_receive_that_shows_it(self):
+        told = own_names.Symbols(self.RAISED, transcript.read(self.CONTINUED)).trace().splitlines()
+        wanted = self.RAISED.splitlines()
+        wanted[1:3] = [b"$l2 = 24 NtCreatePort -", b"$l3 = 24 NtCreateProcess 32 36"]
+        wanted[3] = b"24 NtSetInformationProcess $l3 7 $l2"
+        wanted[4:6] = [b"$l5 = 36 raise 5 unhandled", b"24 NtReplyWaitReceivePort $l2"]
+        wanted[6:8] = [b"24 NtReplyPort $l2 r:32.36.$l5:", b"$l8 = 24 NtReplyWaitReceivePort $l2"]
+        wanted[8] = b"24 NtReplyPort $l2 r:32.36.$l8:02000100"
+        self.assertEqual(told, wanted)
 
     @support.needs_program
     def test_a_program_with_other_names_passes_up_to_names_alone(self):

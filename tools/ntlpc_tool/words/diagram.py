@@ -9,7 +9,8 @@ Each thread has a line from above to below; the numbers in front are those of th
 to the thread that receives it, in the line in which that happens; its sender has a note in the line in which it was
 sent, where that is an earlier one. `not received` stands there where no entry shows the message. A reply, an accept and
 a completion are arrows back to the thread that waits, and what ends a wait with a failure is an arrow with a cross. A
-bar on a thread's line is a wait. Refused calls are notes with the name of their status.
+bar on a thread's line is a wait. Refused calls are notes with the name of their status. A reply that sends an exception
+on, and so wakes nobody, has a note too.
 
 The standard output is for Mermaid, which GitHub and many editors draw where it stands in a block of a page that is
 marked `mermaid`. --plantuml writes the same picture in PlantUML's language. --svg lets PlantUML draw it: the command

@@ -13,8 +13,8 @@ TRACE is a script whose lines may have names for processes and threads, and symb
 
 @NAME     is made by boot, thread, NtCreateProcess or NtCreateThread, and is that number everywhere else. The numbers
           are 20, 24, 28 and so on.
-$NAME     alone is the handle that the call gave, also when a connect's wake gives it later; for a datagram or a request
-          it is the identifier.
+$NAME     alone is the handle that the call gave, also when a connect's wake gives it later; for a datagram, a request
+          or a raise it is the identifier, of a raise that of its first event.
 $NAME.FIELD
           is a field that the call or its wake has in the transcript: h, thread, id, ctx, base, size, target, vbase,
           vsize, access, handles, pointers, max, level. Of a message that was received there are also id, process and
