@@ -169,6 +169,15 @@ def impersonations(lines):
         yield f"24 NtReplyPort 8 r:32.36.{identifier}:43"
 
 
+def raises(lines):
+    """A child raises an exception, its debugger takes the event and continues it; over and over."""
+    yield from ("boot 20 24", "24 NtCreatePort -", "24 NtCreateProcess 32 36", "24 NtSetInformationProcess 8 7 4")
+    for identifier in range(1, (lines - 4) // 3 + 1):
+        yield "36 raise 0xc0000005 unhandled"
+        yield "24 NtReplyWaitReceivePort 4"
+        yield f"24 NtReplyPort 4 r:32.36.{identifier}:02000100"
+
+
 def turns(lines):
     """64 clients ask the server on a thread in turn: each asks for its level, and the server's turn answers."""
     yield from ("boot 20 24", "24 NtCreatePort \\S", "resident 24 win32 4", "turn 24")
@@ -256,6 +265,7 @@ def main():
             (large_views, LONG),
             (described, LONG),
             (impersonations, LONG),
+            (raises, LONG),
             (turns, LONG),
             (boots, LONG),
             (connects, SHORT),

@@ -496,6 +496,8 @@ def growth():
         bench.large_views,
         bench.described,
         bench.impersonations,
+        bench.raises,
+        bench.turns,
     )
     for script in scripts:
         yield f"time grows with the lines: {script.__name__}", grows_with_lines(script, TIMES_LONGER)
