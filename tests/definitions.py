@@ -93,13 +93,13 @@ def services():
     """The definition of each call by the call's name, `NtClose`, and of each directive by its word."""
     text = text_of("lpc_model", "specs", "antt")
     calls = re.findall(r"^service_of w by \(?[\w ]+\)? =\s+(\w+) w by", text, re.M)
-    lines = re.findall(r"^bare_steps \((\w+) [\w ]+\) w = directed word\.\w+ \((\w+) w ", text, re.M)
+    lines = re.findall(r"^own_steps \((\w+) [\w ]+\) w = directed word\.\w+ \((\w+) w ", text, re.M)
     return {camel(it): it for it in calls}, dict(lines) | RESIDENT_LINES
 
 
 def camel(name):
-    """A service's name as Windows NT spells it."""
-    return "".join(it.capitalize() for it in name.split("_"))
+    """A service's name as a script spells it: as Windows NT does, but for a raise."""
+    return "raise" if name == "raise_exception" else "".join(it.capitalize() for it in name.split("_"))
 
 
 def contracts(crate):

@@ -23,7 +23,7 @@ sys.dont_write_bytecode = True
 from failing import tried
 
 ROOT = pathlib.Path(__file__).resolve().parent.parent
-SMALLEST, FAULTY = "first-request", "faulty-line"
+SMALLEST, FAULTY, WORKED = "first-request", "faulty-line", "tests/worked"
 # The pieces of the smallest script's text, and those of the usage line.
 PIECES, USAGE = 7, b"usage: ntlpc COMMAND [WORDS]\n"
 ERRORS = {"EIO": errno.EIO, "EAGAIN": errno.EAGAIN, "ENOSPC": errno.ENOSPC, "EBADF": errno.EBADF}
@@ -32,11 +32,9 @@ ERRORS = {"EIO": errno.EIO, "EAGAIN": errno.EAGAIN, "ENOSPC": errno.ENOSPC, "EBA
 class Example:
     """An example: its script, its transcript, and the status that goes with it."""
 
-    def __init__(self, name):
+    def __init__(self, name, folder="examples"):
         self.name = name
-        self.script, self.transcript = (
-            (ROOT / "examples" / f"{name}.{it}").read_bytes() for it in ("script", "transcript")
-        )
+        self.script, self.transcript = ((ROOT / folder / f"{name}.{it}").read_bytes() for it in ("script", "transcript"))
         self.lines = self.transcript.splitlines(True)
         self.status = 2 if self.lines[-1].startswith(b"stop ") else 0
 
@@ -84,6 +82,14 @@ def reads(program, example, piece):
     run = program.replay(example.script, READ_PIECE=piece, FAIL_READ=count + 1)
     whole = wrong_with(run, example.status, example.transcript, reads=count)
     yield f"{example.name}: no read fails, {piece} bytes at a time", whole
+
+
+def few_bytes(program, example):
+    """An input that gives few bytes at a time changes nothing."""
+    for piece in 1, 7:
+        run = program.replay(example.script, READ_PIECE=piece)
+        whole = wrong_with(run, example.status, example.transcript)
+        yield f"{example.name}: an input that gives {piece} bytes at a time", whole
 
 
 def writes(program, example):
@@ -154,6 +160,8 @@ def checks(program):
     yield from reads(program, smallest, 1)
     yield from reads(program, smallest, 7)
     yield from reads(program, faulty, 1)
+    for script in sorted((ROOT / WORKED).glob("*.script")):
+        yield from few_bytes(program, Example(script.stem, WORKED))
     yield from writes(program, smallest)
     yield from writes(program, faulty)
     yield from writes_in_parts(program, smallest, 5)

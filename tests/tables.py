@@ -8,8 +8,8 @@
 - The refusals of each call and directive stand there in the order of its definition's tests, and so do those that
   several calls share.
 - Each limit that the pages name is that of the profile, and docs/SERVICES.md names no number that isn't one.
-- The worked tables of README.md, docs/CONNECTIONS.md, docs/SECURITY.md and docs/VIEWS.md have the lines of the scripts
-  and transcripts in examples/.
+- The worked tables of README.md, docs/CONNECTIONS.md, docs/EXCEPTIONS.md, docs/SECURITY.md and docs/VIEWS.md have the
+  lines of the scripts and transcripts in examples/.
 - Each function, clause and law that docs/PROOFS.md names as carrying a claim stands in that crate, and each clause of
   the top call is named there, in one claim.
 - Each name that the pages on definitions, proofs and code have as code stands below crates/, or is a file.
@@ -33,9 +33,17 @@ SERVICES = (pages.DOCS / "SERVICES.md").read_text(encoding="utf-8")
 STATUS = re.compile(r"\b[0-9A-F]{8}\b")
 CODE = re.compile(r"`([^`]*)`")
 # How many there are: who adds one changes the number.
-STATUS_COUNT, SHARED_COUNT, CALL_COUNT, DIRECTIVE_COUNT, LIMIT_COUNT = 29, 5, 29, 7, 9
-WORKED_ROWS = {"README.md": 8, "docs/CONNECTIONS.md": 30, "docs/SECURITY.md": 45, "docs/VIEWS.md": 22}
-CLAIM_COUNT = 60
+STATUS_COUNT, SHARED_COUNT, CALL_COUNT, DIRECTIVE_COUNT, LIMIT_COUNT = 31, 5, 31, 7, 9
+WORKED_ROWS = {
+    "README.md": 8,
+    "docs/CONNECTIONS.md": 30,
+    "docs/EXCEPTIONS.md": 73,
+    "docs/SECURITY.md": 45,
+    "docs/VIEWS.md": 22,
+}
+# The calls that refuse nothing, and so have no table of refusals.
+UNREFUSED = ("raise",)
+CLAIM_COUNT = 63
 NAMED_IN = {"ARCHITECTURE.md": 700, "DECISIONS.md": 150, "DEFINITIONS.md": 1_300, "ISOLATION.md": 200, "PROOFS.md": 400}
 # What the pages name that is none of these: a tool with its words.
 PLACEHOLDERS = ("gate_seconds",)
@@ -45,6 +53,7 @@ SHARED = {"handle": "port_test", "message": "message_test", "client": "client_te
 WORKED = {
     "README.md": [("first-request", 1, 6)],
     "docs/CONNECTIONS.md": [("connect-and-ask", 1, 13), ("connect-and-ask", 14, 19), ("two-clients", 14, 17)],
+    "docs/EXCEPTIONS.md": [("a-debugger-and-its-child", 2, 34), ("a-debugger-that-ends", 2, 28)],
     "docs/SECURITY.md": [("a-server-that-acts-for-its-client", 9, 47)],
     "docs/VIEWS.md": [("a-connection-with-views", 6, 25)],
 }
@@ -105,6 +114,8 @@ def refusals():
         elif head == ["Refusal", "Cause"]:
             name = heading.split()[0]
             yield check("call", name, [it for row in rows for it in refusals_in(row[0], shared)], calls[name])
+    for name in UNREFUSED:
+        yield check("call", name, [], calls[name])
     yield pinned("calls", read["call"], CALL_COUNT)
     yield pinned("calls of the definitions", len(calls), CALL_COUNT)
     yield pinned("directives", read["directive"], DIRECTIVE_COUNT)
