@@ -64,12 +64,16 @@ pub fn threads(
     Ok(())
 }
 
-/// The thread can make a call.
+/// The thread can make a call, and no event is marked.
 pub fn can_call(rt: &impl Abort, world: &World, tid: u32)
-    ensures { is_ready world.now.rows tid ≡ true }
+    ensures ready { is_ready world.now.rows tid ≡ true }
+    ensures unmarked { world.now.rows.marks ≡ [] }
 {
     let Condition::Ready = condition_of(world, tid) else {
         panic!(rt; "the thread can't call");
+    };
+    let None = world.first_mark() else {
+        panic!(rt; "an event is marked");
     };
 }
 

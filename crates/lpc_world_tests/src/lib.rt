@@ -13,6 +13,8 @@ mod death;
 #[cfg(test)]
 mod ending;
 #[cfg(test)]
+mod events;
+#[cfg(test)]
 mod machine;
 #[cfg(test)]
 mod memory;

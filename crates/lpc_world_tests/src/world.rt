@@ -119,8 +119,8 @@ fn gets_a_handle(rt: &impl Abort, world: &mut World, port: Key) -> Result<(), Fa
     Ok(())
 }
 
-// Process 20 begins, and its thread 24 makes a port, which gets a handle.
-fn begins_with_a_port(rt: &impl Abort, world: &mut World) -> Result<Key, Fail>
+/// Process 20 begins, and its thread 24 makes a port, which gets a handle.
+pub fn begins_with_a_port(rt: &impl Abort, world: &mut World) -> Result<Key, Fail>
     requires few { world.old.calls < 1000 }
     ensures calls { world.new.calls ≤ world.old.calls + 3 }
     ensures stands { IfOk result (λ port. stands world.new.births.ports port ≡ true) }
