@@ -5,10 +5,14 @@
 
 - A read that fails is not tried again. What the whole lines read before tell is printed, without a last line, and the
   status is 3; where one of them is faulty, it is 2, and the transcript ends with its `stop` line.
-- A write that fails is not tried again, and nothing is written behind it: the pieces before were sent, and the status
-  is 4. A piece is what one line of the script tells, or the last line; one that is taken in parts is sent on.
-- A disk that gets full has taken as many bytes as it has room for.
-- Input and output that give or take few bytes at a time change nothing.
+- A write that fails is not tried again, and nothing is written behind it: what the writes before it took was sent, and
+  the status is 4. How the output is cut into writes is the program's own, but that what a line tells is written before
+  more is read. So where the input gives a byte at a time, each write is what one line of the script tells, or the last
+  line; one that is taken in parts is sent on.
+- A disk that gets full has taken as many bytes as it has room for, also inside what one line tells.
+- Input and output that give or take few bytes at a time change nothing. An input that gives none is at its end, and an
+  output that takes none has failed.
+- A storm reads nothing, and its writes fail as those of a replay do.
 
 Each check that fails has a line, and the last line is `N passed, M failed`. Where there is no C compiler all is left
 out, with a line. The exit status is 0 where every check passed, 1 where not, and 64 without PROGRAM.
@@ -20,26 +24,30 @@ import re
 import sys
 
 sys.dont_write_bytecode = True
+import worlds
 from failing import tried
 
 ROOT = pathlib.Path(__file__).resolve().parent.parent
 SMALLEST, FAULTY, WORKED = "first-request", "faulty-line", "tests/worked"
-# The pieces of the smallest script's text, and those of the usage line.
-PIECES, USAGE = 7, b"usage: ntlpc COMMAND [WORDS]\n"
-ERRORS = {"EIO": errno.EIO, "EAGAIN": errno.EAGAIN, "ENOSPC": errno.ENOSPC, "EBADF": errno.EBADF}
+# The pieces of the smallest script's text, those of the usage line, and a storm's words.
+PIECES, USAGE, STORM = 7, b"usage: ntlpc COMMAND [WORDS]\n", ("storm", "2", "0")
+STORM_BEGINS = b"storm lines=58 entries=67 objects=0 replies=1 mismatches=1 sum="
+ERRORS = {it: getattr(errno, it) for it in ("EIO", "EAGAIN", "ENOSPC", "EBADF", "EPIPE", "EINTR")}
+# The most that is read at once.
+PIECE = 4_096
 
 
 class Example:
-    """An example: its script, its transcript, and the status that goes with it."""
+    """A script, its transcript, and the status that goes with it."""
 
-    def __init__(self, name, folder="examples"):
-        self.name = name
-        self.script, self.transcript = ((ROOT / folder / f"{name}.{it}").read_bytes() for it in ("script", "transcript"))
+    def __init__(self, name, script, transcript):
+        self.name, self.script, self.transcript = name, script, transcript
         self.lines = self.transcript.splitlines(True)
         self.status = 2 if self.lines[-1].startswith(b"stop ") else 0
 
     def pieces(self):
-        """What goes to the output in one piece: what each line of the script tells, and the last line."""
+        """What is written at once where a byte is read at a time: what each line of the script tells, and the last
+        line."""
         found = [list(it) for _, it in itertools.groupby(self.lines[:-1], lambda it: it.split(b" ")[0])]
         return [b"".join(it) for it in found] + self.lines[-1:]
 
@@ -60,6 +68,11 @@ class Example:
         return 3, b"".join(told)
 
 
+def example(name, folder="examples"):
+    """An example of a folder."""
+    return Example(name, *((ROOT / folder / f"{name}.{it}").read_bytes() for it in ("script", "transcript")))
+
+
 def wrong_with(run, status, text, **counts):
     """What is wrong with how a run ended, and with how many reads or writes it made; nothing where it is as wanted."""
     if run.status != status:
@@ -72,59 +85,83 @@ def wrong_with(run, status, text, **counts):
     )
 
 
-def reads(program, example, piece):
+def reads(program, it, piece):
     """Each read fails in turn, of an input that gives so many bytes at a time."""
-    count = example.reads(piece)
+    count = it.reads(piece)
     for number in range(1, count + 1):
-        run = program.replay(example.script, READ_PIECE=piece, FAIL_READ=number)
-        status, text = example.broken_off((number - 1) * piece)
-        yield f"{example.name}: read {number} of {count} fails", wrong_with(run, status, text, reads=number)
-    run = program.replay(example.script, READ_PIECE=piece, FAIL_READ=count + 1)
-    whole = wrong_with(run, example.status, example.transcript, reads=count)
-    yield f"{example.name}: no read fails, {piece} bytes at a time", whole
+        run = program.replay(it.script, READ_PIECE=piece, FAIL_READ=number)
+        status, text = it.broken_off((number - 1) * piece)
+        yield f"{it.name}: read {number} of {count} fails", wrong_with(run, status, text, reads=number)
+    run = program.replay(it.script, READ_PIECE=piece, FAIL_READ=count + 1)
+    whole = wrong_with(run, it.status, it.transcript, reads=count)
+    yield f"{it.name}: no read fails, {piece} bytes at a time", whole
 
 
-def few_bytes(program, example):
+def few_bytes(program, it):
     """An input that gives few bytes at a time changes nothing."""
     for piece in 1, 7:
-        run = program.replay(example.script, READ_PIECE=piece)
-        whole = wrong_with(run, example.status, example.transcript)
-        yield f"{example.name}: an input that gives {piece} bytes at a time", whole
+        run = program.replay(it.script, READ_PIECE=piece)
+        whole = wrong_with(run, it.status, it.transcript)
+        yield f"{it.name}: an input that gives {piece} bytes at a time", whole
 
 
-def writes(program, example):
-    """Each write fails in turn."""
-    pieces = example.pieces()
+def no_bytes(program, it):
+    """An input that gives no byte is at its end, and an output that takes none has failed."""
+    run = program.replay(it.script, READ_PIECE=0)
+    yield f"{it.name}: an input that gives nothing", wrong_with(run, 0, b"end 0 0 0\n", reads=1)
+    run = program.replay(it.script, WRITE_PIECE=0)
+    yield f"{it.name}: an output that takes nothing", wrong_with(run, 4, b"", writes=1)
+
+
+def writes(program, it):
+    """Each write fails in turn, where a byte is read at a time."""
+    pieces = it.pieces()
     for number in range(1, len(pieces) + 1):
         for more in {}, {"FAIL_FROM": 1}:
-            run = program.replay(example.script, FAIL_WRITE=number, **more)
+            run = program.replay(it.script, READ_PIECE=1, FAIL_WRITE=number, **more)
             sent = b"".join(pieces[: number - 1])
-            yield f"{example.name}: write {number} of {len(pieces)} fails", wrong_with(run, 4, sent, writes=number)
-    run = program.replay(example.script, FAIL_WRITE=len(pieces) + 1)
-    whole = wrong_with(run, example.status, example.transcript, writes=len(pieces))
-    yield f"{example.name}: a write fails that isn't made", whole
+            yield f"{it.name}: write {number} of {len(pieces)} fails", wrong_with(run, 4, sent, writes=number)
+    run = program.replay(it.script, READ_PIECE=1, FAIL_WRITE=len(pieces) + 1)
+    whole = wrong_with(run, it.status, it.transcript, writes=len(pieces))
+    yield f"{it.name}: a write fails that isn't made", whole
 
 
-def writes_in_parts(program, example, part):
+def writes_in_parts(program, it, part):
     """An output that takes so many bytes at a time: all is sent; and each write fails in turn."""
-    parts = [it[at : at + part] for it in example.pieces() for at in range(0, len(it), part)]
-    run = program.replay(example.script, WRITE_PIECE=part)
-    whole = wrong_with(run, example.status, example.transcript, writes=len(parts))
-    yield f"{example.name}: an output that takes {part} bytes at a time", whole
+    parts = [it[at : at + part] for it in it.pieces() for at in range(0, len(it), part)]
+    run = program.replay(it.script, READ_PIECE=1, WRITE_PIECE=part)
+    whole = wrong_with(run, it.status, it.transcript, writes=len(parts))
+    yield f"{it.name}: an output that takes {part} bytes at a time", whole
     for number in range(1, len(parts) + 1):
-        run = program.replay(example.script, WRITE_PIECE=part, FAIL_WRITE=number)
+        run = program.replay(it.script, READ_PIECE=1, WRITE_PIECE=part, FAIL_WRITE=number)
         sent = b"".join(parts[: number - 1])
-        yield f"{example.name}: write {number} of {part} bytes fails", wrong_with(run, 4, sent, writes=number)
+        yield f"{it.name}: write {number} of {part} bytes fails", wrong_with(run, 4, sent, writes=number)
 
 
-def full_disks(program, example):
+def writes_of_all(program, it, numbers=None, **how):
+    """Writes fail in turn, each or those at some places from 0 to 1, where all that there is may be read at once: what
+    was sent begins the transcript, a later write leaves more of it, and behind the failed one none is made."""
+    whole = program.replay(it.script, **how)
+    yield f"{it.name}: no write fails", wrong_with(whole, it.status, it.transcript)
+    last, longest = max(whole.writes, 1), -1
+    chosen = range(1, last + 1) if numbers is None else sorted({1 + round(at * (last - 1)) for at in numbers})
+    for number in chosen:
+        run = program.replay(it.script, FAIL_WRITE=number, **how)
+        found = wrong_with(run, 4, it.transcript[: len(run.printed)], writes=number)
+        if not longest < len(run.printed) < len(it.transcript):
+            found.append(f"it printed {len(run.printed)} bytes, and {longest} where an earlier write failed")
+        longest = len(run.printed)
+        yield f"{it.name}: write {number} of {whole.writes} fails, all read at once", found
+
+
+def full_disks(program, it, rooms=None):
     """A disk that gets full takes the bytes that it has room for."""
-    for room in range(len(example.transcript)):
-        run = program.replay(example.script, WRITE_ROOM=room)
-        yield f"{example.name}: a disk with room for {room} bytes", wrong_with(run, 4, example.transcript[:room])
-    run = program.replay(example.script, WRITE_ROOM=len(example.transcript))
-    whole = wrong_with(run, example.status, example.transcript)
-    yield f"{example.name}: a disk with room for all", whole
+    for room in range(len(it.transcript)) if rooms is None else rooms:
+        run = program.replay(it.script, WRITE_ROOM=room)
+        yield f"{it.name}: a disk with room for {room} bytes", wrong_with(run, 4, it.transcript[:room])
+    run = program.replay(it.script, WRITE_ROOM=len(it.transcript))
+    whole = wrong_with(run, it.status, it.transcript)
+    yield f"{it.name}: a disk with room for all", whole
 
 
 def other_words(program):
@@ -133,42 +170,83 @@ def other_words(program):
     yield "other words: the write fails", wrong_with(program.run(FAIL_WRITE=1), 4, b"", reads=0, writes=1)
     run = program.run(WRITE_PIECE=10, FAIL_WRITE=2)
     yield "other words: the second write fails", wrong_with(run, 4, USAGE[:10], reads=0, writes=2)
+    for room in range(len(USAGE)):
+        run = program.run(WRITE_ROOM=room)
+        yield f"other words: a disk with room for {room} bytes", wrong_with(run, 4, USAGE[:room], reads=0)
 
 
-def both(program, example):
-    """A read and a write are to fail: what fails first is told, and the other isn't made."""
-    run = program.replay(example.script, READ_PIECE=20, FAIL_READ=3, FAIL_WRITE=1)
-    yield f"{example.name}: a write fails before a read", wrong_with(run, 4, b"", reads=1, writes=1)
-    run = program.replay(example.script, READ_PIECE=20, FAIL_READ=2, FAIL_WRITE=2)
-    yield f"{example.name}: a read fails before a write", wrong_with(run, *example.broken_off(20), reads=2, writes=1)
+def storm(program):
+    """A storm's line: no read is made, and each write fails in turn."""
+    whole = program.run(*STORM)
+    line = whole.printed
+    found = wrong_with(whole, 0, line, reads=0, writes=1)
+    yield "a storm", found + [f"it printed {line!r}"] * (not line.startswith(STORM_BEGINS))
+    yield "a storm: the write fails", wrong_with(program.run(*STORM, FAIL_WRITE=1), 4, b"", reads=0, writes=1)
+    for number in range(1, -(-len(line) // 10) + 1):
+        run = program.run(*STORM, WRITE_PIECE=10, FAIL_WRITE=number)
+        sent = line[: 10 * (number - 1)]
+        yield f"a storm: write {number} of 10 bytes fails", wrong_with(run, 4, sent, reads=0, writes=number)
+    for room in range(len(line)):
+        run = program.run(*STORM, WRITE_ROOM=room)
+        yield f"a storm: a disk with room for {room} bytes", wrong_with(run, 4, line[:room], reads=0)
 
 
-def errors(program, example):
+def both(program, it):
+    """A read and a write are to fail: what fails first is told."""
+    run = program.replay(it.script, READ_PIECE=20, FAIL_READ=3, FAIL_WRITE=1)
+    yield f"{it.name}: a write fails before a read", wrong_with(run, 4, b"", writes=1)
+    run = program.replay(it.script, READ_PIECE=20, FAIL_READ=2, FAIL_WRITE=2)
+    yield f"{it.name}: a read fails before a write", wrong_with(run, *it.broken_off(20), reads=2, writes=1)
+
+
+def errors(program, it):
     """Which error it is makes no difference."""
     for name, number in ERRORS.items():
-        run = program.replay(example.script, READ_PIECE=20, FAIL_READ=3, FAIL_ERROR=number)
-        yield f"{name} of a read", wrong_with(run, *example.broken_off(40), reads=3)
-        run = program.replay(example.script, FAIL_WRITE=3, FAIL_ERROR=number)
-        yield f"{name} of a write", wrong_with(run, 4, b"".join(example.pieces()[:2]), writes=3)
+        run = program.replay(it.script, READ_PIECE=20, FAIL_READ=3, FAIL_ERROR=number)
+        yield f"{name} of a read", wrong_with(run, *it.broken_off(40), reads=3)
+        run = program.replay(it.script, READ_PIECE=1, FAIL_WRITE=3, FAIL_ERROR=number)
+        yield f"{name} of a write", wrong_with(run, 4, b"".join(it.pieces()[:2]), writes=3)
+
+
+def long_output(program):
+    """A script of many reads, of which one line tells more than 64 KiB: each read fails, writes at some places do, and a
+    disk gets full about that line and inside."""
+    it = Example(*worlds.one_long_line(25, 63))
+    it.name = "long output"
+    yield from reads(program, it, PIECE)
+    yield from writes_of_all(program, it, (0, 0.1, 0.5, 0.9, 1))
+    close = it.transcript.rindex(b" NtClose ")
+    begin, end = it.transcript.rindex(b"\n", 0, close) + 1, len(it.transcript)
+    rooms = (0, 1, begin - 1, begin, begin + 1, begin + 65_535, begin + 65_536, begin + 65_537, end - 1)
+    good = rooms[-2] < rooms[-1]
+    yield "long output: one line tells much", [] if good else [f"it tells {end - begin} bytes"]
+    yield from full_disks(program, it, rooms)
 
 
 def checks(program):
     """All checks: each with its name and what it found wrong."""
-    smallest, faulty = Example(SMALLEST), Example(FAULTY)
+    smallest, faulty = example(SMALLEST), example(FAULTY)
     count = len(smallest.pieces())
     yield f"there are {PIECES} pieces", [] if count == PIECES else [f"there are {count}"]
     yield from reads(program, smallest, 1)
     yield from reads(program, smallest, 7)
     yield from reads(program, faulty, 1)
     for script in sorted((ROOT / WORKED).glob("*.script")):
-        yield from few_bytes(program, Example(script.stem, WORKED))
+        yield from few_bytes(program, example(script.stem, WORKED))
+    yield from no_bytes(program, smallest)
     yield from writes(program, smallest)
     yield from writes(program, faulty)
     yield from writes_in_parts(program, smallest, 5)
+    yield from writes_of_all(program, smallest)
+    yield from writes_of_all(program, faulty)
+    yield from writes_of_all(program, smallest, WRITE_PIECE=5)
     yield from full_disks(program, smallest)
+    yield from full_disks(program, faulty)
     yield from other_words(program)
+    yield from storm(program)
     yield from both(program, smallest)
     yield from errors(program, smallest)
+    yield from long_output(program)
 
 
 if __name__ == "__main__":

@@ -39,7 +39,11 @@ class Failing:
             file.write(bytes(COUNTS.size))
         told = {name: str(value) for name, value in given.items()}
         env = {**os.environ, **told, "LD_PRELOAD": self.library, "FAILING_COUNTS": self.counts}
-        done = subprocess.run([*self.command, *words], input=source, capture_output=True, timeout=SECONDS, env=env)
+        # A file gives as many bytes as are asked for; a pipe gives what has come.
+        with tempfile.TemporaryFile() as script:
+            script.write(source)
+            script.seek(0)
+            done = subprocess.run([*self.command, *words], stdin=script, capture_output=True, timeout=SECONDS, env=env)
         with open(self.counts, "rb") as file:
             return Run(done.returncode, done.stdout, done.stderr, COUNTS.unpack(file.read(COUNTS.size)))
 

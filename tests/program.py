@@ -81,7 +81,7 @@ class Program:
         self.command = command
 
     def run(self, *words, source=b"", sink=subprocess.PIPE, closed=""):
-        """Runs it with these words. `source` is bytes, or what has a file number; `closed` is `<&-` or `>&-`."""
+        """Runs it with these words. `source` is bytes, or what has a file number; `closed` is `<&-`, `>&-` or both."""
         command = [*self.command, *words]
         if closed:
             command = ["sh", "-c", f'exec "$@" {closed}', "sh", *command]
@@ -361,6 +361,9 @@ def outputs_that_fail():
             program.replay(EXAMPLE, sink=sink).should(4)
 
     yield "the output is closed", lambda program: program.replay(EXAMPLE, closed=">&-").should(4)
+    yield "the input and the output are closed", lambda program: program.replay(closed="<&- >&-").should(3)
+    unheard = {"closed": "2>&-"}
+    yield "the standard error is closed", lambda it: it.replay(LINES, **unheard).should(0, TOLD + b"end 2 2 3\n")
     yield "the output is closed: other words", lambda program: program.run(closed=">&-").should(4)
     yield "the output is closed: a storm", lambda program: program.run("storm", "2", "0", closed=">&-").should(4)
     yield "the disk is full: a storm", full("storm", "2", "0")
