@@ -34,7 +34,7 @@ LINES, TOLD = FIRST + b"24 NtCreatePort -\n", FIRST_TOLD + b"2 24 NtCreatePort 0
 EXAMPLE = (ROOT / "examples" / "first-request.script").read_bytes()
 # How many lines are told at least where as many KiB are left behind the program's start.
 LEFT, TOLD_AT_LEAST = 40_000, 1_000
-WORLDS = 10
+WORLDS = 20
 # The lengths of scripts that are compared, and how many times longer a line of the long one may take: it would take ten
 # times as long where the cost grew with the square. Where each line leaves rows, the memory that the machine hands out
 # page by page makes it up to four times as long on some machines.
@@ -565,7 +565,6 @@ def main(command):
     for group in (
         examples, words, storms_as_replayed, ends_of_input, inputs_that_fail, outputs_that_fail, conversations, limits,
         growth, large_worlds,
-        large_worlds,
     ):
         for name, check in group():
             try:
