@@ -8,11 +8,14 @@
 - `conformance/run` runs every script of a suite, and passes no case that is broken; `conformance/coverage` tells what
   is missing and what isn't named; the suite's folder has as many cases as files that make one.
 - The probe of `tests/program.py` that takes memory away refuses a program that tells nothing, and one that doesn't run.
+- `tests/edge.py` passes a program that writes what each line tells, and one that keeps it back until more is read; it
+  refuses those that go wrong where a read or a write fails. Where there is no C compiler this is left out.
 
 Each check that fails has a line, and the last line is `N passed, M failed`. The exit status is 0 where all passed, 1
 where not.
 """
 import contextlib
+import itertools
 import os
 import pathlib
 import re
@@ -24,6 +27,8 @@ import tempfile
 import time
 
 sys.dont_write_bytecode = True
+import edge
+import failing
 import program
 
 ROOT = pathlib.Path(__file__).resolve().parent.parent
@@ -46,6 +51,64 @@ PARTS = [
 ]
 # More scripts than a thousand: that many a run has once stopped at.
 MANY = 1_050
+# A program that replays one script, whose transcript is its second word. The first says how well.
+STAND_IN = """
+import os, sys
+how, told, kept, number = sys.argv[1], open(sys.argv[2], "rb").read().splitlines(True), b"", 0
+
+def flush():
+    global kept
+    text, kept = kept, b""
+    while text:
+        try:
+            text = text[os.write(1, text) :]
+        except OSError:
+            if how == "tries a failed write again":
+                text = text[os.write(1, text) :]
+            elif how == "passes over a failed write":
+                return
+            else:
+                os._exit(3 if how == "tells a failed write as a failed read" else 4)
+
+def tell(text):
+    global kept
+    kept += text
+    if not how.startswith("keeps back"):
+        flush()
+
+while True:
+    if how != "keeps back what it told too long":
+        flush()
+    try:
+        piece = os.read(0, 4096)
+    except OSError:
+        if how == "tries a failed read again":
+            piece = os.read(0, 4096)
+        elif how == "takes a failed read as the end":
+            break
+        else:
+            if how == "tells a last line behind a failed read":
+                tell(told[-1])
+            os._exit(4 if how == "tells a failed read as a failed write" else 3)
+    if not piece:
+        break
+    for _ in range(piece.count(10)):
+        number += 1
+        tell(b"".join(it for it in told[:-1] if it.split()[0] == b"%d" % number))
+tell(told[-1])
+flush()
+"""
+GOOD = "writes what each line tells", "keeps back what it told until it reads"
+BAD = (
+    "tries a failed read again",
+    "takes a failed read as the end",
+    "tells a last line behind a failed read",
+    "tells a failed read as a failed write",
+    "tries a failed write again",
+    "passes over a failed write",
+    "tells a failed write as a failed read",
+    "keeps back what it told too long",
+)
 # What the pages name that transcripts can reach, and how many cases the suite has at least.
 OUTCOMES = 255
 CASES_AT_LEAST = 1_800
@@ -285,9 +348,32 @@ def probes():
         yield f"memory is taken from a program that {name}", lambda: probe_of_memory(script)
 
 
+def edge_finds(how):
+    """Whether the test of the edge finds something wrong with a program."""
+    smallest = edge.example(edge.SMALLEST)
+    with tempfile.TemporaryDirectory() as folder:
+        script = pathlib.Path(folder) / "program.py"
+        script.write_text(STAND_IN, encoding="ascii")
+        transcript = ROOT / "examples" / f"{edge.SMALLEST}.transcript"
+        with failing.failing([sys.executable, "-IS", str(script), how, str(transcript)]) as it:
+            found = (edge.reads(it, smallest, 20), edge.writes(it, smallest), edge.writes_of_all(it, smallest))
+            return any(wrong for _, wrong in itertools.chain(*found))
+
+
+def edges():
+    """The test of the edge, over programs that are right and over some that aren't."""
+    if not failing.compiler():
+        print("left out: there is no C compiler here")
+        return
+    for how in GOOD:
+        yield f"the edge of a program that {how}", lambda: same(edge_finds(how), False)
+    for how in BAD:
+        yield f"the edge of a program that {how}", lambda: same(edge_finds(how), True)
+
+
 def checks():
     """All checks: each with its name and what finds out what is wrong."""
-    for group in (gate_seconds, gate, suites, probes):
+    for group in (gate_seconds, gate, suites, probes, edges):
         yield from group()
 
 
