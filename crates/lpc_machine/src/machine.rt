@@ -447,6 +447,7 @@ impl Machine {
         ensures registered { HasLivingRegistrations self.new.rows }
         ensures once { HasSingleRegistrations self.new.rows }
         ensures left { LeavesNothing self.new.rows }
+        ensures settled { settling.IsSettled self.new.rows }
         ensures err { OnErr result (Same self.old self.new) }
         ensures silent { OnErr result (out.new.list ≡ []) }
         ensures counted { OnOk result (makes_call self.old.rows (line_of line.now) ≡ true →

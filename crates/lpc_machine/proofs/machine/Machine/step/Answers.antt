@@ -58,6 +58,9 @@ returns-clause-registered c = (sound.stays_settled c.self.inside.world c.settle.
 pub returns-clause-once : goal.returns-clause-once
 returns-clause-once c = (sound.stays_settled c.self.inside.world c.settle.new.world c.args.out.now.list c.settle.new.out.list (line_of c.args.line.now) c.self.invariant c.requires.empty (took-bare (line_of c.args.line.now) c.self.inside.world c.take.new.world c.settle.new.world c.args.out.now c.take.new.out c.settle.new.out c.in_ok-take.ensures.takes c.settle.ensures.took) c.sweep.new.world c.sweep.ensures.rows c.sweep.ensures.loose).lawful.single
 
+pub returns-clause-settled : goal.returns-clause-settled
+returns-clause-settled c = (sound.stays_settled c.self.inside.world c.settle.new.world c.args.out.now.list c.settle.new.out.list (line_of c.args.line.now) c.self.invariant c.requires.empty (took-bare (line_of c.args.line.now) c.self.inside.world c.take.new.world c.settle.new.world c.args.out.now c.take.new.out c.settle.new.out c.in_ok-take.ensures.takes c.settle.ensures.took) c.sweep.new.world c.sweep.ensures.rows c.sweep.ensures.loose).lawful.settled
+
 pub returns-clause-left : goal.returns-clause-left
 returns-clause-left c = sound.leaves_nothing c.sweep.new.world (sound.stays_settled c.self.inside.world c.settle.new.world c.args.out.now.list c.settle.new.out.list (line_of c.args.line.now) c.self.invariant c.requires.empty (took-bare (line_of c.args.line.now) c.self.inside.world c.take.new.world c.settle.new.world c.args.out.now c.take.new.out c.settle.new.out c.in_ok-take.ensures.takes c.settle.ensures.took) c.sweep.new.world c.sweep.ensures.rows c.sweep.ensures.loose)
 
