@@ -1,5 +1,5 @@
 -- A thread ends only by the call that names it or its process, with the code of that call, or as its process is to end,
--- with the code of the exception that nothing handled.
+-- with the code that its row keeps.
 use Rattle.std.specs.Prelude.{◌≡◌, ◌⊎◌, ℕ, true, Contains, [], Some, Ok}
 use Rattle.std.specs.List.{AllByRecursion}
 use Rattle.lpc_base.specs.declared.status.Status.{Status}
@@ -38,7 +38,7 @@ pub record IsEndedWithOthers (w : World) (by : ℕ) (target : ProcArg) (code tid
   pub its_code : status ≡ code_status code
 
 -- A turn of settling ends the process of which the thread is a live one: no event is marked, and of the processes that are
--- to end it is the one of the least number. The code is that of the first exception of it that nothing handled.
+-- to end it is the one of the least number. The code is the one that its row keeps.
 pub record IsEndedAsDoomed (w : World) (line : ScriptLine) (tid : ℕ) (status : Status) : Type 0 where
   pub before : ℕ
   pub process : ProcessRow

@@ -1,5 +1,5 @@
--- An exception returns only where a reply continues it, or where its frame handlers handle it: where the line that raised
--- it says so, and once their chance has come.
+-- An exception returns only where a reply continues it, or where its frame handlers handle it: as its line says, where
+-- it is answered at once, or as its wait keeps, once their chance has come.
 use Rattle.std.specs.Prelude.{◌≡◌, ◌⊎◌, ℕ, true, List, ◌∷◌, Some}
 use Rattle.std.specs.List.{AllByRecursion}
 use Rattle.lpc_base.specs.declared.status.TheConstants.{DBG_CONTINUE, SUCCESS}
@@ -19,7 +19,7 @@ pub record IsHandledAtOnce (line : ScriptLine) (tid : ℕ) : Type 0 where
   pub raises : line ≡ run tid (raise code true)
 
 -- A turn of settling wakes the thread: of the marked events its one is the first. It was sent at the first chance of the
--- debug port, which is the only one before the frame handlers, and these handle the exception.
+-- debug port, which is the only one before the frame handlers, and the wait keeps that these handle the exception.
 pub record IsHandledByTurn (w : World) (line : ScriptLine) (tid : ℕ) : Type 0 where
   pub before : ℕ
   pub later : List ℕ

@@ -111,7 +111,7 @@ abbrev pub CutsShort : Option (List ℕ) → Option (List ℕ) → Option (List 
 CutsShort left left' sent sent' = Told left left' (IsCutShort sent sent')
 
 -- Wherever a line ends in what is read, and what the lines up to its end tell is more than what is sent, at most 4,096
--- bytes more are read: so no line waits for a later one to be read.
+-- bytes more are read: so what a line tells waits for no more than these.
 abbrev pub IsInTime : List ℕ → List ℕ → List ℕ → Type 0
 IsInTime read before now =
     (front later : List ℕ) → read ≡ front ++ 10 ∷ later → length now < length before + length (body (front ++ 10 ∷ [])) → length later ≤ 4096

@@ -30,17 +30,17 @@ ghost use Rattle.lpc_replay.specs.Laws.{ConnectsReturn, LinesSettle, MisfitsRefu
 /// with PORT_CONNECTION_REFUSED; or with the same status in the step that closes the last handle of the port that it
 /// is to, or, once it is accepted, of an end of its connection; or in the step that ends another process, with its
 /// last thread, where that process alone has handles to such a port; or so as the world settles behind a line, by the
-/// end of a process whose exception nothing handled. It is told what that call gives it: by a completion also where
-/// the view of what it offered lies in the server's process, and where that of what the server offered lies in its
-/// own; and no data where a port is closed. Its own call never answers success.
+/// end of such a process, which is to end. It is told what that call gives it: by a completion also where the view of
+/// what it offered lies in the server's process, and where that of what the server offered lies in its own; and no
+/// data where a port is closed. Its own call never answers success.
 ///
-/// An exception returns otherwise only with success, and only where the line that raised it says that its frame
-/// handlers handle it: at once, or as the world settles behind a line, where the event of its first chance was the
+/// An exception returns otherwise only with success: at once, where its line says that its frame handlers handle it; or
+/// as the world settles behind a line, where its wait keeps that they do, and the first chance, and its event is the
 /// first that is marked.
 ///
 /// A thread that waits before a line and doesn't behind it is woken in that line, or ends in it. It ends only by the
-/// call that names it or its process, with that call's code, or as the world settles, with the code of an exception
-/// of its process that nothing handled. Behind each line no event is marked, and no process that is to end lives.
+/// call that names it or its process, with that call's code, or as the world settles, with the code that the row of
+/// its process keeps. Behind each line no event is marked, and no process that is to end lives.
 pub fn law_completion()
     ensures returns { (script : List ℕ) → RequestsReturn script }
     ensures refused { (script : List ℕ) → MisfitsRefused script }

@@ -304,8 +304,9 @@ pub fn run_words<S: Source, K: Sink>(
     // In the script read a request returns with success only by a reply that fits it, and an exception is continued
     // only by one whose data begin with 02000100. A reply that fits no wait is refused, a refused reply changes
     // nothing, and without its line the others tell the same. A connect returns only by its answer or by a closing. An
-    // exception returns otherwise only where its frame handlers handle it. A wait ends only by a wake or with its
-    // thread, and a thread only by the call that names it or its process, or as its process is to end.
+    // exception returns otherwise only where its line says that its frame handlers handle it, or, as the world settles,
+    // where its wait keeps that. A wait ends only by a wake or with its thread, and a thread only by the call that
+    // names it or its process, or as its process is to end, with the code that its row keeps.
     ensures returns { result ≡ 0 → IfSome (S.left source.old) RequestsReturn }
     ensures refused { result ≡ 0 → IfSome (S.left source.old) MisfitsRefused }
     ensures unchanged { result ≡ 0 → IfSome (S.left source.old) RefusalsStay }
