@@ -111,7 +111,7 @@ BAD = (
 )
 # What the pages name that transcripts can reach, and how many cases the suite has at least.
 OUTCOMES = 255
-CASES_AT_LEAST = 1_800
+CASES_AT_LEAST = 2_000
 
 
 def ran(*command, **how):
