@@ -93,7 +93,7 @@ class _Mermaid(_Language):
 
 class _PlantUml(_Language):
     ARROWS = {"send": " -> ", "answer": " --> ", "end": " -[#C00000]>x "}
-    COLOURS = {"call": "#FFFFFF", "refused": "#FFE0E0", "all": "#F4F4F4", "stays": "#E8F0FF"}
+    COLOURS = {"call": "#FFFFFF", "died": "#FFFFFF", "refused": "#FFE0E0", "all": "#F4F4F4", "stays": "#E8F0FF"}
     BREAK = r"\n"
 
     def participant(self, participant):

@@ -15,7 +15,7 @@ TYPES = {
     9: "error event",
     10: "connection request",
 }
-REQUEST, PORT_CLOSED, CLIENT_DIED, CONNECTION_REQUEST = 1, 5, 6, 10
+REQUEST, DATAGRAM, PORT_CLOSED, CLIENT_DIED, CONNECTION_REQUEST = 1, 3, 5, 6, 10
 # The messages that tell of an exception, and the data of one: the code, and the chance.
 EXCEPTION, DEBUG_EVENT = 7, 8
 EVENTS = (EXCEPTION, DEBUG_EVENT)

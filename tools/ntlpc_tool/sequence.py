@@ -19,6 +19,20 @@ SENT = {
 WAITED_FOR = (message.REQUEST, message.CONNECTION_REQUEST, *message.EVENTS)
 RAISES_RETURN = {statuses.SUCCESS: "handled by its frame handlers", statuses.CONTINUED: "continued"}
 ENDS = (message.PORT_CLOSED, message.CLIENT_DIED)
+# What an arrow is, by the type of the message that it shows; that of another type is a MESSAGE.
+FORMS = {
+    message.REQUEST: "request",
+    message.DATAGRAM: "datagram",
+    message.CONNECTION_REQUEST: "connection request",
+    message.EXCEPTION: "event",
+    message.DEBUG_EVENT: "event",
+    message.PORT_CLOSED: "end",
+    message.CLIENT_DIED: "end",
+}
+MESSAGE = "message"
+# What else an arrow is: the answers for which a thread waits, and a wait that failed.
+REPLY, CONNECTION_ANSWER, EVENT_ANSWER, FAILURE = "reply", "connection answer", "event answer", "failure"
+KINDS = {REPLY: "answer", CONNECTION_ANSWER: "answer", EVENT_ANSWER: "answer", FAILURE: "end"}
 MOST_DATA = 24
 
 
@@ -32,7 +46,7 @@ class Participant:
 
 @dataclasses.dataclass(frozen=True)
 class Note:
-    """Lines of text at a thread, or over all threads where it is of none. `kind` is call, refused or all."""
+    """Lines of text at a thread, or over all threads where it is of none. `kind` is call, refused, died or all."""
 
     thread: Optional[int]
     kind: str
@@ -41,12 +55,17 @@ class Note:
 
 @dataclasses.dataclass(frozen=True)
 class Arrow:
-    """From one thread to another. `kind` is send, answer (what a thread waits for) or end (a wait that failed)."""
+    """From one thread to another. `form` tells what it is: one of FORMS, MESSAGE, or one of KINDS."""
 
     source: int
     target: int
-    kind: str
+    form: str
     text: str
+
+    @property
+    def kind(self):
+        """`send`, `answer` (what a thread waits for) or `end` (a wait that failed)."""
+        return KINDS.get(self.form, "send")
 
 
 @dataclasses.dataclass(frozen=True)
@@ -73,13 +92,14 @@ class Stays:
 
 
 class Picture:
-    """The participants, and what happens among them in its order; `script` may tell the words of each line."""
+    """The participants, and what happens among them in its order; `script` may tell the words of each line. `parts` has
+    for each line with an entry which of the events are its own; behind these stand those of the end."""
 
     def __init__(self, found, script=None):
         self.script = script
         self.processes = _processes(found, script)
         self.participants = [Participant(it, self.processes.get(it)) for it in _threads(found, self.processes)]
-        self.events = []
+        self.events, self.parts = [], {}
         self._waiting = set()
         self._asking = {}
         self._received = _received(found)
@@ -89,12 +109,13 @@ class Picture:
         steps = {}
         for entry in found.entries:
             steps.setdefault(entry.line, []).append(entry)
-        for step in steps.values():
+        for line, step in steps.items():
             self._shown_at_once = _received(transcript.Transcript(tuple(step), None))
             self._answered = any(it.kind == "wake" and it.call in (facts.ASKS, "raise") for it in step)
-            own = self._own(step)
+            own, begin = self._own(step), len(self.events)
             for entry in step:
                 _ENTRIES[entry.kind](self, entry, own)
+            self.parts[line] = self.events[begin:]
         for entry in transcript.still_waiting(found):
             self.events.append(Stays(entry.thread, f"still waits in {entry.call}, since line {entry.line}"))
         if found.closing:
@@ -113,8 +134,8 @@ class Picture:
     def _note(self, thread, kind, *lines):
         self.events.append(Note(thread, kind, lines))
 
-    def _arrow(self, source, target, kind, text):
-        self.events.append(Arrow(source, target, kind, text))
+    def _arrow(self, source, target, form, text):
+        self.events.append(Arrow(source, target, form, text))
 
     def _begin(self, thread, text):
         if thread not in self._waiting:
@@ -150,7 +171,7 @@ class Picture:
         words = self.script.words(entry.line) if self.script and entry is own else []
         told = f"died, code {statuses.code_with_name(entry.status)}"
         call = [f"{entry.line} {' '.join(map(_short, words[1:]))}"] if words else []
-        self._note(entry.thread, "call", *(call + [told] if call else [f"{entry.line} {told}"]))
+        self._note(entry.thread, "died", *(call + [told] if call else [f"{entry.line} {told}"]))
         self._end(entry.thread)
 
     def _nothread(self, entry, _):
@@ -181,13 +202,13 @@ class Picture:
         if entry.call == "NtConnectPort":
             self._connected(entry, own)
         elif entry.call == "raise" and entry.status in RAISES_RETURN:
-            self._from_own(own, entry, "answer", f"{entry.line} {RAISES_RETURN[entry.status]}")
+            self._from_own(own, entry, EVENT_ANSWER, f"{entry.line} {RAISES_RETURN[entry.status]}")
         elif entry.status != statuses.SUCCESS:
             self._ended(entry, own)
         elif not entry.message():
-            self._from_own(own, entry, "answer", f"{entry.line} {entry.call} returns")
+            self._from_own(own, entry, REPLY, f"{entry.line} {entry.call} returns")
         elif entry.call == facts.ASKS:
-            self._from_own(own, entry, "answer", f"{entry.line} {_message_text(entry.message())}")
+            self._from_own(own, entry, REPLY, f"{entry.line} {_message_text(entry.message())}")
         else:
             self._delivered(entry)
         self._end(entry.thread)
@@ -209,7 +230,8 @@ class Picture:
         told = f" context {context}" * bool(context)
         if shown.type == message.CONNECTION_REQUEST:
             self._asking[entry.thread] = shown.thread
-        self._arrow(shown.thread, entry.thread, "send", f"{entry.line} {_message_text(shown)}{told}")
+        form = FORMS.get(shown.type, MESSAGE)
+        self._arrow(shown.thread, entry.thread, form, f"{entry.line} {_message_text(shown)}{told}")
         if entry.kind == "wake" and shown.type in WAITED_FOR:
             self._begin(shown.thread, "")
 
@@ -220,7 +242,7 @@ class Picture:
         client = self._named_client(entry)
         text = f"{entry.line} accept: h={entry.field('h')}"
         if client in self.processes:
-            self._arrow(entry.thread, client, "answer", text)
+            self._arrow(entry.thread, client, CONNECTION_ANSWER, text)
         else:
             self._note(entry.thread, "call", text)
 
@@ -235,24 +257,23 @@ class Picture:
     def _connected(self, entry, own):
         """A connect returns: it was completed or refused, or a closing ended it."""
         if entry.status == statuses.SUCCESS:
-            self._from_own(
-                own, entry, "answer", f"{entry.line} connected: h={entry.field('h')} {_info_text(entry)}".rstrip()
-            )
+            told = f"{entry.line} connected: h={entry.field('h')} {_info_text(entry)}".rstrip()
+            self._from_own(own, entry, CONNECTION_ANSWER, told)
         elif own and own.call == "NtAcceptConnectPort":
-            self._from_own(own, entry, "end", f"{entry.line} refused {_info_text(entry)}".rstrip())
+            self._from_own(own, entry, FAILURE, f"{entry.line} refused {_info_text(entry)}".rstrip())
         else:
             self._ended(entry, own)
 
     def _ended(self, entry, own):
         """A wait ends with a failure."""
-        self._from_own(own, entry, "end", f"{entry.line} {entry.call} ends: {statuses.with_name(entry.status)}")
+        self._from_own(own, entry, FAILURE, f"{entry.line} {entry.call} ends: {statuses.with_name(entry.status)}")
 
-    def _from_own(self, own, entry, kind, text):
+    def _from_own(self, own, entry, form, text):
         """An arrow from the thread of the line to the one that wakes."""
         if own and own.thread is not None:
-            self._arrow(own.thread, entry.thread, kind, text)
+            self._arrow(own.thread, entry.thread, form, text)
         else:
-            self._arrow(entry.thread, entry.thread, kind, text)
+            self._arrow(entry.thread, entry.thread, form, text)
 
 
 _ENTRIES = {
