@@ -159,13 +159,19 @@ def load(path):
 
 def still_waiting(transcript):
     """The entries of the waits that nothing ended, in their order."""
-    waits = {}
+    return next(reversed(waits_by_line(transcript).values()), [])
+
+
+def waits_by_line(transcript):
+    """For each line that has an entry the entries of the waits that nothing ended up to its end, in their order."""
+    waits, found = {}, {}
     for entry in transcript.entries:
         if entry.kind == "wait":
             waits[entry.thread] = entry
         elif entry.kind in ("wake", "answer", "died"):
             waits.pop(entry.thread, None)
-    return list(waits.values())
+        found[entry.line] = list(waits.values())
+    return found
 
 
 def _text_of(line):

@@ -151,6 +151,13 @@ class Waits(unittest.TestCase):
         text = b"1 24 NtListenPort wait\n2 28 NtListenPort wait\n3 ~32 died 00000001\n3 ~24 died 00000001\n"
         self.assertEqual([it.raw for it in transcript.still_waiting(transcript.read(text))], ["2 28 NtListenPort wait"])
 
+    def test_who_waits_behind_each_line(self):
+        text = b"1 28 NtListenPort wait\n2 24 NtListenPort wait\n4 32 NtClose 00000000\n4 *28 NtListenPort c0000037\n"
+        found = transcript.waits_by_line(transcript.read(text))
+        threads = {line: [it.thread for it in waits] for line, waits in found.items()}
+        self.assertEqual(threads, {1: [28], 2: [28, 24], 4: [24]})
+        self.assertEqual(transcript.still_waiting(transcript.read(b"end 0 0 0\n")), [])
+
 
 class Examples(unittest.TestCase):
     def test_each_example_is_read(self):
