@@ -1,4 +1,5 @@
 """How the tools find the pages of the documentation, and how they read the tables in them."""
+import collections
 import gzip
 import re
 
@@ -17,6 +18,19 @@ def text_of(name):
             if (found / f"{name}.gz").is_file():
                 return gzip.decompress((found / f"{name}.gz").read_bytes()).decode("utf-8")
     raise inputs.Misuse(f"the page {name} is missing; it should be in one of {', '.join(map(str, PLACES))}")
+
+
+def anchors(text):
+    """The headings of a page, each with the name by which a link leads to it: a name that comes again is numbered."""
+    found, seen, fenced = {}, collections.Counter(), False
+    for line in text.splitlines():
+        fenced ^= line.startswith("```")
+        heading = None if fenced else re.fullmatch(r"#+\s+(.*?)\s*", line)
+        if heading:
+            name = re.sub(r"[^\w\- ]", "", heading[1].lower()).replace(" ", "-")
+            found.setdefault(heading[1], f"{name}-{seen[name]}" if seen[name] else name)
+            seen[name] += 1
+    return found
 
 
 def tables(text):
