@@ -354,20 +354,20 @@ def _of_wakes(line, wanted, got, maker, context):
             found += _of_wake(line, entry, other, maker, context)
         elif extra:
             woken = extra.pop(0)
-            says, rule = f"thread {thread} has to wake, got thread {woken.thread} in its place", _rule_of_wake(
+            says, rule = f"thread {thread} has to wake, got thread {woken.thread} in its place", rule_of_wake(
                 maker, entry, woken
             )
             found.append(Difference(line, entry, woken, says, rule, reasons.MEANS["woken"]))
         else:
-            rule = _rule_of_wake(maker, entry)
+            rule = rule_of_wake(maker, entry)
             found.append(Difference(line, entry, None, f"thread {thread} has to wake", rule, reasons.MEANS["asleep"]))
     for entry in extra:
-        says, rule = f"thread {entry.thread} must not wake", _rule_of_wake(maker, entry)
+        says, rule = f"thread {entry.thread} must not wake", rule_of_wake(maker, entry)
         found.append(Difference(line, None, entry, says, rule, reasons.MEANS["awake"]))
     return found + _of_order(line, wanted.wakes, got.wakes, maker)
 
 
-def _rule_of_wake(maker, entry, instead=None):
+def rule_of_wake(maker, entry, instead=None):
     """The rule that tells which wakes a line makes; `instead` is a wake in the place of this one."""
     shown = entry.message()
     if maker in ("NtClose", "died") and shown and shown.type in ENDS:
@@ -381,7 +381,7 @@ def _of_wake(line, wanted, got, maker, context):
         says = f"the wake of {wanted.call} is wanted, got one of {got.call}"
         return [Difference(line, wanted, got, says, reasons.rule("*", "call"), reasons.MEANS["call"])]
     if wanted.status != got.status:
-        says, rule = _statuses_say(wanted, got), _rule_of_wake(maker, wanted)
+        says, rule = _statuses_say(wanted, got), rule_of_wake(maker, wanted)
         return [Difference(line, wanted, got, says, rule, reasons.MEANS["ending"])]
     return _of_fields(line, wanted, got, context)
 
