@@ -1,0 +1,6 @@
+"""The page of HTML that steps through a script: what it tells, how that is drawn, and how both become markup.
+
+`steps` has the lines, each with its entries in words, `ruled` their rules with links into the docs, `waits` who waits
+behind each, `lanes` the picture as SVG, and `writing` puts them into page.html, with page.css and page.js. All of it
+comes from a script and its transcript.
+"""
