@@ -22,6 +22,7 @@ FIRST = support.ROOT / "examples" / "first-request.script"
 # One script of each folder of the suite.
 SUITE = [min(it.glob("*.script")) for it in sorted((support.ROOT / "conformance").iterdir()) if [*it.glob("*.script")]]
 DOCS = (support.ROOT / "docs").as_uri()
+POLICY = re.compile("<meta http-equiv=[^>]*>")
 BROWSER = next(filter(None, map(shutil.which, ("chromium", "chromium-browser", "google-chrome"))), None)
 MISCHIEF = rb"""\<script>alert(1)</script>&amp;"'<!--]]>$title</style><svg/onload=alert(2)>"""
 
@@ -450,14 +451,18 @@ class Browser(support.WithFolder):
 
     SCRIPT = support.ROOT / "examples" / "datagrams.script"
 
-    def current(self, fragment):
-        """The step that is shown: its id, its number on the slider, and the part of the drawing that is marked."""
-        page = pathlib.Path(self.file("page.html", text_of(self.SCRIPT).encode()))
+    def loaded(self, text, fragment=""):
+        """The tree that a browser makes of a page."""
+        page = pathlib.Path(self.file("page.html", text.encode()))
         flags = ["--headless", "--no-sandbox", "--disable-gpu", f"--user-data-dir={self.folder.name}/profile",
                  "--virtual-time-budget=1000", "--enable-logging=stderr", "--v=0", "--dump-dom"]
         ran = subprocess.run([BROWSER, *flags, page.as_uri() + fragment], capture_output=True, text=True, timeout=120)
         self.assertNotIn("Content Security Policy", ran.stderr)
-        dom = reading.tree(ran.stdout)
+        return reading.tree(ran.stdout)
+
+    def current(self, fragment):
+        """The step that is shown: its id, its number on the slider, and the part of the drawing that is marked."""
+        dom = self.loaded(text_of(self.SCRIPT), fragment)
         shown = [it.attributes["id"] for it in dom.all() if it.attributes.get("aria-current") == "step"]
         self.assertEqual([it.attributes["id"] for it in dom.all("article", "current")], shown)
         self.assertNotIn("hidden", dom.one("controls").attributes)
@@ -475,6 +480,40 @@ class Browser(support.WithFolder):
 
     def test_a_comment_is_followed_by_the_next_step(self):
         self.assertEqual(self.current("#line-11"), (["line-12"], "step 9 of 17: line 12", "part-12"))
+
+    # What is done to the page, and the step that has to be shown then.
+    DEEDS = (
+        ("press('ArrowRight')", "line-3"),
+        ("press('ArrowRight', {ctrlKey: true})", "line-3"),
+        ("press('ArrowLeft')", "line-2"),
+        ("press('ArrowLeft')", "line-2"),
+        ("press('End')", "end"),
+        ("click('back')", "line-21"),
+        ("click('next')", "end"),
+        ("click('next')", "end"),
+        ("click('first')", "line-2"),
+        ("click('last')", "end"),
+        ("press('Home')", "line-2"),
+        ("slide(7)", "line-9"),
+        ("document.querySelector('#part-16 text').dispatchEvent(new MouseEvent('click', {bubbles: true}))", "line-16"),
+    )
+    DOING = """
+        const at = (id) => document.getElementById(id);
+        const event = (key, more) => new KeyboardEvent('keydown', {key, bubbles: true, ...more});
+        const press = (key, more) => document.body.dispatchEvent(event(key, more));
+        const click = (id) => at(id).click();
+        const slide = (to) => { at('slider').value = to; at('slider').dispatchEvent(new Event('input')); };
+        const shown = [];
+        const then = () => shown.push(document.querySelector('[aria-current]').id + location.hash);
+    """
+
+    def test_keys_buttons_the_slider_and_the_drawing(self):
+        deeds = "".join(f"{deed}; then();\n" for deed, _ in self.DEEDS)
+        script = f"<script>{self.DOING}{deeds}document.title = shown.join(' ');</script></body>"
+        # The page's policy lets nothing else run, so it has to go for this.
+        text = POLICY.sub("", text_of(self.SCRIPT)).replace("</body>", script)
+        wanted = " ".join(f"{it}#{it}" for _, it in self.DEEDS)
+        self.assertEqual(next(self.loaded(text).all("title")).text(), wanted)
 
 
 if __name__ == "__main__":
