@@ -6,7 +6,7 @@ ghost use Rattle.lpc_script.specs.Feeding.{has_end};
 ghost use Rattle.lpc_replay.specs.declared.play.Ending.TheVariants.{Replayed, SourceFailed, Stopped};
 ghost use Rattle.lpc_replay.specs.Playing.{EndsAs, IsUnsure, Spends, StopsAs, begin, body_text, ending_of, ends_unfailing, has_not_failed, last_text, text_from, text_next};
 ghost use Rattle.lpc_replay.specs.Reading.{IsAskedForPieces};
-ghost use Rattle.lpc_replay.specs.Sending.{AddsFront};
+ghost use Rattle.lpc_replay.specs.Sending.{AddsFront, IsLeftAlone, RunsOn};
 ghost use Rattle.lpc_replay.specs.TopCall.{Begins, BreaksOff, CutsShort, IsFormed, ReadsInTime, Replays, Stops, StopsAtFault};
 
 use crate::playback::Playback;
@@ -102,6 +102,8 @@ fn play_lines<S: Source, K: Sink>(
         (text_next stop playback.new.at reader.new.line.line) (K.sure sink.old) (K.sure sink.new)) }
     ensures unsure { IsErrOf result PlayError.SinkFailed →
         IsUnsure (S.left source.old) (K.sure sink.old) }
+    ensures left_alone { IsLeftAlone (K.asked sink.old) (K.asked sink.new) }
+    ensures runs_on { OnOk result (RunsOn (K.asked sink.old) (K.asked sink.new)) }
     ensures asked { IsAskedForPieces (S.asked source.old) (S.asked source.new) }
     ensures source_failed { IfOk result (λ stop. stop ≡ Stop.SourceFailed →
         Rose (S.faults source.old) (S.faults source.new)) }
@@ -150,6 +152,8 @@ fn play_rest<K: Sink>(
         ≤ K.sure sink.new + length (text_from playback.old.at (script_lines rest.now))) }
     ensures unsure { IsErrOf result PlayError.SinkFailed →
         K.sure sink.old < length (text_from playback.old.at (script_lines rest.now)) }
+    ensures left_alone { IsLeftAlone (K.asked sink.old) (K.asked sink.new) }
+    ensures runs_on { OnOk result (RunsOn (K.asked sink.old) (K.asked sink.new)) }
 {
     if rest.is_empty() {
         return Ok(None);
@@ -182,6 +186,7 @@ fn finish<K: Sink>(
     ensures later { K.faults sink.old ≤ K.faults sink.new }
     ensures unsure { IsErrOf result PlayError.SinkFailed →
         K.sure sink.old < length (last_text playback.old.at fault) }
+    ensures left_alone { IsLeftAlone (K.asked sink.old) (K.asked sink.new) }
 {
     playback.end(fault)?;
     send_all(sink, playback.text())?;
@@ -229,6 +234,7 @@ fn play_through<S: Source, K: Sink>(
     ensures later { K.faults sink.old ≤ K.faults sink.new }
     ensures unsure { IsErrOf result PlayError.SinkFailed →
         IsUnsure (S.left source.old) (K.sure sink.old) }
+    ensures left_alone { IsLeftAlone (K.asked sink.old) (K.asked sink.new) }
     ensures asked { IsAskedForPieces (S.asked source.old) (S.asked source.new) }
     ensures source_failed { IfOk result (λ ending. ending ≡ SourceFailed →
         Rose (S.faults source.old) (S.faults source.new)) }
@@ -284,6 +290,7 @@ pub fn play<S: Source, K: Sink>(
     ensures later { K.faults sink.old ≤ K.faults sink.new }
     ensures unsure { IsErrOf result PlayError.SinkFailed →
         IsUnsure (S.left source.old) (K.sure sink.old) }
+    ensures left_alone { IsLeftAlone (K.asked sink.old) (K.asked sink.new) }
     ensures asked { IsAskedForPieces (S.asked source.old) (S.asked source.new) }
     ensures source_failed { IfOk result (λ ending. ending ≡ SourceFailed →
         Rose (S.faults source.old) (S.faults source.new)) }

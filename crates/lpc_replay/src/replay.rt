@@ -11,7 +11,7 @@ ghost use Rattle.lpc_model.specs.SoundWaits.{RunStaysSound};
 ghost use Rattle.lpc_replay.specs.Laws.{ClientsApart, ConnectsReturn, LinesSettle, MisfitsRefused, RaisesReturn, RefusalsIdle, RefusalsStay, RequestsReturn, ThreadsEnd, WaitsEnd};
 ghost use Rattle.lpc_replay.specs.Playing.{IsUnsure};
 ghost use Rattle.lpc_replay.specs.Reading.{IsAskedForPieces};
-ghost use Rattle.lpc_replay.specs.Sending.{AddsFront};
+ghost use Rattle.lpc_replay.specs.Sending.{AddsFront, IsLeftAlone};
 ghost use Rattle.lpc_replay.specs.TopCall.{Begins, BreaksOff, CutsShort, EndsAsFormed, IfSure, IsFormed, ReadsInTime, Replays, Still, Stops, StopsAtFault, StopsUnfailing, is_form, is_one_of, is_replay, storm_of as storm_in, storm_text, usage};
 
 use crate::play::{Ending, PlayError, play};
@@ -78,6 +78,7 @@ fn tell_usage<K: Sink>(sink: &mut K) -> u8
     ensures sink_still { result ≡ 64 → K.faults sink.new ≡ K.faults sink.old }
     ensures sink_later { K.faults sink.old ≤ K.faults sink.new }
     ensures sure { length usage ≤ K.sure sink.old → result ≡ 64 }
+    ensures left_alone { IsLeftAlone (K.asked sink.old) (K.asked sink.new) }
 {
     match send_all(sink, b"usage: ntlpc COMMAND [WORDS]\n") {
         Ok(()) => NO_FORM,
@@ -115,6 +116,7 @@ fn replay<S: Source, K: Sink>(alloc: Global, source: &mut S, sink: &mut K) -> u8
     ensures source_later { S.faults source.old ≤ S.faults source.new }
     ensures sink_later { K.faults sink.old ≤ K.faults sink.new }
     ensures unsure { result ≡ 4 → IsUnsure (S.left source.old) (K.sure sink.old) }
+    ensures left_alone { IsLeftAlone (K.asked sink.old) (K.asked sink.new) }
 {
     match play(alloc, source, sink) {
         Ok(Ending::Replayed) => DONE,
@@ -141,6 +143,7 @@ fn send_storm<K: Sink>(alloc: Global, count: u32, seed: u32, sink: &mut K) -> Re
     ensures later { K.faults sink.old ≤ K.faults sink.new }
     ensures sure { length (storm_text (count, seed)) ≤ K.sure sink.old →
         IsErrOf result PlayError.SinkFailed → ⊥ }
+    ensures left_alone { IsLeftAlone (K.asked sink.old) (K.asked sink.new) }
 {
     let summary = run_storm(alloc, count, seed)?;
     let mut text = Vec::new(alloc);
@@ -163,6 +166,7 @@ fn storm<K: Sink>(alloc: Global, count: u32, seed: u32, sink: &mut K) -> u8
     ensures sink_later { K.faults sink.old ≤ K.faults sink.new }
     ensures sure { length (storm_text (count, seed)) ≤ K.sure sink.old →
         is_one_of (0 ∷ 5 ∷ []) result ≡ true }
+    ensures left_alone { IsLeftAlone (K.asked sink.old) (K.asked sink.new) }
 {
     match send_storm(alloc, count, seed, sink) {
         Ok(()) => DONE,
@@ -188,8 +192,9 @@ fn storm<K: Sink>(alloc: Global, count: u32, seed: u32, sink: &mut K) -> u8
 /// Other words answer 64, send the usage line and read nothing.
 ///
 /// Whatever the status, what was sent is a front of the transcript of what was read, of the storm's line, or of the
-/// usage line: nothing else is sent, and nothing twice. What is said here of bytes that were read or sent holds of a
-/// source and a sink that tell theirs.
+/// usage line: nothing else is sent, and nothing twice. Behind a failed write the sink is asked for nothing more. What
+/// is said here of bytes that were read or sent, and of how the sink was asked, holds of a source and a sink that tell
+/// it.
 ///
 /// Where the sink's count of failures changed the status is 4, and where the source's did it isn't 0. A failure that
 /// finds the count at its last value leaves it there, so of such a one this says nothing.
@@ -270,6 +275,9 @@ pub fn run_words<S: Source, K: Sink>(
 
     // Behind its end or a failure the source is asked for nothing, and for at most 4,096 bytes at once before.
     ensures asked { IsAskedForPieces (S.asked source.old) (S.asked source.new) }
+
+    // Behind a failure the sink is asked for nothing.
+    ensures left_alone { IsLeftAlone (K.asked sink.old) (K.asked sink.new) }
 
     // A failure is answered only where it was counted, and no count falls. Where the sink counted one the status is 4,
     // and where the source did it isn't 0.

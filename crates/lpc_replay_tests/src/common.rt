@@ -14,6 +14,11 @@ fn asked_in_pieces(rt: &impl Abort, source: &MemSource) {
     assert!(rt; asked.widest <= 4096);
 }
 
+// Nothing was asked of the sink behind a failure.
+fn left_alone(rt: &impl Abort, sink: &MemSink) {
+    assert!(rt; sink.asked().late == 0);
+}
+
 /// The status and the text for words, over a source and a sink.
 pub fn runs(
     rt: &impl Abort,
@@ -32,6 +37,7 @@ pub fn runs(
     assert!(rt; answer == status);
     assert!(rt; sink.sent() == text.as_bytes());
     asked_in_pieces(rt, source);
+    left_alone(rt, sink);
     Ok(())
 }
 

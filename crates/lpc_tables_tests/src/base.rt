@@ -65,13 +65,28 @@ fn honest_source_fills_the_buffer_to_its_end(rt: HostRuntime) -> Result<(), Fail
     Ok(())
 }
 
-// Pieces of 3 bytes, of which the second call fails, into room for 4.
+// A sink tells that it may be asked on or not, that it was asked so often behind a failure, and for at most so many bytes
+// at once.
+fn was_asked(rt: &impl Abort, sink: &MemSink, running: bool, late: u64, widest: usize) {
+    let asked = sink.asked();
+    assert!(rt; asked.running == running);
+    assert!(rt; asked.late == late);
+    assert!(rt; asked.widest == widest);
+}
+
+// Pieces of 3 bytes, of which the second call fails, into room for 4. The two calls behind that one are late, also the
+// one that takes a byte.
 fn writes_until_full(rt: &impl Abort, sink: &mut MemSink) {
     assert!(rt; sink.sent().is_empty());
+    was_asked(rt, sink, true, 0, 0);
     writes(rt, sink, b"abcde", Some(3), b"abc");
+    was_asked(rt, sink, true, 0, 5);
     writes(rt, sink, b"de", None, b"abc");
+    was_asked(rt, sink, false, 0, 5);
     writes(rt, sink, b"de", Some(1), b"abcd");
+    was_asked(rt, sink, false, 1, 5);
     writes(rt, sink, b"e", None, b"abcd");
+    was_asked(rt, sink, false, 2, 5);
 }
 
 #[test]

@@ -15,6 +15,8 @@ loop-playback-init g c = record {
   asked = asked_nothing (g.S.Source.asked c.args.source.now);
   spent = rw (c.requires.begin, c.requires.unread) (spends_none (g.S.Source.left c.args.source.now) (g.K.Sink.sure c.args.sink.now));
   runs = λ r. r;
+  alone = λ r. refl;
+  sink_runs = λ r. r;
 }
 
 pub returns-in-TooLong-clause-stops : goal.returns-in-TooLong-clause-stops
@@ -173,6 +175,8 @@ loop-playback-preserved g c =
       asked = asked_then (asked c.args.source.now) (asked l.source) (asked c.next_line.new.source) v.runs v.asked c.next_line.ensures.asked;
       spent = spends_line (left c.args.source.now) (left c.next_line.new.source) (sure c.args.sink.now) (sure l.sink) (sure c.send_all.new.sink) p c.run_line.new.self.at now.line.line now.piece c.run_line.new.self.text spent c.next_line.ensures.lacks runs (rw c.text.ensures at c.in_ok-send_all.ensures.spends);
       runs = λ r. c.in-Whole.ensures.runs refl (v.runs r);
+      alone = λ r. c.in_ok-send_all.ensures.left_alone (v.sink_runs r) ∙ v.alone r;
+      sink_runs = λ r. c.in_ok-send_all.ensures.runs_on (v.sink_runs r);
     }
 
 pub returns-in_err-send_all-clause-begun : goal.returns-in_err-send_all-clause-begun

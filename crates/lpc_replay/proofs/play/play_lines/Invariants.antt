@@ -2,6 +2,7 @@ use Rattle.std.proofs.Common.{◌≡◌, ◌-◌, true}
 use Rattle.lpc_base.specs.declared.limits.TheConstants.{LINES_LIMIT}
 use Rattle.lpc_replay.specs.Playing.{HasPlayed, SpendsAt}
 use Rattle.lpc_replay.specs.Reading.{IsAskedForPieces}
+use Rattle.lpc_replay.specs.Sending.{IsLeftAlone, RunsOn}
 use Rattle.lpc_replay.proofs.play.play_lines.Given as goal
 
 -- each line that was read whole was run, and what it tells was sent
@@ -12,6 +13,8 @@ invariant-loop-playback g l = record {
   read_faults : g.S.Source.faults l.source ≡ g.S.Source.faults l.fn.source;
   asked : IsAskedForPieces (g.S.Source.asked l.fn.source) (g.S.Source.asked l.source);
   spent : SpendsAt (g.S.Source.left l.fn.source) (g.S.Source.left l.source) (g.K.Sink.sure l.fn.sink) (g.K.Sink.sure l.sink) l.playback.at l.reader.piece;
+  alone : IsLeftAlone (g.K.Sink.asked l.fn.sink) (g.K.Sink.asked l.sink);
+  sink_runs : RunsOn (g.K.Sink.asked l.fn.sink) (g.K.Sink.asked l.sink);
   runs : (g.S.Source.asked l.fn.source).running ≡ true → (g.S.Source.asked l.source).running ≡ true;
 }
 
