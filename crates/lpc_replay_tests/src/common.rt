@@ -94,6 +94,19 @@ pub fn replayed(
     answered(rt, alloc, &["replay"], script.as_bytes(), status, text)
 }
 
+/// The same for a script without a fault, which is read a byte at a time too.
+pub fn replayed_in_pieces(
+    rt: &impl Abort,
+    alloc: Global,
+    script: &str,
+    text: &str,
+) -> Result<(), Fail> {
+    replayed(rt, alloc, script, 0, text)?;
+    let mut source = source(alloc, script.as_bytes(), 1, &[])?;
+    let mut sink = sink(alloc, 4096, &[])?;
+    runs(rt, alloc, &["replay"], &mut source, &mut sink, 0, text)
+}
+
 /// The same for a script without a fault, where `~` stands for a part so many times, in the script and in the text.
 pub fn replayed_with(
     rt: &impl Abort,

@@ -1,12 +1,12 @@
 // Connections through whole scripts: from a named port to requests on two pairs. The transcripts are written out by
 // hand.
-use crate::common::{replayed, replayed_with};
+use crate::common::{replayed, replayed_in_pieces, replayed_with};
 use std::test::Fail;
 
 // Two clients connect, ask, and are answered in the other order.
 #[test]
 fn two_connections_carry_their_own_requests(rt: HostRuntime) -> Result<(), Fail> {
-    replayed(
+    replayed_in_pieces(
         &rt,
         rt.alloc(),
         "dir \\Windows\n\
@@ -28,7 +28,6 @@ fn two_connections_carry_their_own_requests(rt: HostRuntime) -> Result<(), Fail>
          24 NtReplyWaitReceivePort 4\n\
          24 NtReplyPort 4 r:40.44.2:42\n\
          24 NtReplyPort 4 r:32.36.2:41\n",
-        0,
         "1 - dir 00000000\n\
          2 - boot 00000000\n\
          3 - boot 00000000\n\
