@@ -171,9 +171,10 @@ pub fn law_messages_are_accounted_for()
 /// Waits are sound, ports linked, objects held, queues open; what rows name stands; of an open port
 /// no message tells that it is closed, and each client port keeps a connect of its maker. A thread
 /// has one row, an ended one has no registrations, and no port is registered twice with one. Only
-/// living processes have handles and views, and a connection has one open end at least. Views lie in
-/// their sections, and apart. A client port allows its server something, and the other end of a
-/// server port is a client port. No event is marked, and no process that is to end lives. What the calls that close and end ask of the rows is part of it.
+/// living processes have handles, views and ports that are told of their exceptions, and a connection
+/// has one open end at least. Views lie in their sections, and apart. A client port allows its server
+/// something, and the other end of a server port is a client port. No event is marked, and no process
+/// that is to end lives. What the calls that close and end ask of the rows is part of it.
 pub fn law_lawful_worlds()
     ensures first { IsLawfulWorld no_rows }
     ensures steps { StepsKeepLaws }
