@@ -2,7 +2,6 @@ pub mod Counts
 pub mod Events
 pub mod Few
 pub mod Keeping
-pub mod Lookups
 pub mod Placed
 pub mod ProcessRows
 pub mod Stored

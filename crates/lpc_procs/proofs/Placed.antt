@@ -13,9 +13,9 @@ use Rattle.lpc_procs.specs.declared.rows.Counted.{Counted}
 use Rattle.lpc_procs.specs.declared.rows.ThreadRow.{ThreadRow}
 use Rattle.lpc_procs.specs.Callers.{caller_of}
 use Rattle.lpc_procs.specs.Kept.{are_single, has_number, is_counted, process_name, process_rows, thread_name, used_rows}
-use Rattle.lpc_procs.specs.Numbered.{is_at, numbers, value_at}
+use Rattle.lpc_numbers.specs.Numbered.{is_at, numbers, value_at}
 use Rattle.lpc_procs.specs.Procs.{ended, is_live_thread, is_process, is_thread, is_used_thread, lives_in, used_process}
-use Rattle.lpc_procs.proofs.Lookups.{position-map}
+use Rattle.lpc_numbers.proofs.Lookups.{position-map}
 
 none-has : {X : Type 0} (p : X → Bool) (xs : List X) → has p xs ≡ false → first p xs ≡ None
 none-has p [] none = refl

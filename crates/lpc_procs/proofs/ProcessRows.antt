@@ -13,7 +13,7 @@ use Rattle.lpc_procs.specs.declared.rows.ThreadRow.{ThreadRow}
 use Rattle.lpc_procs.specs.declared.rows.UsedThread.{UsedThread}
 use Rattle.lpc_procs.specs.Kept.{AreKept, has_number, is_counted, is_low, is_used_row, process_name, process_rows}
 use Rattle.lpc_procs.specs.Procs.{is_process, lives_in}
-use Rattle.lpc_procs.proofs.Lookups.{position-map}
+use Rattle.lpc_numbers.proofs.Lookups.{position-map}
 
 abbrev number : Counted → ℕ
 number p = p.row.number

@@ -1,4 +1,3 @@
 pub mod Callers
 pub mod Kept
-pub mod Numbered
 pub mod Procs

@@ -5,7 +5,6 @@
 mod births;
 mod exceptions;
 mod lists;
-mod numbered;
 mod procs;
 mod registrations;
 mod rows;

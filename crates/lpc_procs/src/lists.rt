@@ -6,11 +6,11 @@ ghost use Rattle.lpc_procs.specs.Kept.{are_apart, counting, has_number, is_doome
 ghost use Rattle.lpc_procs.specs.Procs as procs;
 ghost use Rattle.lpc_procs.specs.Procs.{is_live_client, lives_in};
 
-use crate::numbered::Numbered;
 use crate::rows::Counted;
 use crate::{Caller, ThreadRow, exceptions};
 use lpc_base::Birth;
 use lpc_message::ClientId;
+use lpc_numbers::Numbered;
 
 /// How many live threads are of the process.
 pub fn live_in(threads: &[ThreadRow], pid: u32) -> usize

@@ -8,7 +8,6 @@ ghost use Rattle.lpc_procs.specs.Callers.{caller_of};
 ghost use Rattle.lpc_procs.specs.Procs as procs;
 ghost use Rattle.lpc_procs.specs.Procs.{HasIdentifierLeft, HasOrdinalLeft, HasRegistrationLeft, IsNumber, acting, all_registrations, birth_of, debugged, doomed, ended, event_ports, excepted, first_process, first_thread, first_untold, has_event_port, has_registered, is_life, is_live_child, is_live_client, is_live_thread, is_of_birth, is_process, is_process_born, is_thread, least_doomed, live_registrations, lives_by, lives_in, most_rows, nothing, past_birth, past_identifier, portless, process_at, process_life, registering, registration, thread_at, thread_born, thread_life, unregistering, used_process, with_process, with_room, with_thread, without_process_born, without_thread_born};
 
-use crate::numbered::Numbered;
 use crate::rows::Counted;
 use crate::{
     BornThread, Caller, Doomed, Life, Number, ProcessRow, Registration, ThreadRow, UsedThread,
@@ -17,6 +16,7 @@ use crate::{
 use arrayvec::ArrayVec;
 use lpc_base::{Birth, OutOfMemory, reserve_rows};
 use lpc_message::ClientId;
+use lpc_numbers::Numbered;
 use lpc_sid::Token;
 use lpc_slots::Key;
 use lpc_tokens::Impersonation;
@@ -45,7 +45,7 @@ impl Model for Procs {
     ghost use Rattle.std.specs.Prelude.{◌-◌, min, vec_len, vec_capacity};
     ghost use Rattle.lpc_procs.specs.Procs.{Table};
     ghost use Rattle.lpc_procs.specs.Kept.{IsStored, process_rows, used_rows};
-    ghost use Rattle.lpc_procs.specs.Numbered.{numbers};
+    ghost use Rattle.lpc_numbers.specs.Numbered.{numbers};
 
     ghost Value = { Table };
 

@@ -3,7 +3,7 @@ use Rattle.lpc_base.proofs.RowMaps.{push-map}
 use Rattle.lpc_base.proofs.RowWords.{count-push}
 use Rattle.lpc_procs.specs.declared.rows.ProcessRow.{ProcessRow}
 use Rattle.lpc_procs.specs.Kept.{has_number, is_doomed_row, process_name, used_rows}
-use Rattle.lpc_procs.specs.Numbered.{numbers}
+use Rattle.lpc_numbers.specs.Numbered.{numbers}
 use Rattle.lpc_procs.proofs.Placed.{names-new, numbers-has}
 use Rattle.lpc_procs.proofs.Stored.{kept-process, process-unused}
 use Rattle.lpc_procs.proofs.procs.Procs.add_process.Goals as goal

@@ -3,7 +3,7 @@ use Rattle.lpc_base.proofs.RowMaps.{push-map}
 use Rattle.lpc_base.proofs.RowWords.{count-bound}
 use Rattle.lpc_procs.specs.declared.rows.ThreadRow.{ThreadRow}
 use Rattle.lpc_procs.specs.Kept.{thread_name, used_rows}
-use Rattle.lpc_procs.specs.Numbered.{numbers}
+use Rattle.lpc_numbers.specs.Numbered.{numbers}
 use Rattle.lpc_procs.specs.Procs.{is_thread, lives_in}
 use Rattle.lpc_procs.proofs.Keeping.{unused-absent}
 use Rattle.lpc_procs.proofs.Placed.{names-new, used-has}

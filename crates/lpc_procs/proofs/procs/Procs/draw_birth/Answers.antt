@@ -3,7 +3,7 @@ use Rattle.lpc_procs.specs.Procs.{HasOrdinalLeft, past_birth}
 use Rattle.lpc_procs.proofs.Keeping.{changed_at, row_is}
 use Rattle.lpc_procs.proofs.Stored.{kept-set}
 use Rattle.lpc_procs.specs.Kept.{used_rows}
-use Rattle.lpc_procs.specs.Numbered.{numbers}
+use Rattle.lpc_numbers.specs.Numbered.{numbers}
 use Rattle.lpc_procs.proofs.procs.Procs.draw_birth.Goals as goal
 
 pub overflow_add-row : goal.overflow_add-row

@@ -2,7 +2,7 @@ use Rattle.std.proofs.Common.{refl}
 use Rattle.lpc_procs.proofs.Counts.{rows-less}
 use Rattle.lpc_procs.proofs.Stored.{kept-processes_left}
 use Rattle.lpc_procs.specs.Kept.{used_rows}
-use Rattle.lpc_procs.specs.Numbered.{numbers}
+use Rattle.lpc_numbers.specs.Numbered.{numbers}
 use Rattle.lpc_procs.proofs.procs.Procs.free_process_born.Goals as goal
 
 pub invariant_of-self : goal.invariant_of-self

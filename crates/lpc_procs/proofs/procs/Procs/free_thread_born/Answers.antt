@@ -1,6 +1,6 @@
 use Rattle.std.proofs.Common.{arith}
 use Rattle.lpc_procs.specs.Kept.{used_rows}
-use Rattle.lpc_procs.specs.Numbered.{numbers}
+use Rattle.lpc_numbers.specs.Numbered.{numbers}
 use Rattle.lpc_procs.specs.Procs.{is_thread_born}
 use Rattle.lpc_procs.proofs.Stored.{kept-threads_left, threads-few, without-fewer}
 use Rattle.lpc_procs.proofs.procs.Procs.free_thread_born.Goals as goal

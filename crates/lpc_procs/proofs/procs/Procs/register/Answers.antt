@@ -3,7 +3,7 @@ use Rattle.lpc_procs.specs.Procs.{HasRegistrationLeft, registering, registration
 use Rattle.lpc_procs.proofs.Keeping.{changed_at, registered-as, row_is}
 use Rattle.lpc_procs.proofs.Stored.{kept-set, registered-few, registered-more, registers-one}
 use Rattle.lpc_procs.specs.Kept.{used_rows}
-use Rattle.lpc_procs.specs.Numbered.{numbers}
+use Rattle.lpc_numbers.specs.Numbered.{numbers}
 use Rattle.lpc_procs.proofs.procs.Procs.register.Goals as goal
 
 pub push-requires : goal.push-requires

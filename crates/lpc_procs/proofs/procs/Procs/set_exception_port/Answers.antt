@@ -1,6 +1,6 @@
 use Rattle.std.proofs.Common.{refl, sym, ◌∙◌}
 use Rattle.lpc_procs.specs.Kept.{is_doomed_row, used_rows}
-use Rattle.lpc_procs.specs.Numbered.{numbers}
+use Rattle.lpc_numbers.specs.Numbered.{numbers}
 use Rattle.lpc_procs.specs.Procs.{excepted, registration}
 use Rattle.lpc_procs.proofs.Counts.{count-set}
 use Rattle.lpc_procs.proofs.ProcessRows.{kept-row, process_is, row-changed}

@@ -1,6 +1,6 @@
 use Rattle.std.proofs.Common.{◌-◌, refl, sym, arith}
 use Rattle.lpc_procs.specs.Kept.{used_rows}
-use Rattle.lpc_procs.specs.Numbered.{numbers}
+use Rattle.lpc_numbers.specs.Numbered.{numbers}
 use Rattle.lpc_procs.specs.Procs.{is_of_birth, unregistering}
 use Rattle.lpc_procs.proofs.Keeping.{changed_at, registered-as, row_is}
 use Rattle.lpc_procs.proofs.Stored.{kept-set, registered-at, registered-less, without-fewer}

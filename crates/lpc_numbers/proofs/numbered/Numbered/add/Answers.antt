@@ -1,7 +1,7 @@
 use Rattle.std.proofs.Common.{◌∙◌, nat_eq}
 use Rattle.indexmap.proofs.CallerLemmas.{insert_entry-new}
-use Rattle.lpc_procs.proofs.Lookups.{absent}
-use Rattle.lpc_procs.proofs.numbered.Numbered.add.Goals as goal
+use Rattle.lpc_numbers.proofs.Lookups.{absent}
+use Rattle.lpc_numbers.proofs.numbered.Numbered.add.Goals as goal
 
 pub returns-clause-entries : goal.returns-clause-entries
 returns-clause-entries g c =

@@ -1,10 +1,10 @@
-// Values under numbers that differ, found by their number without a search.
+// Values under numbers that differ.
 ghost use Rattle.std.specs.Prelude.{◌≡◌, ◌-◌, ◌<◌, ◌≤◌, ◌++◌, ◌∷◌, [], true, false, length, not, OnErr, OnOk};
 ghost use Rattle.std.specs.List.{position};
 ghost use Rattle.lpc_base.specs.Births.{same_birth};
 ghost use Rattle.lpc_base.specs.Room.{grown_room};
 ghost use Rattle.lpc_base.specs.Rows.{has, without};
-ghost use Rattle.lpc_procs.specs.Numbered.{is_at, value_at};
+ghost use Rattle.lpc_numbers.specs.Numbered.{is_at, value_at};
 
 use indexmap::IndexMap;
 use lpc_base::{Birth, OutOfMemory};
@@ -22,7 +22,7 @@ pub struct Numbered<V: Copy> {
 impl<V: Copy> Model for Numbered<V> {
     ghost use Rattle.std.specs.Prelude.{◌≤◌};
     ghost use Rattle.indexmap.specs.IndexMap.{spare};
-    ghost use Rattle.lpc_procs.specs.Numbered.{Numbered};
+    ghost use Rattle.lpc_numbers.specs.Numbered.{Numbered};
 
     ghost Value = { Numbered V };
 

@@ -5,7 +5,7 @@ use Rattle.std.specs.Map.{keys_of, lookup}
 use Rattle.std.proofs.lemmas.Iterator.Adapters.{position_from-zero}
 use Rattle.lpc_base.specs.Rows.{has}
 use Rattle.lpc_base.proofs.Bools.{number-turned}
-use Rattle.lpc_procs.specs.Numbered.{is_at, value_at}
+use Rattle.lpc_numbers.specs.Numbered.{is_at, value_at}
 
 -- where the first that passes stands, among rows that are shown by a map
 module _ {X Y : Type 0} (g : X → Y) (s : Y → Bool) (t : X → Bool) (same : (x : X) → s (g x) ≡ t x) where

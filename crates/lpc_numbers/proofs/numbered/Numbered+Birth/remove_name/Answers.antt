@@ -1,7 +1,7 @@
 use Rattle.std.proofs.Common.{not, rules}
 use Rattle.lpc_base.specs.Births.{same_birth}
 use Rattle.indexmap.proofs.CallerLemmas.{filter-RetainsPairs}
-use Rattle.lpc_procs.proofs.numbered.Numbered+Birth.remove_name.Goals as goal
+use Rattle.lpc_numbers.proofs.numbered.Numbered+Birth.remove_name.Goals as goal
 
 pub returns-clause-entries : goal.returns-clause-entries
 returns-clause-entries c =
