@@ -116,6 +116,13 @@ impl<O: Copy> Table<O> {
         self.rows.len()
     }
 
+    /// How many further handles there is room for.
+    pub fn spare(&self) -> usize
+        ensures { result ≡ self.now.spare }
+    {
+        self.rows.capacity() - self.rows.len()
+    }
+
     /// Takes the handle with a value away, and answers what it named and granted; None exactly where no handle has the
     /// value, and then nothing changes.
     pub fn close(&mut self, value: u32) -> Option<Row<O>>

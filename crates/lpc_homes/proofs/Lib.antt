@@ -1,3 +1,5 @@
+pub mod Counted
+pub mod Keyed
 pub mod OnePart
 pub mod Named
 pub mod Walked

@@ -15,7 +15,7 @@ use Rattle.lpc_views.specs.declared.view.View.{View}
 use Rattle.lpc_homes.specs.contracts.object.ObjectPartialEq.TheImpl as the_impl
 
 -- an object is compared with another
-is_same : (object other : Object) → the_impl.eq-value.it other object ≡ is_object object other
+pub is_same : (object other : Object) → the_impl.eq-value.it other object ≡ is_object object other
 is_same (kinds.Port a) (kinds.Port b) = search rules
 is_same (kinds.Port a) (kinds.Process b) = search rules
 is_same (kinds.Port a) (kinds.Thread b) = search rules

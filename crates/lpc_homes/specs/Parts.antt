@@ -172,3 +172,13 @@ has_view_with port part = has (goes_with port) part.views.views
 -- a process has fewer views than it may have
 abbrev pub HasFewViews : List Part → ℕ → Type 0
 HasFewViews parts pid = length (views_at parts pid) < VIEW_LIMIT
+
+-- The table
+-- the parts in the order in which they were made, and how many more go in without memory
+pub record PartTable : Type 0 where
+  pub items : List Part
+  pub room : ℕ
+
+-- a part without handles and views
+abbrev pub new_part : ℕ → Part
+new_part pid = record { process = pid; handles = record { rows = []; spare = 0 }; views = record { views = []; spare = 0 } }

@@ -1,8 +1,10 @@
 //! The home of each process: the part of the world that is its own, its handles and its views.
 #![tactic(auto)]
 
+mod counts;
 mod object;
-pub mod parts;
-pub mod views;
+mod parts;
+mod views;
 
 pub use object::Object;
+pub use parts::{Part, Parts};

@@ -1,13 +1,11 @@
 // The views that go with ports, in one space and in those of all processes, with ample memory.
-ghost use Rattle.std.specs.Prelude.{◌≡◌, ◌+◌, ◌≤◌, ◌<◌, IfOk, IsSome, true, vec_len};
+ghost use Rattle.std.specs.Prelude.{◌≡◌, ◌+◌, ◌≤◌, ◌<◌, IfOk, IsSome, true, length};
 ghost use Rattle.lpc_base.specs.Rows.{has};
 ghost use Rattle.lpc_homes.specs.Parts.{are_single_parts, is_part};
 ghost use Rattle.lpc_slots.specs.Table.{at};
 
 use lpc_base::Birth;
-use lpc_handles::Table;
-use lpc_homes::parts::Part;
-use lpc_homes::views;
+use lpc_homes::Parts;
 use lpc_sections::Section;
 use lpc_slots::{Key, Slots};
 use lpc_views::Space;
@@ -76,54 +74,45 @@ fn views_go_with_their_port(rt: HostRuntime) -> Result<(), Fail> {
     Ok(())
 }
 
-// A space with one view, which goes with port 3.
-fn space_of_port(rt: &impl Abort, alloc: Global) -> Result<Space<Key>, Fail> {
-    let (sections, key) = one_section(rt, alloc)?;
-    let mut space = Space::new(alloc);
-    space.reserve(1)?;
-    let _ = space.map(&sections, key, 0, 0, true, Some(port(3)));
-    Ok(space)
-}
-
-// Process 2 alone, with these views.
-fn one_part(alloc: Global, views: Space<Key>) -> Result<Vec<Part>, Fail>
+// The part of process 2 alone, with one view, which goes with port 3.
+fn one_part(rt: &impl Abort, alloc: Global) -> Result<Parts, Fail>
     ensures one { IfOk result (λ parts. are_single_parts parts.items ≡ true) }
     ensures part { IfOk result (λ parts. has (is_part 2) parts.items ≡ true) }
-    ensures few { IfOk result (λ parts. vec_len parts ≤ 1) }
+    ensures few { IfOk result (λ parts. length parts.items ≤ 1) }
 {
-    let mut parts = Vec::new(alloc);
-    parts.push(Part {
-        process: 2,
-        handles: Table::new(alloc),
-        views,
-    })?;
+    let (sections, key) = one_section(rt, alloc)?;
+    let mut parts = Parts::new(alloc);
+    parts.reserve(1)?;
+    parts.add(2);
+    parts.reserve_views(2, 1)?;
+    let _ = parts.map_view(2, &sections, key, 0, 0, true, Some(port(3)));
     Ok(parts)
 }
 
 // So many views of all processes go with port 3, and none with port 4.
-fn all_own(rt: &impl Abort, parts: &Vec<Part>, count: usize)
-    requires { vec_len parts.now ≤ 1 }
+fn all_own(rt: &impl Abort, parts: &Parts, count: usize)
+    requires { length parts.now.items ≤ 1 }
 {
-    assert!(rt; views::owned_views(parts, port(3)) == count);
-    assert!(rt; views::is_owner(parts, port(3)) == (count > 0));
-    assert!(rt; views::owned_views(parts, port(4)) == 0 && !views::is_owner(parts, port(4)));
+    assert!(rt; parts.owned_views(port(3)) == count);
+    assert!(rt; parts.is_owner(port(3)) == (count > 0));
+    assert!(rt; parts.owned_views(port(4)) == 0 && !parts.is_owner(port(4)));
 }
 
 #[test]
 fn views_of_a_process_go_with_their_port(rt: HostRuntime) -> Result<(), Fail> {
-    let mut parts = one_part(rt.alloc(), space_of_port(&rt, rt.alloc())?)?;
+    let mut parts = one_part(&rt, rt.alloc())?;
     all_own(&rt, &parts, 1);
-    views::drop_owned(&mut parts, 2, port(3));
+    parts.drop_owned(2, port(3));
     all_own(&rt, &parts, 0);
     Ok(())
 }
 
 #[test]
 fn views_of_all_processes_go_with_their_port(rt: HostRuntime) -> Result<(), Fail> {
-    let mut parts = one_part(rt.alloc(), space_of_port(&rt, rt.alloc())?)?;
-    views::drop_owned_views(&mut parts, port(4));
+    let mut parts = one_part(&rt, rt.alloc())?;
+    parts.drop_owned_views(port(4));
     all_own(&rt, &parts, 1);
-    views::drop_owned_views(&mut parts, port(3));
+    parts.drop_owned_views(port(3));
     all_own(&rt, &parts, 0);
     Ok(())
 }

@@ -41,10 +41,9 @@ mod tokens;
 mod views;
 
 use crate::marks::Marks;
-use lpc_base::{Birth, OutOfMemory, PortKind, reserve_rows};
-use lpc_handles::{Table, TableFault};
-use lpc_homes::Object;
-use lpc_homes::parts::{self, Part};
+use lpc_base::{Birth, OutOfMemory, PortKind};
+use lpc_handles::TableFault;
+use lpc_homes::{Object, Parts};
 use lpc_names::Names;
 use lpc_ports::{Creator, Message, Ports};
 use lpc_procs::Procs;
@@ -52,7 +51,6 @@ use lpc_sections::Section;
 use lpc_sid::Token;
 use lpc_slots::{Key, Slots};
 use lpc_tokens::{TokenNames, TokenRow};
-use lpc_views::Space;
 use lpc_waits::{Wait, Waits};
 use std::alloc::Global;
 use std::marker::Model;
@@ -64,7 +62,7 @@ use std::marker::Model;
 /// directive and service calls were made, and how many more rows go in without memory.
 pub struct World {
     procs: Procs,
-    parts: Vec<Part>,
+    parts: Parts,
     ports: Ports,
     waits: Waits,
     names: Names<Key>,
@@ -79,14 +77,13 @@ pub struct World {
 }
 
 impl Model for World {
-    ghost use Rattle.std.specs.Prelude.{◌-◌, vec_len, vec_capacity};
     ghost use Rattle.lpc_rows.specs.Kept.{Kept, kept_by};
     ghost use Rattle.lpc_rows.specs.Lawful.{AreLawful};
     ghost use Rattle.lpc_rows.specs.Shown.{tables_of};
 
     ghost Value = { Kept };
 
-    ghost view = { λ w. kept_by (tables_of w.procs w.parts.items w.ports w.waits w.names w.sections w.tokens w.token_names w.marks) (vec_capacity w.parts - vec_len w.parts) w.calls w.made w.loose };
+    ghost view = { λ w. kept_by (tables_of w.procs w.parts.items w.ports w.waits w.names w.sections w.tokens w.token_names w.marks) w.parts.room w.calls w.made w.loose };
 
     ghost invariant = { λ w. AreLawful (tables_of w.procs w.parts.items w.ports w.waits w.names w.sections w.tokens w.token_names w.marks) w.calls w.made };
 }
@@ -126,7 +123,7 @@ impl World {
     {
         World {
             procs: Procs::new(alloc),
-            parts: Vec::new(alloc),
+            parts: Parts::new(alloc),
             ports: Ports::new(alloc),
             waits: Waits::new(alloc),
             names: Names::new(alloc),
@@ -224,11 +221,7 @@ impl World {
     {
         self.made += 1;
         self.procs.add_process(pid, maker, birth, token);
-        self.parts.push_reserved(Part {
-            process: pid,
-            handles: Table::new(self.alloc),
-            views: Space::new(self.alloc),
-        });
+        self.parts.add(pid);
     }
 
     /// Adds a live thread to a process that stands; it has drawn nothing yet. Its number is from 1 to 2,147,483,647 and
@@ -488,7 +481,7 @@ impl World {
         ensures places { handle_room self.old.room pid ≤ handle_room self.new.room pid + 1 }
         ensures capacity { self.new.capacity ≡ self.old.capacity }
     {
-        parts::add_handle(&mut self.parts, pid, object, access)
+        self.parts.add_handle(pid, object, access)
     }
 
     // Room.
@@ -522,7 +515,7 @@ impl World {
             new.threads ≤ grown_threads self.old threads }
     {
         self.procs.reserve(processes, threads)?;
-        reserve_rows(&mut self.parts, processes)
+        self.parts.reserve(processes)
     }
 
     /// Makes room for so many further ports.
@@ -631,6 +624,6 @@ impl World {
         ensures other_places { KeepsOtherPlaces pid self.old.capacity self.new.capacity }
     {
         let places = self.waits.connects_of(pid) + more as usize;
-        parts::reserve_handles(&mut self.parts, pid, places)
+        self.parts.reserve_handles(pid, places)
     }
 }

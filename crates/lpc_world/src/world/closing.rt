@@ -14,7 +14,7 @@ ghost use Rattle.lpc_rows.specs.Shown.{object_stands};
 ghost use Rattle.lpc_rows.specs.Clauses.{after, birth_at, name_at};
 
 use crate::world::World;
-use lpc_homes::{Object, parts, views};
+use lpc_homes::Object;
 use lpc_slots::Key;
 
 impl World {
@@ -67,7 +67,7 @@ impl World {
         ensures capacity { self.new.capacity ≡ self.old.capacity }
     {
         self.loose = true;
-        parts::close_handle(&mut self.parts, pid, value);
+        self.parts.close_handle(pid, value);
     }
 
     /// A handle names an object.
@@ -75,7 +75,7 @@ impl World {
         requires { object_stands self.now.births object ≡ true }
         ensures { result ≡ has_handles self.now.rows (name_at self.now object) }
     {
-        parts::names(&self.parts, object)
+        self.parts.names(object)
     }
 
     /// How many handles of all processes name an object.
@@ -83,7 +83,7 @@ impl World {
         requires { object_stands self.now.births object ≡ true }
         ensures { result ≡ handle_count self.now.rows (name_at self.now object) }
     {
-        parts::handles_to(&self.parts, object)
+        self.parts.handles_to(object)
     }
 
     /// How many rows count for an object, its handles among them.
@@ -91,7 +91,7 @@ impl World {
         requires { object_stands self.now.births object ≡ true }
         ensures { result ≡ pointer_count self.now.rows (name_at self.now object) }
     {
-        parts::handles_to(&self.parts, object) + self.holders_of(object)
+        self.parts.handles_to(object) + self.holders_of(object)
     }
 
     /// How many rows but handles count for an object: for a token none.
@@ -137,7 +137,7 @@ impl World {
         ensures holders { result ≡ holders self.now.rows kind.Port (birth_at self.now port) }
         ensures few { result ≤ (VIEW_LIMIT + 7) * self.now.made }
     {
-        self.rows_at_port(port) + views::owned_views(&self.parts, port) + self.event_ports_to(port)
+        self.rows_at_port(port) + self.parts.owned_views(port) + self.event_ports_to(port)
     }
 
     /// How many of these are neither views nor processes.

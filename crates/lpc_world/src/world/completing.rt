@@ -8,7 +8,7 @@ ghost use Rattle.lpc_rows.specs.Shown.{object_stands};
 ghost use Rattle.lpc_rows.specs.Clauses.{finished};
 
 use crate::world::World;
-use lpc_homes::{Object, parts};
+use lpc_homes::Object;
 
 impl World {
     /// Gives the process of a thread that waits in a connect the least free handle, which was promised to it, and ends
@@ -31,7 +31,7 @@ impl World {
         ensures capacity { self.new.capacity ≡ self.old.capacity }
     {
         let wait = self.waiting(tid);
-        match parts::add_handle(&mut self.parts, wait.process, object, access) {
+        match self.parts.add_handle(wait.process, object, access) {
             Ok(value) => {
                 self.loose = true;
                 self.marks.remove(tid);

@@ -14,7 +14,6 @@ ghost use Rattle.lpc_rows.specs.Shown.{birth_of, shown_acceptance, shown_offer};
 use crate::world::World;
 use lpc_base::status::OBJECT_TYPE_MISMATCH;
 use lpc_base::{Status, held};
-use lpc_homes::parts;
 use lpc_names::{Found, status_of};
 use lpc_slots::Key;
 use lpc_waits::{Accepted, Offer, WaitKind};
@@ -50,7 +49,7 @@ impl World {
         requires port { stands self.now.births.ports port ≡ true }
         ensures { result ≡ connect.reaches self.now.rows pid (birth_at self.now port) }
     {
-        parts::reaches_port(&self.parts, pid, port)
+        self.parts.reaches_port(pid, port)
     }
 
     /// What the connect of a thread was accepted with.

@@ -10,7 +10,7 @@ ghost use Rattle.lpc_rows.specs.Clauses.{after, birth_at};
 
 use crate::world::World;
 use lpc_base::Birth;
-use lpc_homes::{Object, parts, views};
+use lpc_homes::Object;
 use lpc_slots::Key;
 
 impl World {
@@ -19,7 +19,7 @@ impl World {
         requires { stands self.now.births.ports port ≡ true }
         ensures { result ≡ held.is_named_by_row self.now.rows (birth_at self.now port) }
     {
-        parts::names(&self.parts, Object::Port(port))
+        self.parts.names(Object::Port(port))
             || self.ports.is_named(port)
             || self.waits.is_named(port)
             || self.names.has_name(port)
@@ -38,7 +38,7 @@ impl World {
         requires { stands self.now.births.ports port ≡ true }
         ensures { result ≡ held.is_owner self.now.rows (birth_at self.now port) }
     {
-        views::is_owner(&self.parts, port)
+        self.parts.is_owner(port)
     }
 
     /// The port is told of the exceptions of a process.

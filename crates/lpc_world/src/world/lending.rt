@@ -13,7 +13,7 @@ ghost use Rattle.lpc_slots.specs.Table.{listed};
 
 use crate::world::World;
 use lpc_handles::Table;
-use lpc_homes::{Object, parts};
+use lpc_homes::Object;
 use lpc_names::Names;
 use lpc_ports::Ports;
 use lpc_procs::Procs;
@@ -92,6 +92,6 @@ impl World {
             ≡ shown_in self.now shown_handle result.now.rows }
         ensures load { handle_load self.now.rows pid ≤ HANDLE_LIMIT }
     {
-        parts::handles_of(&self.parts, pid)
+        self.parts.handles_of(pid)
     }
 }

@@ -15,7 +15,7 @@ ghost use Rattle.lpc_rows.specs.Clauses.{Finds, FindsWait, IsOwnWait, birth_at, 
 
 use crate::world::World;
 use lpc_handles::Row;
-use lpc_homes::{Object, parts};
+use lpc_homes::Object;
 use lpc_ports::Port;
 use lpc_procs::{Caller, Number};
 use lpc_slots::Key;
@@ -94,7 +94,7 @@ impl World {
         ensures stands { IfSome result (λ row. object_stands self.now.births row.object ≡ true) }
         ensures object { IfSome result (λ row. HasRow self.now row.object) }
     {
-        parts::handles_of(&self.parts, pid).get(value)
+        self.parts.handles_of(pid).get(value)
     }
 
     /// A handle names the port.
@@ -102,7 +102,7 @@ impl World {
         requires { stands self.now.births.ports port ≡ true }
         ensures { result ≡ found.is_open self.now.rows (birth_at self.now port) }
     {
-        parts::names(&self.parts, Object::Port(port))
+        self.parts.names(Object::Port(port))
     }
 
     // Ports and queues.

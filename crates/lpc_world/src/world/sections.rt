@@ -19,7 +19,6 @@ ghost use Rattle.lpc_sections.specs.Sections.{IsSectionSize};
 
 use crate::world::World;
 use lpc_base::{Birth, OutOfMemory};
-use lpc_homes::views;
 use lpc_sections::Section;
 use lpc_slots::{Key, Slots};
 
@@ -136,7 +135,7 @@ impl World {
         ensures { let birth = name_of self.now.births.sections section in
             result ≡ has_holders self.now.rows (section_name birth) }
     {
-        views::shows(&self.parts, section) || self.waits.is_section_offered(section)
+        self.parts.shows(section) || self.waits.is_section_offered(section)
     }
 
     /// How many views of all processes show a section, and how many connects offer it that aren't accepted.
@@ -146,7 +145,7 @@ impl World {
             result ≡ holders self.now.rows kind.Section birth }
         ensures few { result ≤ (VIEW_LIMIT + 1) * self.now.made }
     {
-        views::views_to(&self.parts, section) + self.waits.offers(section)
+        self.parts.views_to(section) + self.waits.offers(section)
     }
 }
 

@@ -20,8 +20,7 @@ ghost use Rattle.lpc_world.specs.Lends.{LendsMemory, LendsMemoryIf};
 
 use crate::world::World;
 use lpc_base::OutOfMemory;
-use lpc_homes::parts::Part;
-use lpc_homes::views;
+use lpc_homes::Parts;
 use lpc_slots::Key;
 use lpc_views::{Fault, MapFault, Place, View, part_of_mut};
 
@@ -47,7 +46,7 @@ impl World {
             view_places self.new.capacity pid ≡ view_places self.old.capacity pid }
         ensures other_places { KeepsOtherViewPlaces pid self.old.capacity self.new.capacity }
     {
-        views::reserve_views(&mut self.parts, pid, more)
+        self.parts.reserve_views(pid, more)
     }
 
     /// The view that `views_map` would map for a process by itself, or its fault; nothing is mapped. The offset is a
@@ -66,7 +65,7 @@ impl World {
         ensures few { length (views_of self.now.rows pid) ≤ VIEW_LIMIT }
         ensures answer { MapsAs self.now pid section offset size writable None result }
     {
-        let views = views::views_of(&self.parts, pid);
+        let views = self.parts.views_of(pid);
         views.view_for(&self.sections, section, offset, size, writable, None)
     }
 
@@ -103,16 +102,7 @@ impl World {
         ensures other_views { KeepsOtherViewRoom pid self.old.room self.new.room }
         ensures capacity { self.new.capacity ≡ self.old.capacity }
     {
-        views::map_view(
-            &mut self.parts,
-            pid,
-            &self.sections,
-            section,
-            offset,
-            size,
-            writable,
-            owner,
-        )
+        self.parts.map_view(pid, &self.sections, section, offset, size, writable, owner)
     }
 
     /// The base that a view of a size would get in a process, beside the views that stand and further ones, which aren't
@@ -124,7 +114,7 @@ impl World {
         requires within { length (views_of self.now.rows pid) + length others.now ≤ VIEW_LIMIT }
         ensures { result ≡ base_beside self.now pid others.now size }
     {
-        views::views_of(&self.parts, pid).base_beside(others, size)
+        self.parts.views_of(pid).base_beside(others, size)
     }
 
     /// Adds a view of a process at the base that it gets. It shows a part of a section that stands, and goes with a port
@@ -148,7 +138,7 @@ impl World {
         ensures other_views { KeepsOtherViewRoom pid self.old.room self.new.room }
         ensures capacity { self.new.capacity ≡ self.old.capacity }
     {
-        views::add_view(&mut self.parts, pid, view);
+        self.parts.add_view(pid, view);
     }
 
     /// Takes the view of a process that holds an address away, and answers it; None exactly where none does, and then
@@ -163,7 +153,7 @@ impl World {
         ensures capacity { self.new.capacity ≡ self.old.capacity }
     {
         self.loose = true;
-        views::unmap_view(&mut self.parts, pid, address)
+        self.parts.unmap_view(pid, address)
     }
 
     /// All views of a process go.
@@ -174,7 +164,7 @@ impl World {
         ensures capacity { self.new.capacity ≡ self.old.capacity }
     {
         self.loose = true;
-        views::drop_views(&mut self.parts, pid);
+        self.parts.drop_views(pid);
     }
 
     /// All views that go with a port go, of whatever process they are.
@@ -186,7 +176,7 @@ impl World {
         ensures capacity { self.new.capacity ≡ self.old.capacity }
     {
         self.loose = true;
-        views::drop_owned_views(&mut self.parts, port);
+        self.parts.drop_owned_views(port);
     }
 
     /// The view of a process that holds an address; None exactly where none does.
@@ -194,7 +184,7 @@ impl World {
         requires table { has (is_table pid) self.now.rows.handles ≡ true }
         ensures view { Finds result (view_shown self.now) (view_at self.now.rows pid address) }
     {
-        views::views_of(&self.parts, pid).view_at(address)
+        self.parts.views_of(pid).view_at(address)
     }
 
     /// The bytes at a range of addresses of a process: Fault exactly where no one view holds the whole range. They are
@@ -207,7 +197,7 @@ impl World {
         ensures len { IfOk result (λ bytes. length bytes.now ≡ len) }
         ensures fault { IsErr result ↔ (view_holding self.now.rows pid address len ≡ None) }
     {
-        views::views_of(&self.parts, pid).slice(&self.sections, address, len)
+        self.parts.views_of(pid).slice(&self.sections, address, len)
     }
 
     /// The bytes at a range of addresses of a thread's process: None exactly where the thread isn't live, the size is 0,
@@ -230,7 +220,7 @@ impl World {
         ensures writable { let view = view_holding self.now.rows pid address len in
             result ≡ passes view (λ v. v.writable) }
     {
-        views::views_of(&self.parts, pid).is_writable(address, len)
+        self.parts.views_of(pid).is_writable(address, len)
     }
 
     /// Writes bytes at a range of addresses of a process, which one view holds that may be written. No other byte
@@ -245,7 +235,9 @@ impl World {
         ensures loose { self.new.loose ≡ self.old.loose }
         ensures capacity { self.new.capacity ≡ self.old.capacity }
     {
-        views::views_of(&self.parts, pid).write(&mut self.sections, address, bytes);
+        self.parts
+            .views_of(pid)
+            .write(&mut self.sections, address, bytes);
     }
 
     /// The bytes at a range of addresses of a process, to be written: one view holds the whole range that may be written.
@@ -295,13 +287,13 @@ impl World {
 }
 
 // Where a range of addresses of a process lies, which one view holds.
-fn place_in(parts: &[Part], pid: u32, address: u32, len: u32) -> Place
-    requires part { has (is_part pid) parts.now ≡ true }
-    requires held { IsSome (view_of (views_at parts.now pid) address len) }
-    ensures place { let view = view_of (views_at parts.now pid) address len in
+fn place_in(parts: &Parts, pid: u32, address: u32, len: u32) -> Place
+    requires part { has (is_part pid) parts.now.items ≡ true }
+    requires held { IsSome (view_of (views_at parts.now.items pid) address len) }
+    ensures place { let view = view_of (views_at parts.now.items pid) address len in
         Some result ≡ option_map (place_of address) view }
 {
-    match views::views_of(parts, pid).place(address, len) {
+    match parts.views_of(pid).place(address, len) {
         Some(place) => place,
         None => unreachable!(),
     }

@@ -8,7 +8,6 @@ use Rattle.lpc_rows.specs.Shown.{birth_of, births_of, shown_handle, tables_of}
 use Rattle.lpc_rows.proofs.Finished as finished
 use Rattle.lpc_rows.proofs.Steps as steps
 use Rattle.lpc_rows.proofs.Tables as tables
-use Rattle.std.proofs.Common.{◌-◌, vec_len, vec_capacity}
 use Rattle.std.specs.Prelude.{Ok}
 use Rattle.lpc_rows.proofs.Capacities as capacities
 use Rattle.lpc_world.proofs.world.World.connects_finish.Goals as goal
@@ -68,7 +67,7 @@ returns-clause-capacity c =
     let there = rw (← c.self.view_is) at c.requires in
     let own = rw (← c.self.view_is) at c.waiting-wait.ensures.wait.process in
     let place = finished.some_place (tables_of c.self.inside.procs c.self.inside.parts.items c.self.inside.ports c.self.inside.waits c.self.inside.names c.self.inside.sections c.self.inside.tokens c.self.inside.token_names c.self.inside.marks) c.self.inside.calls c.self.inside.made c.self.invariant c.args.tid c.waiting-wait.result.process there.waits there.connect own in
-    let held = capacities.handed_or_same c.waiting-wait.result.process (record { object = c.args.object; access = c.args.access }) (Ok c.in-Ok.value) c.self.inside.parts.items c.add_handle.new.parts.items (tables.single (tables_of c.self.inside.procs c.self.inside.parts.items c.self.inside.ports c.self.inside.waits c.self.inside.names c.self.inside.sections c.self.inside.tokens c.self.inside.token_names c.self.inside.marks) c.self.inside.calls c.self.inside.made c.self.invariant) c.in-Ok.ensures.value c.in-Ok.ensures.parts tt place in
+    let held = capacities.handed_or_same c.waiting-wait.result.process (record { object = c.args.object; access = c.args.access }) (Ok c.in-Ok.value) c.self.inside.parts.items c.add_handle.new.self.items (tables.single (tables_of c.self.inside.procs c.self.inside.parts.items c.self.inside.ports c.self.inside.waits c.self.inside.names c.self.inside.sections c.self.inside.tokens c.self.inside.token_names c.self.inside.marks) c.self.inside.calls c.self.inside.made c.self.invariant) c.in-Ok.ensures.value c.in-Ok.ensures.parts tt place in
     let left = capacities.ended (tables_of c.self.inside.procs c.self.inside.parts.items c.self.inside.ports c.self.inside.waits c.self.inside.names c.self.inside.sections c.self.inside.tokens c.self.inside.token_names c.self.inside.marks) c.self.inside.calls c.self.inside.made c.self.invariant c.args.tid c.end.new.self (steps.end_is (tables_of c.self.inside.procs c.self.inside.parts.items c.self.inside.ports c.self.inside.waits c.self.inside.names c.self.inside.sections c.self.inside.tokens c.self.inside.token_names c.self.inside.marks) c.self.inside.calls c.self.inside.made c.self.invariant c.args.tid c.end.new.self c.end.result c.end.ensures.value c.end.ensures.rows c.end.ensures.spare c.end.ensures.made) in
-    rw (← c.self.view_is, c.add_handle.ensures.len, c.add_handle.ensures.capacity)
-    (capacities.of_waits (record (tables_of c.self.inside.procs c.self.inside.parts.items c.self.inside.ports c.self.inside.waits c.self.inside.names c.self.inside.sections c.self.inside.tokens c.self.inside.token_names c.self.inside.marks) { parts = c.add_handle.new.parts.items }) (vec_capacity c.self.inside.parts - vec_len c.self.inside.parts) c.end.new.self left ∙ capacities.of_handles (tables_of c.self.inside.procs c.self.inside.parts.items c.self.inside.ports c.self.inside.waits c.self.inside.names c.self.inside.sections c.self.inside.tokens c.self.inside.token_names c.self.inside.marks) (vec_capacity c.self.inside.parts - vec_len c.self.inside.parts) c.add_handle.new.parts.items held (capacities.handed_views c.waiting-wait.result.process (record { object = c.args.object; access = c.args.access }) (Ok c.in-Ok.value) c.self.inside.parts.items c.add_handle.new.parts.items c.in-Ok.ensures.parts tt))
+    rw (← c.self.view_is, c.add_handle.ensures.kept)
+    (capacities.of_waits (record (tables_of c.self.inside.procs c.self.inside.parts.items c.self.inside.ports c.self.inside.waits c.self.inside.names c.self.inside.sections c.self.inside.tokens c.self.inside.token_names c.self.inside.marks) { parts = c.add_handle.new.self.items }) c.self.inside.parts.room c.end.new.self left ∙ capacities.of_handles (tables_of c.self.inside.procs c.self.inside.parts.items c.self.inside.ports c.self.inside.waits c.self.inside.names c.self.inside.sections c.self.inside.tokens c.self.inside.token_names c.self.inside.marks) c.self.inside.parts.room c.add_handle.new.self.items held (capacities.handed_views c.waiting-wait.result.process (record { object = c.args.object; access = c.args.access }) (Ok c.in-Ok.value) c.self.inside.parts.items c.add_handle.new.self.items c.in-Ok.ensures.parts tt))

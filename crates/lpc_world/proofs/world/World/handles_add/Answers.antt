@@ -5,7 +5,6 @@ use Rattle.lpc_rows.specs.Kept.{rows_by}
 use Rattle.lpc_homes.specs.Parts.{rows_at}
 use Rattle.lpc_rows.specs.Shown.{tables_of}
 use Rattle.lpc_rows.proofs.Tables as tables
-use Rattle.std.proofs.Common.{◌-◌, vec_len, vec_capacity}
 use Rattle.lpc_rows.proofs.Capacities as capacities
 use Rattle.lpc_world.proofs.world.World.handles_add.Goals as goal
 
@@ -27,7 +26,7 @@ add_handle-requires-clause-room c =
 
 pub invariant_of-self : goal.invariant_of-self
 invariant_of-self c =
-    tables.handed_or_same (tables_of c.self.inside.procs c.self.inside.parts.items c.self.inside.ports c.self.inside.waits c.self.inside.names c.self.inside.sections c.self.inside.tokens c.self.inside.token_names c.self.inside.marks) c.self.inside.calls c.self.inside.made c.self.invariant c.args.pid (record { object = c.args.object; access = c.args.access }) c.add_handle.result c.add_handle.new.parts.items (rw (← c.self.view_is) at c.requires.object) c.add_handle.ensures.parts c.add_handle.ensures.same (rw (← c.self.view_is) at c.requires.budget)
+    tables.handed_or_same (tables_of c.self.inside.procs c.self.inside.parts.items c.self.inside.ports c.self.inside.waits c.self.inside.names c.self.inside.sections c.self.inside.tokens c.self.inside.token_names c.self.inside.marks) c.self.inside.calls c.self.inside.made c.self.invariant c.args.pid (record { object = c.args.object; access = c.args.access }) c.add_handle.result c.add_handle.new.self.items (rw (← c.self.view_is) at c.requires.object) c.add_handle.ensures.parts c.add_handle.ensures.same (rw (← c.self.view_is) at c.requires.budget)
     (let there = rw (← c.self.view_is) at c.requires in
     let number = tables.handle_number (tables_of c.self.inside.procs c.self.inside.parts.items c.self.inside.ports c.self.inside.waits c.self.inside.names c.self.inside.sections c.self.inside.tokens c.self.inside.token_names c.self.inside.marks) c.self.inside.calls c.self.inside.made c.self.invariant c.args.pid in
     let bound = tables.load_bound (tables_of c.self.inside.procs c.self.inside.parts.items c.self.inside.ports c.self.inside.waits c.self.inside.names c.self.inside.sections c.self.inside.tokens c.self.inside.token_names c.self.inside.marks) c.self.inside.calls c.self.inside.made c.self.invariant c.args.pid there.table in
@@ -42,17 +41,17 @@ pub returns-clause-value : goal.returns-clause-value
 returns-clause-value c = rw (← c.self.view_is, tables.free_value (tables_of c.self.inside.procs c.self.inside.parts.items c.self.inside.ports c.self.inside.waits c.self.inside.names c.self.inside.sections c.self.inside.tokens c.self.inside.token_names c.self.inside.marks) c.self.inside.calls c.self.inside.made c.self.invariant c.args.pid) c.add_handle.ensures.value
 
 pub returns-clause-rows : goal.returns-clause-rows
-returns-clause-rows c = rw (← c.self.view_is) (tables.hands_or_not (tables_of c.self.inside.procs c.self.inside.parts.items c.self.inside.ports c.self.inside.waits c.self.inside.names c.self.inside.sections c.self.inside.tokens c.self.inside.token_names c.self.inside.marks) c.self.inside.calls c.self.inside.made c.self.invariant c.args.pid (record { object = c.args.object; access = c.args.access }) c.add_handle.result c.add_handle.new.parts.items c.add_handle.ensures.parts)
+returns-clause-rows c = rw (← c.self.view_is) (tables.hands_or_not (tables_of c.self.inside.procs c.self.inside.parts.items c.self.inside.ports c.self.inside.waits c.self.inside.names c.self.inside.sections c.self.inside.tokens c.self.inside.token_names c.self.inside.marks) c.self.inside.calls c.self.inside.made c.self.invariant c.args.pid (record { object = c.args.object; access = c.args.access }) c.add_handle.result c.add_handle.new.self.items c.add_handle.ensures.parts)
 
 pub returns-clause-made : goal.returns-clause-made
 returns-clause-made c =
-    let owed = tables.handed_owed (tables_of c.self.inside.procs c.self.inside.parts.items c.self.inside.ports c.self.inside.waits c.self.inside.names c.self.inside.sections c.self.inside.tokens c.self.inside.token_names c.self.inside.marks) c.self.inside.calls c.self.inside.made c.self.invariant c.args.pid (record { object = c.args.object; access = c.args.access }) c.add_handle.result c.add_handle.new.parts.items c.add_handle.ensures.parts c.add_handle.ensures.same in
+    let owed = tables.handed_owed (tables_of c.self.inside.procs c.self.inside.parts.items c.self.inside.ports c.self.inside.waits c.self.inside.names c.self.inside.sections c.self.inside.tokens c.self.inside.token_names c.self.inside.marks) c.self.inside.calls c.self.inside.made c.self.invariant c.args.pid (record { object = c.args.object; access = c.args.access }) c.add_handle.result c.add_handle.new.self.items c.add_handle.ensures.parts c.add_handle.ensures.same in
     rw (← c.self.view_is) (omega (arith, owed))
 
 pub returns-clause-places : goal.returns-clause-places
 returns-clause-places c =
-    rw (← c.self.view_is, tables.room_at c.self.inside.parts.items c.args.pid, tables.room_at c.add_handle.new.parts.items c.args.pid)
-    (tables.handed_spare (tables_of c.self.inside.procs c.self.inside.parts.items c.self.inside.ports c.self.inside.waits c.self.inside.names c.self.inside.sections c.self.inside.tokens c.self.inside.token_names c.self.inside.marks) c.self.inside.calls c.self.inside.made c.self.invariant c.args.pid (record { object = c.args.object; access = c.args.access }) c.add_handle.result c.add_handle.new.parts.items c.add_handle.ensures.parts c.add_handle.ensures.same)
+    rw (← c.self.view_is, tables.room_at c.self.inside.parts.items c.args.pid, tables.room_at c.add_handle.new.self.items c.args.pid)
+    (tables.handed_spare (tables_of c.self.inside.procs c.self.inside.parts.items c.self.inside.ports c.self.inside.waits c.self.inside.names c.self.inside.sections c.self.inside.tokens c.self.inside.token_names c.self.inside.marks) c.self.inside.calls c.self.inside.made c.self.invariant c.args.pid (record { object = c.args.object; access = c.args.access }) c.add_handle.result c.add_handle.new.self.items c.add_handle.ensures.parts c.add_handle.ensures.same)
 
 pub returns-clause-capacity : goal.returns-clause-capacity
 returns-clause-capacity c =
@@ -60,5 +59,5 @@ returns-clause-capacity c =
     let number = tables.handle_number (tables_of c.self.inside.procs c.self.inside.parts.items c.self.inside.ports c.self.inside.waits c.self.inside.names c.self.inside.sections c.self.inside.tokens c.self.inside.token_names c.self.inside.marks) c.self.inside.calls c.self.inside.made c.self.invariant c.args.pid in
     let bound = tables.load_bound (tables_of c.self.inside.procs c.self.inside.parts.items c.self.inside.ports c.self.inside.waits c.self.inside.names c.self.inside.sections c.self.inside.tokens c.self.inside.token_names c.self.inside.marks) c.self.inside.calls c.self.inside.made c.self.invariant c.args.pid (rw (← c.self.view_is) at c.requires.table) in
     let place = on-few c.add_handle.result (length (rows_at c.self.inside.parts.items c.args.pid)) c.add_handle.ensures.quota (omega (arith, number, bound)) (λ few. omega (arith, some (omega (arith, number, few)))) in
-    rw (← c.self.view_is, c.add_handle.ensures.len, c.add_handle.ensures.capacity)
-    (capacities.of_handles (tables_of c.self.inside.procs c.self.inside.parts.items c.self.inside.ports c.self.inside.waits c.self.inside.names c.self.inside.sections c.self.inside.tokens c.self.inside.token_names c.self.inside.marks) (vec_capacity c.self.inside.parts - vec_len c.self.inside.parts) c.add_handle.new.parts.items (capacities.handed_or_same c.args.pid (record { object = c.args.object; access = c.args.access }) c.add_handle.result c.self.inside.parts.items c.add_handle.new.parts.items (tables.single (tables_of c.self.inside.procs c.self.inside.parts.items c.self.inside.ports c.self.inside.waits c.self.inside.names c.self.inside.sections c.self.inside.tokens c.self.inside.token_names c.self.inside.marks) c.self.inside.calls c.self.inside.made c.self.invariant) c.add_handle.ensures.value c.add_handle.ensures.parts c.add_handle.ensures.same place) (capacities.handed_views c.args.pid (record { object = c.args.object; access = c.args.access }) c.add_handle.result c.self.inside.parts.items c.add_handle.new.parts.items c.add_handle.ensures.parts c.add_handle.ensures.same))
+    rw (← c.self.view_is, c.add_handle.ensures.kept)
+    (capacities.of_handles (tables_of c.self.inside.procs c.self.inside.parts.items c.self.inside.ports c.self.inside.waits c.self.inside.names c.self.inside.sections c.self.inside.tokens c.self.inside.token_names c.self.inside.marks) c.self.inside.parts.room c.add_handle.new.self.items (capacities.handed_or_same c.args.pid (record { object = c.args.object; access = c.args.access }) c.add_handle.result c.self.inside.parts.items c.add_handle.new.self.items (tables.single (tables_of c.self.inside.procs c.self.inside.parts.items c.self.inside.ports c.self.inside.waits c.self.inside.names c.self.inside.sections c.self.inside.tokens c.self.inside.token_names c.self.inside.marks) c.self.inside.calls c.self.inside.made c.self.invariant) c.add_handle.ensures.value c.add_handle.ensures.parts c.add_handle.ensures.same place) (capacities.handed_views c.args.pid (record { object = c.args.object; access = c.args.access }) c.add_handle.result c.self.inside.parts.items c.add_handle.new.self.items c.add_handle.ensures.parts c.add_handle.ensures.same))

@@ -3,7 +3,6 @@ use Rattle.lpc_homes.specs.Parts.{closing}
 use Rattle.lpc_rows.specs.Shown.{tables_of}
 use Rattle.lpc_rows.proofs.Dropped as dropped
 use Rattle.lpc_rows.proofs.Tables as tables
-use Rattle.std.proofs.Common.{◌-◌, vec_len, vec_capacity}
 use Rattle.lpc_rows.proofs.Capacities as capacities
 use Rattle.lpc_world.proofs.world.World.handles_close.Goals as goal
 
@@ -21,7 +20,7 @@ returns-clause-rows c = rw (← c.self.view_is, c.close_handle.ensures.parts) (d
 
 pub returns-clause-room : goal.returns-clause-room
 returns-clause-room c =
-    rw (← c.self.view_is, c.close_handle.ensures.len, c.close_handle.ensures.capacity, c.close_handle.ensures.parts, dropped.view_rooms_kept c.args.pid c.args.value c.self.inside.parts.items) (record {
+    rw (← c.self.view_is, c.close_handle.ensures.kept, c.close_handle.ensures.parts, dropped.view_rooms_kept c.args.pid c.args.value c.self.inside.parts.items) (record {
       for_processes = omega arith;
       for_threads = omega arith;
       for_waits = omega arith;
@@ -40,5 +39,5 @@ returns-clause-made c = rw (← c.self.view_is) (omega arith)
 
 pub returns-clause-capacity : goal.returns-clause-capacity
 returns-clause-capacity c =
-    rw (← c.self.view_is, c.close_handle.ensures.len, c.close_handle.ensures.capacity, c.close_handle.ensures.parts)
-    (capacities.of_handles (tables_of c.self.inside.procs c.self.inside.parts.items c.self.inside.ports c.self.inside.waits c.self.inside.names c.self.inside.sections c.self.inside.tokens c.self.inside.token_names c.self.inside.marks) (vec_capacity c.self.inside.parts - vec_len c.self.inside.parts) (closing c.args.pid c.args.value c.self.inside.parts.items) (capacities.closed_all c.args.pid c.args.value c.self.inside.parts.items) (capacities.closed_views c.args.pid c.args.value c.self.inside.parts.items))
+    rw (← c.self.view_is, c.close_handle.ensures.kept, c.close_handle.ensures.parts)
+    (capacities.of_handles (tables_of c.self.inside.procs c.self.inside.parts.items c.self.inside.ports c.self.inside.waits c.self.inside.names c.self.inside.sections c.self.inside.tokens c.self.inside.token_names c.self.inside.marks) c.self.inside.parts.room (closing c.args.pid c.args.value c.self.inside.parts.items) (capacities.closed_all c.args.pid c.args.value c.self.inside.parts.items) (capacities.closed_views c.args.pid c.args.value c.self.inside.parts.items))

@@ -1,4 +1,4 @@
-use Rattle.std.proofs.Common.{ap, sym, ◌∙◌}
+use Rattle.std.proofs.Common.{sym, ◌∙◌}
 use Rattle.lpc_base.specs.Rows.{has}
 use Rattle.lpc_homes.specs.Parts.{has_name_of}
 use Rattle.lpc_rows.specs.Shown.{tables_of}
@@ -9,4 +9,4 @@ pub returns : goal.returns
 returns c =
     let there = rw (← c.self.view_is) at c.requires in
     let named = handles_named (tables_of c.self.inside.procs c.self.inside.parts.items c.self.inside.ports c.self.inside.waits c.self.inside.names c.self.inside.sections c.self.inside.tokens c.self.inside.token_names c.self.inside.marks) c.self.invariant.named c.args.object there in
-    rw (← c.self.view_is) (c.names.ensures ∙ ap (λ ps. has (has_name_of c.args.object) ps) c.deref.ensures.value ∙ sym named)
+    rw (← c.self.view_is) (c.names.ensures ∙ sym named)

@@ -1,4 +1,4 @@
-use Rattle.std.proofs.Common.{ap, ◌∙◌, arith}
+use Rattle.std.proofs.Common.{arith}
 use Rattle.lpc_base.specs.Rows.{count}
 use Rattle.lpc_homes.specs.Parts.{all_views, goes_with}
 use Rattle.lpc_rows.specs.Shown.{tables_of}
@@ -10,7 +10,7 @@ pub returns-clause-holders : goal.returns-clause-holders
 returns-clause-holders c =
     let there = rw (← c.self.view_is) at c.requires in
     let owned = owned_counted (tables_of c.self.inside.procs c.self.inside.parts.items c.self.inside.ports c.self.inside.waits c.self.inside.names c.self.inside.sections c.self.inside.tokens c.self.inside.token_names c.self.inside.marks) c.self.invariant.named c.args.port there in
-    let views = c.owned_views.ensures.count ∙ ap (λ ps. count (goes_with c.args.port) (all_views ps)) c.deref.ensures.value in
+    let views = c.owned_views.ensures.count in
     let rows = rw (← c.self.view_is) at c.rows_at_port.ensures.rows in
     let hearers = rw (← c.self.view_is) at c.event_ports_to.ensures.number in
     rw (← c.self.view_is) (omega (arith, owned, views, rows, hearers))

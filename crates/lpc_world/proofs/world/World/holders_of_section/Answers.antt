@@ -1,4 +1,4 @@
-use Rattle.std.proofs.Common.{ap, ◌∙◌, arith}
+use Rattle.std.proofs.Common.{arith}
 use Rattle.lpc_base.specs.Rows.{count}
 use Rattle.lpc_homes.specs.Parts.{all_views}
 use Rattle.lpc_views.specs.Views.{shows}
@@ -18,7 +18,7 @@ pub returns-clause-holders : goal.returns-clause-holders
 returns-clause-holders c =
     let there = rw (← c.self.view_is) at c.requires in
     let held = counted.section_counted (tables_of c.self.inside.procs c.self.inside.parts.items c.self.inside.ports c.self.inside.waits c.self.inside.names c.self.inside.sections c.self.inside.tokens c.self.inside.token_names c.self.inside.marks) c.self.invariant.named c.args.section there in
-    let views = c.views_to.ensures.count ∙ ap (λ ps. count (shows c.args.section) (all_views ps)) c.deref.ensures.value in
+    let views = c.views_to.ensures.count in
     rw (← c.self.view_is) (omega (arith, held, views, c.offers.ensures))
 
 pub returns-clause-few : goal.returns-clause-few

@@ -1,4 +1,4 @@
-use Rattle.std.proofs.Common.{◌≡◌, ap, ◌∙◌, arith}
+use Rattle.std.proofs.Common.{◌≡◌, arith}
 use Rattle.lpc_base.specs.Rows.{has}
 use Rattle.lpc_homes.specs.Parts.{has_name_of}
 use Rattle.lpc_homes.specs.declared.object.Object.TheVariants as object
@@ -14,7 +14,7 @@ pub returns-then-is_named-2 : goal.returns-then-is_named-2
 returns-then-is_named-2 c =
     let there = rw (← c.self.view_is) at c.requires in
     let held = unheld.held_is (tables_of c.self.inside.procs c.self.inside.parts.items c.self.inside.ports c.self.inside.waits c.self.inside.names c.self.inside.sections c.self.inside.tokens c.self.inside.token_names c.self.inside.marks) c.self.invariant.named c.args.port there in
-    let by_handle : c.names.result ≡ has (has_name_of (object.Port c.args.port)) c.self.inside.parts.items = c.names.ensures ∙ ap (λ ps. has (has_name_of (object.Port c.args.port)) ps) c.deref.ensures.value in
+    let by_handle : c.names.result ≡ has (has_name_of (object.Port c.args.port)) c.self.inside.parts.items = c.names.ensures in
     rw (← c.self.view_is, held)
     (elim c.if-is_named.branch [
       | then-is_named w ↦ elim c.if-names.branch [
@@ -28,7 +28,7 @@ pub returns-else-is_named-2 : goal.returns-else-is_named-2
 returns-else-is_named-2 c =
     let there = rw (← c.self.view_is) at c.requires in
     let held = unheld.held_is (tables_of c.self.inside.procs c.self.inside.parts.items c.self.inside.ports c.self.inside.waits c.self.inside.names c.self.inside.sections c.self.inside.tokens c.self.inside.token_names c.self.inside.marks) c.self.invariant.named c.args.port there in
-    let by_handle : c.names.result ≡ has (has_name_of (object.Port c.args.port)) c.self.inside.parts.items = c.names.ensures ∙ ap (λ ps. has (has_name_of (object.Port c.args.port)) ps) c.deref.ensures.value in
+    let by_handle : c.names.result ≡ has (has_name_of (object.Port c.args.port)) c.self.inside.parts.items = c.names.ensures in
     rw (← c.self.view_is, held)
     (elim c.if-is_named.branch [
       | then-is_named w ↦ absurd (cc)

@@ -1,4 +1,4 @@
-use Rattle.std.proofs.Common.{[], ◌≡◌, ◌-◌, ℕ, List, true, Option, Some, None, IsSome, vec_capacity, vec_len, refl, ap, sym, ◌∙◌}
+use Rattle.std.proofs.Common.{[], ◌≡◌, ℕ, List, true, Option, Some, None, IsSome, refl, ap, sym, ◌∙◌}
 use Rattle.lpc_base.specs.Rows.{passes}
 use Rattle.lpc_homes.specs.Parts.{views_at}
 use Rattle.lpc_model.specs.Found.{view_holding}
@@ -21,30 +21,30 @@ some_view (Some view) may = refl
 pub place_in-place-requires-clause-part : goal.place_in-place-requires-clause-part
 place_in-place-requires-clause-part c =
     let there = rw (← c.self.view_is) at c.requires.table in
-    rw (c.deref.ensures.value) (sym (readings.table_is (tables_of c.self.inside.procs c.self.inside.parts.items c.self.inside.ports c.self.inside.waits c.self.inside.names c.self.inside.sections c.self.inside.tokens c.self.inside.token_names c.self.inside.marks) c.self.invariant.named c.args.pid) ∙ there)
+    (sym (readings.table_is (tables_of c.self.inside.procs c.self.inside.parts.items c.self.inside.ports c.self.inside.waits c.self.inside.names c.self.inside.sections c.self.inside.tokens c.self.inside.token_names c.self.inside.marks) c.self.invariant.named c.args.pid) ∙ there)
 
 pub place_in-place-requires-clause-held : goal.place_in-place-requires-clause-held
 place_in-place-requires-clause-held c =
     let may = rw (← c.self.view_is) at c.requires.writable in
-    rw (c.deref.ensures.value) (some_view (view_of (views_at c.self.inside.parts.items c.args.pid) c.args.address c.args.len) (bytes.writable (tables_of c.self.inside.procs c.self.inside.parts.items c.self.inside.ports c.self.inside.waits c.self.inside.names c.self.inside.sections c.self.inside.tokens c.self.inside.token_names c.self.inside.marks) c.self.inside.calls c.self.inside.made c.self.invariant c.args.pid c.args.address c.args.len [] may))
+    (some_view (view_of (views_at c.self.inside.parts.items c.args.pid) c.args.address c.args.len) (bytes.writable (tables_of c.self.inside.procs c.self.inside.parts.items c.self.inside.ports c.self.inside.waits c.self.inside.names c.self.inside.sections c.self.inside.tokens c.self.inside.token_names c.self.inside.marks) c.self.inside.calls c.self.inside.made c.self.invariant c.args.pid c.args.address c.args.len [] may))
 
 pub part_of_mut-requires : goal.part_of_mut-requires
 part_of_mut-requires c =
-    let found = rw (c.deref.ensures.value) at c.place_in-place.ensures.place in
+    let found = c.place_in-place.ensures.place in
     places.inside (tables_of c.self.inside.procs c.self.inside.parts.items c.self.inside.ports c.self.inside.waits c.self.inside.names c.self.inside.sections c.self.inside.tokens c.self.inside.token_names c.self.inside.marks) c.self.inside.calls c.self.inside.made c.self.invariant c.args.pid c.args.address c.args.len c.place_in-place.result found
 
 pub invariant_of-self-lent : goal.invariant_of-self-lent
 invariant_of-self-lent c = λ w.
     let may = rw (← c.self.view_is) at c.requires.writable in
-    let found = rw (c.deref.ensures.value) at c.place_in-place.ensures.place in
+    let found = c.place_in-place.ensures.place in
     places.still_lawful (tables_of c.self.inside.procs c.self.inside.parts.items c.self.inside.ports c.self.inside.waits c.self.inside.names c.self.inside.sections c.self.inside.tokens c.self.inside.token_names c.self.inside.marks) c.self.inside.calls c.self.inside.made c.self.invariant c.args.pid c.args.address c.args.len c.place_in-place.result found may w
 
 pub returns : goal.returns
 returns c =
     let may = rw (← c.self.view_is) at c.requires.writable in
-    let found = rw (c.deref.ensures.value) at c.place_in-place.ensures.place in
+    let found = c.place_in-place.ensures.place in
     let lent : (w : List ℕ) → _ = λ w.
-    places.kept (tables_of c.self.inside.procs c.self.inside.parts.items c.self.inside.ports c.self.inside.waits c.self.inside.names c.self.inside.sections c.self.inside.tokens c.self.inside.token_names c.self.inside.marks) c.self.inside.calls c.self.inside.made c.self.invariant c.args.pid c.args.address c.args.len c.place_in-place.result found may w (vec_capacity c.self.inside.parts - vec_len c.self.inside.parts) c.self.inside.loose
+    places.kept (tables_of c.self.inside.procs c.self.inside.parts.items c.self.inside.ports c.self.inside.waits c.self.inside.names c.self.inside.sections c.self.inside.tokens c.self.inside.token_names c.self.inside.marks) c.self.inside.calls c.self.inside.made c.self.invariant c.args.pid c.args.address c.args.len c.place_in-place.result found may w c.self.inside.parts.room c.self.inside.loose
     ∙ ap (λ (k : Kept). with_memory k c.args.address (view_holding k.rows c.args.pid c.args.address c.args.len) w) c.self.view_is in (
       (refl, lent),
       record {

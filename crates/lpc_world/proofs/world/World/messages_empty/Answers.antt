@@ -1,5 +1,4 @@
 use Rattle.std.proofs.Common.{refl}
-use Rattle.std.proofs.Common.{◌-◌, vec_len, vec_capacity}
 use Rattle.lpc_rows.specs.Shown.{tables_of}
 use Rattle.lpc_rows.proofs.Emptied as emptied
 use Rattle.std.proofs.Common.{◌+◌, ap, ◌∙◌, length}
@@ -21,11 +20,11 @@ returns-clause-step c = record {
   calls = rw (← c.self.view_is) refl;
   made = rw (← c.self.view_is, c.empty.ensures.table) refl;
   room = let there = rw (← c.self.view_is) at c.requires.port in
-      rw (← c.self.view_is, c.empty.ensures.table) (emptied.emptied_room (tables_of c.self.inside.procs c.self.inside.parts.items c.self.inside.ports c.self.inside.waits c.self.inside.names c.self.inside.sections c.self.inside.tokens c.self.inside.token_names c.self.inside.marks) c.self.inside.calls c.self.inside.made c.self.invariant c.args.port there (vec_capacity c.self.inside.parts - vec_len c.self.inside.parts));
+      rw (← c.self.view_is, c.empty.ensures.table) (emptied.emptied_room (tables_of c.self.inside.procs c.self.inside.parts.items c.self.inside.ports c.self.inside.waits c.self.inside.names c.self.inside.sections c.self.inside.tokens c.self.inside.token_names c.self.inside.marks) c.self.inside.calls c.self.inside.made c.self.invariant c.args.port there c.self.inside.parts.room);
 }
 
 pub returns-clause-capacity : goal.returns-clause-capacity
 returns-clause-capacity c =
     rw (← c.self.view_is)
-    (capacities.of_ports (tables_of c.self.inside.procs c.self.inside.parts.items c.self.inside.ports c.self.inside.waits c.self.inside.names c.self.inside.sections c.self.inside.tokens c.self.inside.token_names c.self.inside.marks) (vec_capacity c.self.inside.parts - vec_len c.self.inside.parts) c.empty.new.self (ap (λ (s : PortTable). s.port_room + length s.ports) c.empty.ensures.table)
+    (capacities.of_ports (tables_of c.self.inside.procs c.self.inside.parts.items c.self.inside.ports c.self.inside.waits c.self.inside.names c.self.inside.sections c.self.inside.tokens c.self.inside.token_names c.self.inside.marks) c.self.inside.parts.room c.empty.new.self (ap (λ (s : PortTable). s.port_room + length s.ports) c.empty.ensures.table)
     (ap (λ (s : PortTable). s.message_room + length s.messages) c.empty.ensures.table ∙ capacities.passing_less (ports.is_in c.args.port) c.self.inside.ports.message_room c.self.inside.ports.messages))

@@ -1,5 +1,5 @@
 use Rattle.std.proofs.Common.{refl}
-use Rattle.std.proofs.Common.{◌-◌, ◌||◌, ap, sym, ◌∙◌, vec_len, vec_capacity}
+use Rattle.std.proofs.Common.{◌||◌, ap, ◌∙◌}
 use Rattle.lpc_rows.specs.Shown.{tables_of}
 use Rattle.lpc_rows.proofs.Withdrawn as withdrawn
 use Rattle.std.proofs.Common.{◌+◌, length}
@@ -23,11 +23,11 @@ returns-clause-step c = record {
   births = rw (← c.self.view_is, c.withdraw.ensures.table) refl;
   calls = rw (← c.self.view_is) refl;
   made = rw (← c.self.view_is, c.withdraw.ensures.table) refl;
-  room = rw (← c.self.view_is, c.withdraw.ensures.table) (withdrawn.withdrawn_room (tables_of c.self.inside.procs c.self.inside.parts.items c.self.inside.ports c.self.inside.waits c.self.inside.names c.self.inside.sections c.self.inside.tokens c.self.inside.token_names c.self.inside.marks) c.self.inside.calls c.self.inside.made c.self.invariant c.args.tid (vec_capacity c.self.inside.parts - vec_len c.self.inside.parts));
+  room = rw (← c.self.view_is, c.withdraw.ensures.table) (withdrawn.withdrawn_room (tables_of c.self.inside.procs c.self.inside.parts.items c.self.inside.ports c.self.inside.waits c.self.inside.names c.self.inside.sections c.self.inside.tokens c.self.inside.token_names c.self.inside.marks) c.self.inside.calls c.self.inside.made c.self.invariant c.args.tid c.self.inside.parts.room);
 }
 
 pub returns-clause-capacity : goal.returns-clause-capacity
 returns-clause-capacity c =
     rw (← c.self.view_is)
-    (capacities.of_ports (tables_of c.self.inside.procs c.self.inside.parts.items c.self.inside.ports c.self.inside.waits c.self.inside.names c.self.inside.sections c.self.inside.tokens c.self.inside.token_names c.self.inside.marks) (vec_capacity c.self.inside.parts - vec_len c.self.inside.parts) c.withdraw.new.self (ap (λ (s : PortTable). s.port_room + length s.ports) c.withdraw.ensures.table)
+    (capacities.of_ports (tables_of c.self.inside.procs c.self.inside.parts.items c.self.inside.ports c.self.inside.waits c.self.inside.names c.self.inside.sections c.self.inside.tokens c.self.inside.token_names c.self.inside.marks) c.self.inside.parts.room c.withdraw.new.self (ap (λ (s : PortTable). s.port_room + length s.ports) c.withdraw.ensures.table)
     (ap (λ (s : PortTable). s.message_room + length s.messages) c.withdraw.ensures.table ∙ capacities.passing_less (ports.is_own_of c.args.tid) c.self.inside.ports.message_room c.self.inside.ports.messages))

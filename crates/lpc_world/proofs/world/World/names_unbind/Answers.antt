@@ -1,4 +1,4 @@
-use Rattle.std.proofs.Common.{refl, ◌-◌, vec_len, vec_capacity}
+use Rattle.std.proofs.Common.{refl}
 use Rattle.lpc_rows.specs.Shown.{tables_of}
 use Rattle.lpc_rows.proofs.Unbound as unbound
 use Rattle.lpc_world.proofs.world.World.names_unbind.Goals as goal
@@ -16,5 +16,5 @@ returns-clause-step c = record {
   calls = rw (← c.self.view_is) refl;
   made = rw (← c.self.view_is) refl;
   room = let there = rw (← c.self.view_is) at c.requires.port in
-      rw (← c.self.view_is) (unbound.unbound_room (tables_of c.self.inside.procs c.self.inside.parts.items c.self.inside.ports c.self.inside.waits c.self.inside.names c.self.inside.sections c.self.inside.tokens c.self.inside.token_names c.self.inside.marks) c.self.inside.calls c.self.inside.made c.self.invariant c.args.port there c.unbind_all.new.self c.unbind_all.ensures.bindings (vec_capacity c.self.inside.parts - vec_len c.self.inside.parts) c.unbind_all.ensures.spare);
+      rw (← c.self.view_is) (unbound.unbound_room (tables_of c.self.inside.procs c.self.inside.parts.items c.self.inside.ports c.self.inside.waits c.self.inside.names c.self.inside.sections c.self.inside.tokens c.self.inside.token_names c.self.inside.marks) c.self.inside.calls c.self.inside.made c.self.invariant c.args.port there c.unbind_all.new.self c.unbind_all.ensures.bindings c.self.inside.parts.room c.unbind_all.ensures.spare);
 }

@@ -1,6 +1,5 @@
 use Rattle.std.proofs.Common.{refl}
 use Rattle.std.proofs.Common.{arith}
-use Rattle.std.proofs.Common.{◌-◌, vec_len, vec_capacity}
 use Rattle.lpc_rows.specs.Shown.{tables_of}
 use Rattle.lpc_rows.proofs.Cut as cut
 use Rattle.lpc_world.proofs.world.World.ports_cut.Goals as goal
@@ -21,5 +20,5 @@ returns-clause-step c = record {
       let owed = cut.cut_owed (tables_of c.self.inside.procs c.self.inside.parts.items c.self.inside.ports c.self.inside.waits c.self.inside.names c.self.inside.sections c.self.inside.tokens c.self.inside.token_names c.self.inside.marks) c.self.invariant.named c.args.port there.port there.pairs in
       rw (← c.self.view_is, c.cut.ensures) (omega (arith, owed));
   room = let there = rw (← c.self.view_is) at c.requires in
-      rw (← c.self.view_is, c.cut.ensures) (cut.cut_room (tables_of c.self.inside.procs c.self.inside.parts.items c.self.inside.ports c.self.inside.waits c.self.inside.names c.self.inside.sections c.self.inside.tokens c.self.inside.token_names c.self.inside.marks) c.self.invariant.named c.args.port there.port there.pairs (vec_capacity c.self.inside.parts - vec_len c.self.inside.parts));
+      rw (← c.self.view_is, c.cut.ensures) (cut.cut_room (tables_of c.self.inside.procs c.self.inside.parts.items c.self.inside.ports c.self.inside.waits c.self.inside.names c.self.inside.sections c.self.inside.tokens c.self.inside.token_names c.self.inside.marks) c.self.invariant.named c.args.port there.port there.pairs c.self.inside.parts.room);
 }

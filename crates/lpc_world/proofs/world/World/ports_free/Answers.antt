@@ -1,5 +1,5 @@
 use Rattle.std.proofs.Common.{arith}
-use Rattle.std.proofs.Common.{◌≡◌, ◌+◌, ◌-◌, length, sym, ap, ◌∙◌, vec_len, vec_capacity}
+use Rattle.std.proofs.Common.{◌≡◌, ◌+◌, length, sym, ap, ◌∙◌}
 use Rattle.lpc_ports.specs.Table.{PortTable}
 use Rattle.lpc_rows.proofs.Capacities as capacities
 use Rattle.std.proofs.lemmas.Bool.{or_parts}
@@ -72,4 +72,4 @@ returns-clause-capacity c =
     let fewer = c.free.ensures.fewer in
     let ports : c.free.new.self.port_room + length c.free.new.self.ports ≡ c.self.inside.ports.port_room + length c.self.inside.ports.ports =
     ap (λ (s : PortTable). s.port_room + length c.free.new.self.ports) c.free.ensures.table ∙ omega (arith, fewer) in
-    rw (← c.self.view_is) (capacities.of_ports (tables_of c.self.inside.procs c.self.inside.parts.items c.self.inside.ports c.self.inside.waits c.self.inside.names c.self.inside.sections c.self.inside.tokens c.self.inside.token_names c.self.inside.marks) (vec_capacity c.self.inside.parts - vec_len c.self.inside.parts) c.free.new.self ports (ap (λ (s : PortTable). s.message_room + length s.messages) c.free.ensures.table))
+    rw (← c.self.view_is) (capacities.of_ports (tables_of c.self.inside.procs c.self.inside.parts.items c.self.inside.ports c.self.inside.waits c.self.inside.names c.self.inside.sections c.self.inside.tokens c.self.inside.token_names c.self.inside.marks) c.self.inside.parts.room c.free.new.self ports (ap (λ (s : PortTable). s.message_room + length s.messages) c.free.ensures.table))

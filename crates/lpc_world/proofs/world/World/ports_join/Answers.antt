@@ -1,6 +1,5 @@
 use Rattle.std.proofs.Common.{refl}
 use Rattle.std.proofs.Common.{arith}
-use Rattle.std.proofs.Common.{◌-◌, vec_len, vec_capacity}
 use Rattle.lpc_rows.specs.Shown.{tables_of}
 use Rattle.lpc_rows.proofs.Joins as joins
 use Rattle.lpc_world.proofs.world.World.ports_join.Goals as goal
@@ -21,5 +20,5 @@ returns-clause-step c = record {
       let owed = joins.joined_owed (tables_of c.self.inside.procs c.self.inside.parts.items c.self.inside.ports c.self.inside.waits c.self.inside.names c.self.inside.sections c.self.inside.tokens c.self.inside.token_names c.self.inside.marks) c.self.invariant.named c.args.client c.args.server c.args.context there.client there.server in
       rw (← c.self.view_is, c.join.ensures) (omega (arith, owed));
   room = let there = rw (← c.self.view_is) at c.requires in
-      rw (← c.self.view_is, c.join.ensures) (joins.joined_room (tables_of c.self.inside.procs c.self.inside.parts.items c.self.inside.ports c.self.inside.waits c.self.inside.names c.self.inside.sections c.self.inside.tokens c.self.inside.token_names c.self.inside.marks) c.self.invariant.named c.args.client c.args.server c.args.context there.client there.server (vec_capacity c.self.inside.parts - vec_len c.self.inside.parts));
+      rw (← c.self.view_is, c.join.ensures) (joins.joined_room (tables_of c.self.inside.procs c.self.inside.parts.items c.self.inside.ports c.self.inside.waits c.self.inside.names c.self.inside.sections c.self.inside.tokens c.self.inside.token_names c.self.inside.marks) c.self.invariant.named c.args.client c.args.server c.args.context there.client there.server c.self.inside.parts.room);
 }

@@ -9,7 +9,7 @@ use Rattle.lpc_rows.proofs.Changes as changes
 use Rattle.lpc_rows.proofs.OwnMessages.{left-pulled, unqueued-pulled}
 use Rattle.lpc_rows.proofs.Rooms as rooms
 use Rattle.lpc_rows.proofs.Steps as steps
-use Rattle.std.proofs.Common.{◌∙◌, length, ◌-◌, vec_len, vec_capacity}
+use Rattle.std.proofs.Common.{◌∙◌, length}
 use Rattle.lpc_ports.specs.Table.{PortTable}
 use Rattle.lpc_ports.specs.Table as ports
 use Rattle.lpc_rows.proofs.Capacities as capacities
@@ -85,5 +85,5 @@ returns-clause-step c = record {
 pub returns-clause-capacity : goal.returns-clause-capacity
 returns-clause-capacity c =
     rw (← c.self.view_is)
-    (capacities.of_ports (tables_of c.self.inside.procs c.self.inside.parts.items c.self.inside.ports c.self.inside.waits c.self.inside.names c.self.inside.sections c.self.inside.tokens c.self.inside.token_names c.self.inside.marks) (vec_capacity c.self.inside.parts - vec_len c.self.inside.parts) c.pull.new.self (ap (λ (s : PortTable). s.port_room + length s.ports) c.pull.ensures.table)
+    (capacities.of_ports (tables_of c.self.inside.procs c.self.inside.parts.items c.self.inside.ports c.self.inside.waits c.self.inside.names c.self.inside.sections c.self.inside.tokens c.self.inside.token_names c.self.inside.marks) c.self.inside.parts.room c.pull.new.self (ap (λ (s : PortTable). s.port_room + length s.ports) c.pull.ensures.table)
     (ap (λ (s : PortTable). s.message_room + length s.messages) (steps.oldest (tables_of c.self.inside.procs c.self.inside.parts.items c.self.inside.ports c.self.inside.waits c.self.inside.names c.self.inside.sections c.self.inside.tokens c.self.inside.token_names c.self.inside.marks) c.self.inside.calls c.self.inside.made c.self.invariant c.args.queue c.in_ok-message.message c.pull.new.self c.pull.ensures.table (c.pull.ensures.oldest c.args.queue (sym c.in_ok-message.ensures))) ∙ capacities.first_less (ports.is_in c.args.queue) c.self.inside.ports.message_room c.self.inside.ports.messages c.in_ok-message.message (sym c.in_ok-message.ensures)))

@@ -1,4 +1,4 @@
-use Rattle.std.proofs.Common.{rules, refl, ◌-◌, sym, vec_len, vec_capacity}
+use Rattle.std.proofs.Common.{rules, refl, sym}
 use Rattle.lpc_rows.specs.Shown.{births_of, pulled_row, tables_of}
 use Rattle.lpc_rows.proofs.Pulls as pulls
 use Rattle.std.proofs.Common.{◌+◌, ap, ◌∙◌, length}
@@ -78,12 +78,12 @@ returns-clause-step c = record {
       let at = sym c.in_ok-message.ensures in
       let found = pulls.found (tables_of c.self.inside.procs c.self.inside.parts.items c.self.inside.ports c.self.inside.waits c.self.inside.names c.self.inside.sections c.self.inside.tokens c.self.inside.token_names c.self.inside.marks) c.self.inside.calls c.self.inside.made c.self.invariant c.args.queue there c.pull.result (c.pull.ensures.first_connect c.args.queue at) in
       rw (← c.self.view_is, pulls.pulled (tables_of c.self.inside.procs c.self.inside.parts.items c.self.inside.ports c.self.inside.waits c.self.inside.names c.self.inside.sections c.self.inside.tokens c.self.inside.token_names c.self.inside.marks) c.self.inside.calls c.self.inside.made c.self.invariant c.args.queue there c.in_ok-message.message c.pull.new.self c.pull.ensures.table (c.pull.ensures.oldest_connect c.args.queue at))
-      (pulls.pulled_room (tables_of c.self.inside.procs c.self.inside.parts.items c.self.inside.ports c.self.inside.waits c.self.inside.names c.self.inside.sections c.self.inside.tokens c.self.inside.token_names c.self.inside.marks) c.self.inside.calls c.self.inside.made c.self.invariant c.args.queue there (pulled_row (births_of (tables_of c.self.inside.procs c.self.inside.parts.items c.self.inside.ports c.self.inside.waits c.self.inside.names c.self.inside.sections c.self.inside.tokens c.self.inside.token_names c.self.inside.marks)) c.args.queue c.pull.result) found (vec_capacity c.self.inside.parts - vec_len c.self.inside.parts));
+      (pulls.pulled_room (tables_of c.self.inside.procs c.self.inside.parts.items c.self.inside.ports c.self.inside.waits c.self.inside.names c.self.inside.sections c.self.inside.tokens c.self.inside.token_names c.self.inside.marks) c.self.inside.calls c.self.inside.made c.self.invariant c.args.queue there (pulled_row (births_of (tables_of c.self.inside.procs c.self.inside.parts.items c.self.inside.ports c.self.inside.waits c.self.inside.names c.self.inside.sections c.self.inside.tokens c.self.inside.token_names c.self.inside.marks)) c.args.queue c.pull.result) found c.self.inside.parts.room);
 }
 
 pub returns-clause-capacity : goal.returns-clause-capacity
 returns-clause-capacity c =
     let there = rw (← c.self.view_is) at c.requires in
     rw (← c.self.view_is)
-    (capacities.of_ports (tables_of c.self.inside.procs c.self.inside.parts.items c.self.inside.ports c.self.inside.waits c.self.inside.names c.self.inside.sections c.self.inside.tokens c.self.inside.token_names c.self.inside.marks) (vec_capacity c.self.inside.parts - vec_len c.self.inside.parts) c.pull.new.self (ap (λ (s : PortTable). s.port_room + length s.ports) c.pull.ensures.table)
+    (capacities.of_ports (tables_of c.self.inside.procs c.self.inside.parts.items c.self.inside.ports c.self.inside.waits c.self.inside.names c.self.inside.sections c.self.inside.tokens c.self.inside.token_names c.self.inside.marks) c.self.inside.parts.room c.pull.new.self (ap (λ (s : PortTable). s.port_room + length s.ports) c.pull.ensures.table)
     (ap (λ (s : PortTable). s.message_room + length s.messages) (pulls.pulled (tables_of c.self.inside.procs c.self.inside.parts.items c.self.inside.ports c.self.inside.waits c.self.inside.names c.self.inside.sections c.self.inside.tokens c.self.inside.token_names c.self.inside.marks) c.self.inside.calls c.self.inside.made c.self.invariant c.args.queue there c.in_ok-message.message c.pull.new.self c.pull.ensures.table (c.pull.ensures.oldest_connect c.args.queue (sym c.in_ok-message.ensures))) ∙ capacities.first_less (ports.is_connect_in c.args.queue) c.self.inside.ports.message_room c.self.inside.ports.messages c.in_ok-message.message (sym c.in_ok-message.ensures)))

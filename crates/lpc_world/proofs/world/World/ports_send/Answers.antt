@@ -10,7 +10,7 @@ use Rattle.lpc_rows.proofs.Lawful as lawful
 use Rattle.lpc_rows.proofs.Rooms as rooms
 use Rattle.lpc_rows.proofs.Steps as steps
 use Rattle.lpc_rows.proofs.Unheld as unheld
-use Rattle.std.proofs.Common.{◌∙◌, length, vec_len, vec_capacity}
+use Rattle.std.proofs.Common.{◌∙◌, length}
 use Rattle.lpc_rows.proofs.Capacities as capacities
 use Rattle.lpc_world.proofs.world.World.ports_send.Goals as goal
 
@@ -53,5 +53,5 @@ returns-clause-capacity c =
     let there = rw (← c.self.view_is) at c.requires in
     let place = steps.message_place (tables_of c.self.inside.procs c.self.inside.parts.items c.self.inside.ports c.self.inside.waits c.self.inside.names c.self.inside.sections c.self.inside.tokens c.self.inside.token_names c.self.inside.marks) c.self.inside.calls c.self.inside.made c.self.invariant (sent_row (births_of (tables_of c.self.inside.procs c.self.inside.parts.items c.self.inside.ports c.self.inside.waits c.self.inside.names c.self.inside.sections c.self.inside.tokens c.self.inside.token_names c.self.inside.marks)) c.args.queue c.args.sender c.args.context c.args.bytes.now) there.request there.closing there.other in
     rw (← c.self.view_is)
-    (capacities.of_ports (tables_of c.self.inside.procs c.self.inside.parts.items c.self.inside.ports c.self.inside.waits c.self.inside.names c.self.inside.sections c.self.inside.tokens c.self.inside.token_names c.self.inside.marks) (vec_capacity c.self.inside.parts - vec_len c.self.inside.parts) c.send.new.self (ap (λ (s : PortTable). s.port_room + length s.ports) c.send.ensures.table)
+    (capacities.of_ports (tables_of c.self.inside.procs c.self.inside.parts.items c.self.inside.ports c.self.inside.waits c.self.inside.names c.self.inside.sections c.self.inside.tokens c.self.inside.token_names c.self.inside.marks) c.self.inside.parts.room c.send.new.self (ap (λ (s : PortTable). s.port_room + length s.ports) c.send.ensures.table)
     (ap (λ (s : PortTable). s.message_room + length s.messages) c.send.ensures.table ∙ capacities.one_more c.self.inside.ports.message_room c.self.inside.ports.messages (c.send.result, ports.queued c.args.queue c.args.sender c.args.context c.args.bytes.now) place))

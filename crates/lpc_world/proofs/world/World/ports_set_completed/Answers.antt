@@ -1,5 +1,4 @@
 use Rattle.std.proofs.Common.{arith, refl}
-use Rattle.std.proofs.Common.{◌-◌, vec_len, vec_capacity}
 use Rattle.lpc_rows.specs.Shown.{tables_of}
 use Rattle.lpc_rows.proofs.Joins as joins
 use Rattle.lpc_world.proofs.world.World.ports_set_completed.Goals as goal
@@ -20,5 +19,5 @@ returns-clause-step c = record {
       let owed = joins.completed_owed (tables_of c.self.inside.procs c.self.inside.parts.items c.self.inside.ports c.self.inside.waits c.self.inside.names c.self.inside.sections c.self.inside.tokens c.self.inside.token_names c.self.inside.marks) c.self.invariant.named c.args.port c.args.completed there in
       rw (← c.self.view_is, c.set_completed.ensures) (omega (arith, owed));
   room = let there = rw (← c.self.view_is) at c.requires in
-      rw (← c.self.view_is, c.set_completed.ensures) (joins.completed_room (tables_of c.self.inside.procs c.self.inside.parts.items c.self.inside.ports c.self.inside.waits c.self.inside.names c.self.inside.sections c.self.inside.tokens c.self.inside.token_names c.self.inside.marks) c.self.invariant.named c.args.port c.args.completed there (vec_capacity c.self.inside.parts - vec_len c.self.inside.parts));
+      rw (← c.self.view_is, c.set_completed.ensures) (joins.completed_room (tables_of c.self.inside.procs c.self.inside.parts.items c.self.inside.ports c.self.inside.waits c.self.inside.names c.self.inside.sections c.self.inside.tokens c.self.inside.token_names c.self.inside.marks) c.self.invariant.named c.args.port c.args.completed there c.self.inside.parts.room);
 }

@@ -1,4 +1,4 @@
-use Rattle.std.proofs.Common.{◌-◌, length, vec_capacity, vec_len, refl, ap, arith}
+use Rattle.std.proofs.Common.{length, refl, ap, arith}
 use Rattle.lpc_model.specs.World.{World}
 use Rattle.lpc_sections.specs.Sections.{SectionRow}
 use Rattle.lpc_slots.specs.Table.{Table, listed}
@@ -65,7 +65,7 @@ returns-clause-capacity c =
     let spare = ap (λ (t : Table SectionRow). t.spare) c.insert_reserved.ensures.table in
     let rows = ap length c.insert_reserved.ensures.listed in
     let more = capacities.one_more c.self.inside.sections.spare (listed c.self.inside.sections) (c.insert_reserved.result, c.args.section) there in
-    rw (← c.self.view_is) (capacities.of_sections (tables_of c.self.inside.procs c.self.inside.parts.items c.self.inside.ports c.self.inside.waits c.self.inside.names c.self.inside.sections c.self.inside.tokens c.self.inside.token_names c.self.inside.marks) (vec_capacity c.self.inside.parts - vec_len c.self.inside.parts) c.insert_reserved.new.self (omega (arith, spare, rows, more)))
+    rw (← c.self.view_is) (capacities.of_sections (tables_of c.self.inside.procs c.self.inside.parts.items c.self.inside.ports c.self.inside.waits c.self.inside.names c.self.inside.sections c.self.inside.tokens c.self.inside.token_names c.self.inside.marks) c.self.inside.parts.room c.insert_reserved.new.self (omega (arith, spare, rows, more)))
 
 pub returns-clause-tokens : goal.returns-clause-tokens
 returns-clause-tokens c = rw (← c.self.view_is) refl

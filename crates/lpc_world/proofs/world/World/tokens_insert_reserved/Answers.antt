@@ -1,4 +1,4 @@
-use Rattle.std.proofs.Common.{◌-◌, length, vec_capacity, vec_len, refl, ap, arith}
+use Rattle.std.proofs.Common.{length, refl, ap, arith}
 use Rattle.lpc_model.specs.World.{World}
 use Rattle.lpc_slots.specs.Table.{Table, listed}
 use Rattle.lpc_slots.proofs.Same.{vacant}
@@ -68,4 +68,4 @@ returns-clause-capacity c =
     let spare = ap (λ (t : Table TokenRow). t.spare) c.insert_reserved.ensures.table in
     let rows = ap length c.insert_reserved.ensures.listed in
     let more = capacities.one_more c.self.inside.tokens.spare (listed c.self.inside.tokens) (c.insert_reserved.result, c.args.token) there in
-    rw (← c.self.view_is) (capacities.of_tokens (tables_of c.self.inside.procs c.self.inside.parts.items c.self.inside.ports c.self.inside.waits c.self.inside.names c.self.inside.sections c.self.inside.tokens c.self.inside.token_names c.self.inside.marks) (vec_capacity c.self.inside.parts - vec_len c.self.inside.parts) c.insert_reserved.new.self (omega (arith, spare, rows, more)))
+    rw (← c.self.view_is) (capacities.of_tokens (tables_of c.self.inside.procs c.self.inside.parts.items c.self.inside.ports c.self.inside.waits c.self.inside.names c.self.inside.sections c.self.inside.tokens c.self.inside.token_names c.self.inside.marks) c.self.inside.parts.room c.insert_reserved.new.self (omega (arith, spare, rows, more)))

@@ -1,4 +1,4 @@
-use Rattle.std.proofs.Common.{◌+◌, ◌-◌, vec_capacity, vec_len, refl, ap, sym, ◌∙◌}
+use Rattle.std.proofs.Common.{◌+◌, refl, ap, sym, ◌∙◌}
 use Rattle.std.specs.Prelude.{Ok}
 use Rattle.lpc_rows.specs.Shown.{tables_of}
 use Rattle.lpc_rows.proofs.Capacities as capacities
@@ -26,35 +26,35 @@ add_view-requires-clause-base c =
 pub invariant_of-self : goal.invariant_of-self
 invariant_of-self c =
     let there = rw (← c.self.view_is) at c.requires in
-    (mapped.left (tables_of c.self.inside.procs c.self.inside.parts.items c.self.inside.ports c.self.inside.waits c.self.inside.names c.self.inside.sections c.self.inside.tokens c.self.inside.token_names c.self.inside.marks) c.self.inside.calls c.self.inside.made c.self.invariant c.args.pid c.add_view.new.parts.items c.args.view.owner (Ok c.args.view) there.owner refl (mapped.shows_mapped (tables_of c.self.inside.procs c.self.inside.parts.items c.self.inside.ports c.self.inside.waits c.self.inside.names c.self.inside.sections c.self.inside.tokens c.self.inside.token_names c.self.inside.marks) c.self.invariant.named c.args.view there.section there.part) c.add_view.ensures.parts tt (tables.single (tables_of c.self.inside.procs c.self.inside.parts.items c.self.inside.ports c.self.inside.waits c.self.inside.names c.self.inside.sections c.self.inside.tokens c.self.inside.token_names c.self.inside.marks) c.self.inside.calls c.self.inside.made c.self.invariant) (rw (rooms.view_room_is c.self.inside.parts.items c.args.pid) at there.room)).lawful
+    (mapped.left (tables_of c.self.inside.procs c.self.inside.parts.items c.self.inside.ports c.self.inside.waits c.self.inside.names c.self.inside.sections c.self.inside.tokens c.self.inside.token_names c.self.inside.marks) c.self.inside.calls c.self.inside.made c.self.invariant c.args.pid c.add_view.new.self.items c.args.view.owner (Ok c.args.view) there.owner refl (mapped.shows_mapped (tables_of c.self.inside.procs c.self.inside.parts.items c.self.inside.ports c.self.inside.waits c.self.inside.names c.self.inside.sections c.self.inside.tokens c.self.inside.token_names c.self.inside.marks) c.self.invariant.named c.args.view there.section there.part) c.add_view.ensures.parts tt (tables.single (tables_of c.self.inside.procs c.self.inside.parts.items c.self.inside.ports c.self.inside.waits c.self.inside.names c.self.inside.sections c.self.inside.tokens c.self.inside.token_names c.self.inside.marks) c.self.inside.calls c.self.inside.made c.self.invariant) (rw (rooms.view_room_is c.self.inside.parts.items c.args.pid) at there.room)).lawful
 
 pub returns-clause-rows : goal.returns-clause-rows
 returns-clause-rows c =
     let there = rw (← c.self.view_is) at c.requires in
-    rw (← c.self.view_is) (mapped.left (tables_of c.self.inside.procs c.self.inside.parts.items c.self.inside.ports c.self.inside.waits c.self.inside.names c.self.inside.sections c.self.inside.tokens c.self.inside.token_names c.self.inside.marks) c.self.inside.calls c.self.inside.made c.self.invariant c.args.pid c.add_view.new.parts.items c.args.view.owner (Ok c.args.view) there.owner refl (mapped.shows_mapped (tables_of c.self.inside.procs c.self.inside.parts.items c.self.inside.ports c.self.inside.waits c.self.inside.names c.self.inside.sections c.self.inside.tokens c.self.inside.token_names c.self.inside.marks) c.self.invariant.named c.args.view there.section there.part) c.add_view.ensures.parts tt (tables.single (tables_of c.self.inside.procs c.self.inside.parts.items c.self.inside.ports c.self.inside.waits c.self.inside.names c.self.inside.sections c.self.inside.tokens c.self.inside.token_names c.self.inside.marks) c.self.inside.calls c.self.inside.made c.self.invariant) (rw (rooms.view_room_is c.self.inside.parts.items c.args.pid) at there.room)).rows
+    rw (← c.self.view_is) (mapped.left (tables_of c.self.inside.procs c.self.inside.parts.items c.self.inside.ports c.self.inside.waits c.self.inside.names c.self.inside.sections c.self.inside.tokens c.self.inside.token_names c.self.inside.marks) c.self.inside.calls c.self.inside.made c.self.invariant c.args.pid c.add_view.new.self.items c.args.view.owner (Ok c.args.view) there.owner refl (mapped.shows_mapped (tables_of c.self.inside.procs c.self.inside.parts.items c.self.inside.ports c.self.inside.waits c.self.inside.names c.self.inside.sections c.self.inside.tokens c.self.inside.token_names c.self.inside.marks) c.self.invariant.named c.args.view there.section there.part) c.add_view.ensures.parts tt (tables.single (tables_of c.self.inside.procs c.self.inside.parts.items c.self.inside.ports c.self.inside.waits c.self.inside.names c.self.inside.sections c.self.inside.tokens c.self.inside.token_names c.self.inside.marks) c.self.inside.calls c.self.inside.made c.self.invariant) (rw (rooms.view_room_is c.self.inside.parts.items c.args.pid) at there.room)).rows
 
 pub returns-clause-made : goal.returns-clause-made
 returns-clause-made c =
     let there = rw (← c.self.view_is) at c.requires in
-    rw (← c.self.view_is) (ap (λ k. c.self.inside.made + k) (mapped.left (tables_of c.self.inside.procs c.self.inside.parts.items c.self.inside.ports c.self.inside.waits c.self.inside.names c.self.inside.sections c.self.inside.tokens c.self.inside.token_names c.self.inside.marks) c.self.inside.calls c.self.inside.made c.self.invariant c.args.pid c.add_view.new.parts.items c.args.view.owner (Ok c.args.view) there.owner refl (mapped.shows_mapped (tables_of c.self.inside.procs c.self.inside.parts.items c.self.inside.ports c.self.inside.waits c.self.inside.names c.self.inside.sections c.self.inside.tokens c.self.inside.token_names c.self.inside.marks) c.self.invariant.named c.args.view there.section there.part) c.add_view.ensures.parts tt (tables.single (tables_of c.self.inside.procs c.self.inside.parts.items c.self.inside.ports c.self.inside.waits c.self.inside.names c.self.inside.sections c.self.inside.tokens c.self.inside.token_names c.self.inside.marks) c.self.inside.calls c.self.inside.made c.self.invariant) (rw (rooms.view_room_is c.self.inside.parts.items c.args.pid) at there.room)).owed)
+    rw (← c.self.view_is) (ap (λ k. c.self.inside.made + k) (mapped.left (tables_of c.self.inside.procs c.self.inside.parts.items c.self.inside.ports c.self.inside.waits c.self.inside.names c.self.inside.sections c.self.inside.tokens c.self.inside.token_names c.self.inside.marks) c.self.inside.calls c.self.inside.made c.self.invariant c.args.pid c.add_view.new.self.items c.args.view.owner (Ok c.args.view) there.owner refl (mapped.shows_mapped (tables_of c.self.inside.procs c.self.inside.parts.items c.self.inside.ports c.self.inside.waits c.self.inside.names c.self.inside.sections c.self.inside.tokens c.self.inside.token_names c.self.inside.marks) c.self.invariant.named c.args.view there.section there.part) c.add_view.ensures.parts tt (tables.single (tables_of c.self.inside.procs c.self.inside.parts.items c.self.inside.ports c.self.inside.waits c.self.inside.names c.self.inside.sections c.self.inside.tokens c.self.inside.token_names c.self.inside.marks) c.self.inside.calls c.self.inside.made c.self.invariant) (rw (rooms.view_room_is c.self.inside.parts.items c.args.pid) at there.room)).owed)
 
 pub returns-clause-places : goal.returns-clause-places
 returns-clause-places c =
     let there = rw (← c.self.view_is) at c.requires in
-    rw (← c.self.view_is, rooms.view_room_is c.self.inside.parts.items c.args.pid, rooms.view_room_is c.add_view.new.parts.items c.args.pid) (mapped.left (tables_of c.self.inside.procs c.self.inside.parts.items c.self.inside.ports c.self.inside.waits c.self.inside.names c.self.inside.sections c.self.inside.tokens c.self.inside.token_names c.self.inside.marks) c.self.inside.calls c.self.inside.made c.self.invariant c.args.pid c.add_view.new.parts.items c.args.view.owner (Ok c.args.view) there.owner refl (mapped.shows_mapped (tables_of c.self.inside.procs c.self.inside.parts.items c.self.inside.ports c.self.inside.waits c.self.inside.names c.self.inside.sections c.self.inside.tokens c.self.inside.token_names c.self.inside.marks) c.self.invariant.named c.args.view there.section there.part) c.add_view.ensures.parts tt (tables.single (tables_of c.self.inside.procs c.self.inside.parts.items c.self.inside.ports c.self.inside.waits c.self.inside.names c.self.inside.sections c.self.inside.tokens c.self.inside.token_names c.self.inside.marks) c.self.inside.calls c.self.inside.made c.self.invariant) (rw (rooms.view_room_is c.self.inside.parts.items c.args.pid) at there.room)).places
+    rw (← c.self.view_is, rooms.view_room_is c.self.inside.parts.items c.args.pid, rooms.view_room_is c.add_view.new.self.items c.args.pid) (mapped.left (tables_of c.self.inside.procs c.self.inside.parts.items c.self.inside.ports c.self.inside.waits c.self.inside.names c.self.inside.sections c.self.inside.tokens c.self.inside.token_names c.self.inside.marks) c.self.inside.calls c.self.inside.made c.self.invariant c.args.pid c.add_view.new.self.items c.args.view.owner (Ok c.args.view) there.owner refl (mapped.shows_mapped (tables_of c.self.inside.procs c.self.inside.parts.items c.self.inside.ports c.self.inside.waits c.self.inside.names c.self.inside.sections c.self.inside.tokens c.self.inside.token_names c.self.inside.marks) c.self.invariant.named c.args.view there.section there.part) c.add_view.ensures.parts tt (tables.single (tables_of c.self.inside.procs c.self.inside.parts.items c.self.inside.ports c.self.inside.waits c.self.inside.names c.self.inside.sections c.self.inside.tokens c.self.inside.token_names c.self.inside.marks) c.self.inside.calls c.self.inside.made c.self.invariant) (rw (rooms.view_room_is c.self.inside.parts.items c.args.pid) at there.room)).places
 
 pub returns-clause-others : goal.returns-clause-others
 returns-clause-others c =
     let there = rw (← c.self.view_is) at c.requires in
-    rw (← c.self.view_is, c.add_view.ensures.len, c.add_view.ensures.capacity, (mapped.left (tables_of c.self.inside.procs c.self.inside.parts.items c.self.inside.ports c.self.inside.waits c.self.inside.names c.self.inside.sections c.self.inside.tokens c.self.inside.token_names c.self.inside.marks) c.self.inside.calls c.self.inside.made c.self.invariant c.args.pid c.add_view.new.parts.items c.args.view.owner (Ok c.args.view) there.owner refl (mapped.shows_mapped (tables_of c.self.inside.procs c.self.inside.parts.items c.self.inside.ports c.self.inside.waits c.self.inside.names c.self.inside.sections c.self.inside.tokens c.self.inside.token_names c.self.inside.marks) c.self.invariant.named c.args.view there.section there.part) c.add_view.ensures.parts tt (tables.single (tables_of c.self.inside.procs c.self.inside.parts.items c.self.inside.ports c.self.inside.waits c.self.inside.names c.self.inside.sections c.self.inside.tokens c.self.inside.token_names c.self.inside.marks) c.self.inside.calls c.self.inside.made c.self.invariant) (rw (rooms.view_room_is c.self.inside.parts.items c.args.pid) at there.room)).handle_rooms) refl
+    rw (← c.self.view_is, c.add_view.ensures.kept, (mapped.left (tables_of c.self.inside.procs c.self.inside.parts.items c.self.inside.ports c.self.inside.waits c.self.inside.names c.self.inside.sections c.self.inside.tokens c.self.inside.token_names c.self.inside.marks) c.self.inside.calls c.self.inside.made c.self.invariant c.args.pid c.add_view.new.self.items c.args.view.owner (Ok c.args.view) there.owner refl (mapped.shows_mapped (tables_of c.self.inside.procs c.self.inside.parts.items c.self.inside.ports c.self.inside.waits c.self.inside.names c.self.inside.sections c.self.inside.tokens c.self.inside.token_names c.self.inside.marks) c.self.invariant.named c.args.view there.section there.part) c.add_view.ensures.parts tt (tables.single (tables_of c.self.inside.procs c.self.inside.parts.items c.self.inside.ports c.self.inside.waits c.self.inside.names c.self.inside.sections c.self.inside.tokens c.self.inside.token_names c.self.inside.marks) c.self.inside.calls c.self.inside.made c.self.invariant) (rw (rooms.view_room_is c.self.inside.parts.items c.args.pid) at there.room)).handle_rooms) refl
 
 pub returns-clause-other_views : goal.returns-clause-other_views
 returns-clause-other_views c =
     let there = rw (← c.self.view_is) at c.requires in
-    rw (← c.self.view_is) (record { for_views = λ other off. rw (rooms.view_room_is c.self.inside.parts.items other, rooms.view_room_is c.add_view.new.parts.items other) ((mapped.left (tables_of c.self.inside.procs c.self.inside.parts.items c.self.inside.ports c.self.inside.waits c.self.inside.names c.self.inside.sections c.self.inside.tokens c.self.inside.token_names c.self.inside.marks) c.self.inside.calls c.self.inside.made c.self.invariant c.args.pid c.add_view.new.parts.items c.args.view.owner (Ok c.args.view) there.owner refl (mapped.shows_mapped (tables_of c.self.inside.procs c.self.inside.parts.items c.self.inside.ports c.self.inside.waits c.self.inside.names c.self.inside.sections c.self.inside.tokens c.self.inside.token_names c.self.inside.marks) c.self.invariant.named c.args.view there.section there.part) c.add_view.ensures.parts tt (tables.single (tables_of c.self.inside.procs c.self.inside.parts.items c.self.inside.ports c.self.inside.waits c.self.inside.names c.self.inside.sections c.self.inside.tokens c.self.inside.token_names c.self.inside.marks) c.self.inside.calls c.self.inside.made c.self.invariant) (rw (rooms.view_room_is c.self.inside.parts.items c.args.pid) at there.room)).others other off) })
+    rw (← c.self.view_is) (record { for_views = λ other off. rw (rooms.view_room_is c.self.inside.parts.items other, rooms.view_room_is c.add_view.new.self.items other) ((mapped.left (tables_of c.self.inside.procs c.self.inside.parts.items c.self.inside.ports c.self.inside.waits c.self.inside.names c.self.inside.sections c.self.inside.tokens c.self.inside.token_names c.self.inside.marks) c.self.inside.calls c.self.inside.made c.self.invariant c.args.pid c.add_view.new.self.items c.args.view.owner (Ok c.args.view) there.owner refl (mapped.shows_mapped (tables_of c.self.inside.procs c.self.inside.parts.items c.self.inside.ports c.self.inside.waits c.self.inside.names c.self.inside.sections c.self.inside.tokens c.self.inside.token_names c.self.inside.marks) c.self.invariant.named c.args.view there.section there.part) c.add_view.ensures.parts tt (tables.single (tables_of c.self.inside.procs c.self.inside.parts.items c.self.inside.ports c.self.inside.waits c.self.inside.names c.self.inside.sections c.self.inside.tokens c.self.inside.token_names c.self.inside.marks) c.self.inside.calls c.self.inside.made c.self.invariant) (rw (rooms.view_room_is c.self.inside.parts.items c.args.pid) at there.room)).others other off) })
 
 pub returns-clause-capacity : goal.returns-clause-capacity
 returns-clause-capacity c =
     let there = rw (← c.self.view_is) at c.requires in
-    let left = mapped.left (tables_of c.self.inside.procs c.self.inside.parts.items c.self.inside.ports c.self.inside.waits c.self.inside.names c.self.inside.sections c.self.inside.tokens c.self.inside.token_names c.self.inside.marks) c.self.inside.calls c.self.inside.made c.self.invariant c.args.pid c.add_view.new.parts.items c.args.view.owner (Ok c.args.view) there.owner refl (mapped.shows_mapped (tables_of c.self.inside.procs c.self.inside.parts.items c.self.inside.ports c.self.inside.waits c.self.inside.names c.self.inside.sections c.self.inside.tokens c.self.inside.token_names c.self.inside.marks) c.self.invariant.named c.args.view there.section there.part) c.add_view.ensures.parts tt (tables.single (tables_of c.self.inside.procs c.self.inside.parts.items c.self.inside.ports c.self.inside.waits c.self.inside.names c.self.inside.sections c.self.inside.tokens c.self.inside.token_names c.self.inside.marks) c.self.inside.calls c.self.inside.made c.self.invariant) (rw (rooms.view_room_is c.self.inside.parts.items c.args.pid) at there.room) in
-    rw (← c.self.view_is, c.add_view.ensures.len, c.add_view.ensures.capacity) (capacities.of_handles (tables_of c.self.inside.procs c.self.inside.parts.items c.self.inside.ports c.self.inside.waits c.self.inside.names c.self.inside.sections c.self.inside.tokens c.self.inside.token_names c.self.inside.marks) (vec_capacity c.self.inside.parts - vec_len c.self.inside.parts) c.add_view.new.parts.items left.handle_places left.view_places)
+    let left = mapped.left (tables_of c.self.inside.procs c.self.inside.parts.items c.self.inside.ports c.self.inside.waits c.self.inside.names c.self.inside.sections c.self.inside.tokens c.self.inside.token_names c.self.inside.marks) c.self.inside.calls c.self.inside.made c.self.invariant c.args.pid c.add_view.new.self.items c.args.view.owner (Ok c.args.view) there.owner refl (mapped.shows_mapped (tables_of c.self.inside.procs c.self.inside.parts.items c.self.inside.ports c.self.inside.waits c.self.inside.names c.self.inside.sections c.self.inside.tokens c.self.inside.token_names c.self.inside.marks) c.self.invariant.named c.args.view there.section there.part) c.add_view.ensures.parts tt (tables.single (tables_of c.self.inside.procs c.self.inside.parts.items c.self.inside.ports c.self.inside.waits c.self.inside.names c.self.inside.sections c.self.inside.tokens c.self.inside.token_names c.self.inside.marks) c.self.inside.calls c.self.inside.made c.self.invariant) (rw (rooms.view_room_is c.self.inside.parts.items c.args.pid) at there.room) in
+    rw (← c.self.view_is, c.add_view.ensures.kept) (capacities.of_handles (tables_of c.self.inside.procs c.self.inside.parts.items c.self.inside.ports c.self.inside.waits c.self.inside.names c.self.inside.sections c.self.inside.tokens c.self.inside.token_names c.self.inside.marks) c.self.inside.parts.room c.add_view.new.self.items left.handle_places left.view_places)

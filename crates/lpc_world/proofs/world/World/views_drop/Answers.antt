@@ -1,4 +1,4 @@
-use Rattle.std.proofs.Common.{◌+◌, ◌-◌, vec_capacity, vec_len, refl, ap, sym, ◌∙◌}
+use Rattle.std.proofs.Common.{◌+◌, refl, ap, sym, ◌∙◌}
 use Rattle.lpc_homes.specs.Parts.{emptying}
 use Rattle.lpc_rows.specs.Kept.{owed_rows}
 use Rattle.lpc_rows.specs.Shown.{tables_of}
@@ -23,10 +23,10 @@ returns-clause-step c = record {
   births = rw (← c.self.view_is) refl;
   calls = rw (← c.self.view_is) refl;
   made = rw (← c.self.view_is, c.drop_views.ensures.parts) (ap (λ w. c.self.inside.made + owed_rows w) (views.drops (tables_of c.self.inside.procs c.self.inside.parts.items c.self.inside.ports c.self.inside.waits c.self.inside.names c.self.inside.sections c.self.inside.tokens c.self.inside.token_names c.self.inside.marks) c.self.inside.calls c.self.inside.made c.self.invariant c.args.pid));
-  room = rw (← c.self.view_is, c.drop_views.ensures.len, c.drop_views.ensures.capacity, c.drop_views.ensures.parts) (rooms.dropped_room (tables_of c.self.inside.procs c.self.inside.parts.items c.self.inside.ports c.self.inside.waits c.self.inside.names c.self.inside.sections c.self.inside.tokens c.self.inside.token_names c.self.inside.marks) (vec_capacity c.self.inside.parts - vec_len c.self.inside.parts) c.args.pid);
+  room = rw (← c.self.view_is, c.drop_views.ensures.kept, c.drop_views.ensures.parts) (rooms.dropped_room (tables_of c.self.inside.procs c.self.inside.parts.items c.self.inside.ports c.self.inside.waits c.self.inside.names c.self.inside.sections c.self.inside.tokens c.self.inside.token_names c.self.inside.marks) c.self.inside.parts.room c.args.pid);
 }
 
 pub returns-clause-capacity : goal.returns-clause-capacity
 returns-clause-capacity c =
-    rw (← c.self.view_is, c.drop_views.ensures.len, c.drop_views.ensures.capacity, c.drop_views.ensures.parts)
-    (capacities.of_handles (tables_of c.self.inside.procs c.self.inside.parts.items c.self.inside.ports c.self.inside.waits c.self.inside.names c.self.inside.sections c.self.inside.tokens c.self.inside.token_names c.self.inside.marks) (vec_capacity c.self.inside.parts - vec_len c.self.inside.parts) (emptying c.args.pid c.self.inside.parts.items) (capacities.emptied_handles c.args.pid c.self.inside.parts.items) (capacities.emptied_views c.args.pid c.self.inside.parts.items))
+    rw (← c.self.view_is, c.drop_views.ensures.kept, c.drop_views.ensures.parts)
+    (capacities.of_handles (tables_of c.self.inside.procs c.self.inside.parts.items c.self.inside.ports c.self.inside.waits c.self.inside.names c.self.inside.sections c.self.inside.tokens c.self.inside.token_names c.self.inside.marks) c.self.inside.parts.room (emptying c.args.pid c.self.inside.parts.items) (capacities.emptied_handles c.args.pid c.self.inside.parts.items) (capacities.emptied_views c.args.pid c.self.inside.parts.items))

@@ -1,4 +1,4 @@
-use Rattle.std.proofs.Common.{◌+◌, ◌-◌, map, vec_capacity, vec_len, refl, ap}
+use Rattle.std.proofs.Common.{◌+◌, map, refl, ap}
 use Rattle.lpc_homes.specs.Parts.{dropped}
 use Rattle.lpc_rows.specs.Kept.{owed_rows}
 use Rattle.lpc_rows.specs.Shown.{tables_of}
@@ -20,10 +20,10 @@ returns-clause-step c =
       births = rw (← c.self.view_is) refl;
       calls = rw (← c.self.view_is) refl;
       made = rw (← c.self.view_is, c.drop_owned_views.ensures.parts) (ap (λ w. c.self.inside.made + owed_rows w) (views.drops_owned (tables_of c.self.inside.procs c.self.inside.parts.items c.self.inside.ports c.self.inside.waits c.self.inside.names c.self.inside.sections c.self.inside.tokens c.self.inside.token_names c.self.inside.marks) c.self.inside.calls c.self.inside.made c.self.invariant c.args.port there));
-      room = rw (← c.self.view_is, c.drop_owned_views.ensures.len, c.drop_owned_views.ensures.capacity, c.drop_owned_views.ensures.parts) (rooms.owned_room (tables_of c.self.inside.procs c.self.inside.parts.items c.self.inside.ports c.self.inside.waits c.self.inside.names c.self.inside.sections c.self.inside.tokens c.self.inside.token_names c.self.inside.marks) (vec_capacity c.self.inside.parts - vec_len c.self.inside.parts) c.args.port);
+      room = rw (← c.self.view_is, c.drop_owned_views.ensures.kept, c.drop_owned_views.ensures.parts) (rooms.owned_room (tables_of c.self.inside.procs c.self.inside.parts.items c.self.inside.ports c.self.inside.waits c.self.inside.names c.self.inside.sections c.self.inside.tokens c.self.inside.token_names c.self.inside.marks) c.self.inside.parts.room c.args.port);
     }
 
 pub returns-clause-capacity : goal.returns-clause-capacity
 returns-clause-capacity c =
-    rw (← c.self.view_is, c.drop_owned_views.ensures.len, c.drop_owned_views.ensures.capacity, c.drop_owned_views.ensures.parts)
-    (capacities.of_handles (tables_of c.self.inside.procs c.self.inside.parts.items c.self.inside.ports c.self.inside.waits c.self.inside.names c.self.inside.sections c.self.inside.tokens c.self.inside.token_names c.self.inside.marks) (vec_capacity c.self.inside.parts - vec_len c.self.inside.parts) (map (dropped c.args.port) c.self.inside.parts.items) (capacities.dropped_handles c.args.port c.self.inside.parts.items) (capacities.dropped_views c.args.port c.self.inside.parts.items))
+    rw (← c.self.view_is, c.drop_owned_views.ensures.kept, c.drop_owned_views.ensures.parts)
+    (capacities.of_handles (tables_of c.self.inside.procs c.self.inside.parts.items c.self.inside.ports c.self.inside.waits c.self.inside.names c.self.inside.sections c.self.inside.tokens c.self.inside.token_names c.self.inside.marks) c.self.inside.parts.room (map (dropped c.args.port) c.self.inside.parts.items) (capacities.dropped_handles c.args.port c.self.inside.parts.items) (capacities.dropped_views c.args.port c.self.inside.parts.items))

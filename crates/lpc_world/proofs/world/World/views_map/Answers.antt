@@ -1,4 +1,4 @@
-use Rattle.std.proofs.Common.{◌+◌, ◌-◌, vec_capacity, vec_len, refl, ap, sym, ◌∙◌, arith}
+use Rattle.std.proofs.Common.{◌+◌, refl, ap, sym, ◌∙◌, arith}
 use Rattle.std.specs.Prelude.{Bool, Result, Ok, Err, OnErr, ◌≡◌, ℕ, List}
 use Rattle.lpc_homes.specs.declared.parts.Part.{Part}
 use Rattle.lpc_rows.specs.Kept.{kept_by}
@@ -35,7 +35,7 @@ pub invariant_of-self : goal.invariant_of-self
 invariant_of-self c =
     let there = rw (← c.self.view_is) at c.requires in
     let answer = mapped.answered (tables_of c.self.inside.procs c.self.inside.parts.items c.self.inside.ports c.self.inside.waits c.self.inside.names c.self.inside.sections c.self.inside.tokens c.self.inside.token_names c.self.inside.marks) c.self.invariant.named c.args.pid c.args.section c.args.offset c.args.size c.args.writable c.args.owner there.section c.map_view.result c.map_view.ensures.answer in
-    (mapped.left (tables_of c.self.inside.procs c.self.inside.parts.items c.self.inside.ports c.self.inside.waits c.self.inside.names c.self.inside.sections c.self.inside.tokens c.self.inside.token_names c.self.inside.marks) c.self.inside.calls c.self.inside.made c.self.invariant c.args.pid c.map_view.new.parts.items c.args.owner c.map_view.result there.owner answer.owned c.map_view.ensures.inside c.map_view.ensures.parts c.map_view.ensures.same (tables.single (tables_of c.self.inside.procs c.self.inside.parts.items c.self.inside.ports c.self.inside.waits c.self.inside.names c.self.inside.sections c.self.inside.tokens c.self.inside.token_names c.self.inside.marks) c.self.inside.calls c.self.inside.made c.self.invariant) c.map_view.ensures.place).lawful
+    (mapped.left (tables_of c.self.inside.procs c.self.inside.parts.items c.self.inside.ports c.self.inside.waits c.self.inside.names c.self.inside.sections c.self.inside.tokens c.self.inside.token_names c.self.inside.marks) c.self.inside.calls c.self.inside.made c.self.invariant c.args.pid c.map_view.new.self.items c.args.owner c.map_view.result there.owner answer.owned c.map_view.ensures.inside c.map_view.ensures.parts c.map_view.ensures.same (tables.single (tables_of c.self.inside.procs c.self.inside.parts.items c.self.inside.ports c.self.inside.waits c.self.inside.names c.self.inside.sections c.self.inside.tokens c.self.inside.token_names c.self.inside.marks) c.self.inside.calls c.self.inside.made c.self.invariant) c.map_view.ensures.place).lawful
 
 pub returns-clause-answer : goal.returns-clause-answer
 returns-clause-answer c =
@@ -47,42 +47,42 @@ pub returns-clause-rows : goal.returns-clause-rows
 returns-clause-rows c =
     let there = rw (← c.self.view_is) at c.requires in
     let answer = mapped.answered (tables_of c.self.inside.procs c.self.inside.parts.items c.self.inside.ports c.self.inside.waits c.self.inside.names c.self.inside.sections c.self.inside.tokens c.self.inside.token_names c.self.inside.marks) c.self.invariant.named c.args.pid c.args.section c.args.offset c.args.size c.args.writable c.args.owner there.section c.map_view.result c.map_view.ensures.answer in
-    rw (← c.self.view_is) (mapped.left (tables_of c.self.inside.procs c.self.inside.parts.items c.self.inside.ports c.self.inside.waits c.self.inside.names c.self.inside.sections c.self.inside.tokens c.self.inside.token_names c.self.inside.marks) c.self.inside.calls c.self.inside.made c.self.invariant c.args.pid c.map_view.new.parts.items c.args.owner c.map_view.result there.owner answer.owned c.map_view.ensures.inside c.map_view.ensures.parts c.map_view.ensures.same (tables.single (tables_of c.self.inside.procs c.self.inside.parts.items c.self.inside.ports c.self.inside.waits c.self.inside.names c.self.inside.sections c.self.inside.tokens c.self.inside.token_names c.self.inside.marks) c.self.inside.calls c.self.inside.made c.self.invariant) c.map_view.ensures.place).rows
+    rw (← c.self.view_is) (mapped.left (tables_of c.self.inside.procs c.self.inside.parts.items c.self.inside.ports c.self.inside.waits c.self.inside.names c.self.inside.sections c.self.inside.tokens c.self.inside.token_names c.self.inside.marks) c.self.inside.calls c.self.inside.made c.self.invariant c.args.pid c.map_view.new.self.items c.args.owner c.map_view.result there.owner answer.owned c.map_view.ensures.inside c.map_view.ensures.parts c.map_view.ensures.same (tables.single (tables_of c.self.inside.procs c.self.inside.parts.items c.self.inside.ports c.self.inside.waits c.self.inside.names c.self.inside.sections c.self.inside.tokens c.self.inside.token_names c.self.inside.marks) c.self.inside.calls c.self.inside.made c.self.invariant) c.map_view.ensures.place).rows
 
 pub returns-clause-made : goal.returns-clause-made
 returns-clause-made c =
     let there = rw (← c.self.view_is) at c.requires in
     let answer = mapped.answered (tables_of c.self.inside.procs c.self.inside.parts.items c.self.inside.ports c.self.inside.waits c.self.inside.names c.self.inside.sections c.self.inside.tokens c.self.inside.token_names c.self.inside.marks) c.self.invariant.named c.args.pid c.args.section c.args.offset c.args.size c.args.writable c.args.owner there.section c.map_view.result c.map_view.ensures.answer in
-    rw (← c.self.view_is) (ap (λ k. c.self.inside.made + k) (mapped.left (tables_of c.self.inside.procs c.self.inside.parts.items c.self.inside.ports c.self.inside.waits c.self.inside.names c.self.inside.sections c.self.inside.tokens c.self.inside.token_names c.self.inside.marks) c.self.inside.calls c.self.inside.made c.self.invariant c.args.pid c.map_view.new.parts.items c.args.owner c.map_view.result there.owner answer.owned c.map_view.ensures.inside c.map_view.ensures.parts c.map_view.ensures.same (tables.single (tables_of c.self.inside.procs c.self.inside.parts.items c.self.inside.ports c.self.inside.waits c.self.inside.names c.self.inside.sections c.self.inside.tokens c.self.inside.token_names c.self.inside.marks) c.self.inside.calls c.self.inside.made c.self.invariant) c.map_view.ensures.place).owed)
+    rw (← c.self.view_is) (ap (λ k. c.self.inside.made + k) (mapped.left (tables_of c.self.inside.procs c.self.inside.parts.items c.self.inside.ports c.self.inside.waits c.self.inside.names c.self.inside.sections c.self.inside.tokens c.self.inside.token_names c.self.inside.marks) c.self.inside.calls c.self.inside.made c.self.invariant c.args.pid c.map_view.new.self.items c.args.owner c.map_view.result there.owner answer.owned c.map_view.ensures.inside c.map_view.ensures.parts c.map_view.ensures.same (tables.single (tables_of c.self.inside.procs c.self.inside.parts.items c.self.inside.ports c.self.inside.waits c.self.inside.names c.self.inside.sections c.self.inside.tokens c.self.inside.token_names c.self.inside.marks) c.self.inside.calls c.self.inside.made c.self.invariant) c.map_view.ensures.place).owed)
 
 pub returns-clause-same : goal.returns-clause-same
 returns-clause-same c =
-    rw (← c.self.view_is, c.map_view.ensures.len, c.map_view.ensures.capacity) (kept_same c.map_view.result (tables_of c.self.inside.procs c.self.inside.parts.items c.self.inside.ports c.self.inside.waits c.self.inside.names c.self.inside.sections c.self.inside.tokens c.self.inside.token_names c.self.inside.marks) c.map_view.new.parts.items (vec_capacity c.self.inside.parts - vec_len c.self.inside.parts) c.self.inside.calls c.self.inside.made c.self.inside.loose c.map_view.ensures.same)
+    rw (← c.self.view_is, c.map_view.ensures.kept) (kept_same c.map_view.result (tables_of c.self.inside.procs c.self.inside.parts.items c.self.inside.ports c.self.inside.waits c.self.inside.names c.self.inside.sections c.self.inside.tokens c.self.inside.token_names c.self.inside.marks) c.map_view.new.self.items c.self.inside.parts.room c.self.inside.calls c.self.inside.made c.self.inside.loose c.map_view.ensures.same)
 
 pub returns-clause-places : goal.returns-clause-places
 returns-clause-places c =
     let there = rw (← c.self.view_is) at c.requires in
     let answer = mapped.answered (tables_of c.self.inside.procs c.self.inside.parts.items c.self.inside.ports c.self.inside.waits c.self.inside.names c.self.inside.sections c.self.inside.tokens c.self.inside.token_names c.self.inside.marks) c.self.invariant.named c.args.pid c.args.section c.args.offset c.args.size c.args.writable c.args.owner there.section c.map_view.result c.map_view.ensures.answer in
-    rw (← c.self.view_is, rooms.view_room_is c.self.inside.parts.items c.args.pid, rooms.view_room_is c.map_view.new.parts.items c.args.pid) (mapped.left (tables_of c.self.inside.procs c.self.inside.parts.items c.self.inside.ports c.self.inside.waits c.self.inside.names c.self.inside.sections c.self.inside.tokens c.self.inside.token_names c.self.inside.marks) c.self.inside.calls c.self.inside.made c.self.invariant c.args.pid c.map_view.new.parts.items c.args.owner c.map_view.result there.owner answer.owned c.map_view.ensures.inside c.map_view.ensures.parts c.map_view.ensures.same (tables.single (tables_of c.self.inside.procs c.self.inside.parts.items c.self.inside.ports c.self.inside.waits c.self.inside.names c.self.inside.sections c.self.inside.tokens c.self.inside.token_names c.self.inside.marks) c.self.inside.calls c.self.inside.made c.self.invariant) c.map_view.ensures.place).places
+    rw (← c.self.view_is, rooms.view_room_is c.self.inside.parts.items c.args.pid, rooms.view_room_is c.map_view.new.self.items c.args.pid) (mapped.left (tables_of c.self.inside.procs c.self.inside.parts.items c.self.inside.ports c.self.inside.waits c.self.inside.names c.self.inside.sections c.self.inside.tokens c.self.inside.token_names c.self.inside.marks) c.self.inside.calls c.self.inside.made c.self.invariant c.args.pid c.map_view.new.self.items c.args.owner c.map_view.result there.owner answer.owned c.map_view.ensures.inside c.map_view.ensures.parts c.map_view.ensures.same (tables.single (tables_of c.self.inside.procs c.self.inside.parts.items c.self.inside.ports c.self.inside.waits c.self.inside.names c.self.inside.sections c.self.inside.tokens c.self.inside.token_names c.self.inside.marks) c.self.inside.calls c.self.inside.made c.self.invariant) c.map_view.ensures.place).places
 
 pub returns-clause-others : goal.returns-clause-others
 returns-clause-others c =
     let there = rw (← c.self.view_is) at c.requires in
     let answer = mapped.answered (tables_of c.self.inside.procs c.self.inside.parts.items c.self.inside.ports c.self.inside.waits c.self.inside.names c.self.inside.sections c.self.inside.tokens c.self.inside.token_names c.self.inside.marks) c.self.invariant.named c.args.pid c.args.section c.args.offset c.args.size c.args.writable c.args.owner there.section c.map_view.result c.map_view.ensures.answer in
-    rw (← c.self.view_is, c.map_view.ensures.len, c.map_view.ensures.capacity, (mapped.left (tables_of c.self.inside.procs c.self.inside.parts.items c.self.inside.ports c.self.inside.waits c.self.inside.names c.self.inside.sections c.self.inside.tokens c.self.inside.token_names c.self.inside.marks) c.self.inside.calls c.self.inside.made c.self.invariant c.args.pid c.map_view.new.parts.items c.args.owner c.map_view.result there.owner answer.owned c.map_view.ensures.inside c.map_view.ensures.parts c.map_view.ensures.same (tables.single (tables_of c.self.inside.procs c.self.inside.parts.items c.self.inside.ports c.self.inside.waits c.self.inside.names c.self.inside.sections c.self.inside.tokens c.self.inside.token_names c.self.inside.marks) c.self.inside.calls c.self.inside.made c.self.invariant) c.map_view.ensures.place).handle_rooms) refl
+    rw (← c.self.view_is, c.map_view.ensures.kept, (mapped.left (tables_of c.self.inside.procs c.self.inside.parts.items c.self.inside.ports c.self.inside.waits c.self.inside.names c.self.inside.sections c.self.inside.tokens c.self.inside.token_names c.self.inside.marks) c.self.inside.calls c.self.inside.made c.self.invariant c.args.pid c.map_view.new.self.items c.args.owner c.map_view.result there.owner answer.owned c.map_view.ensures.inside c.map_view.ensures.parts c.map_view.ensures.same (tables.single (tables_of c.self.inside.procs c.self.inside.parts.items c.self.inside.ports c.self.inside.waits c.self.inside.names c.self.inside.sections c.self.inside.tokens c.self.inside.token_names c.self.inside.marks) c.self.inside.calls c.self.inside.made c.self.invariant) c.map_view.ensures.place).handle_rooms) refl
 
 pub returns-clause-other_views : goal.returns-clause-other_views
 returns-clause-other_views c =
     let there = rw (← c.self.view_is) at c.requires in
     let answer = mapped.answered (tables_of c.self.inside.procs c.self.inside.parts.items c.self.inside.ports c.self.inside.waits c.self.inside.names c.self.inside.sections c.self.inside.tokens c.self.inside.token_names c.self.inside.marks) c.self.invariant.named c.args.pid c.args.section c.args.offset c.args.size c.args.writable c.args.owner there.section c.map_view.result c.map_view.ensures.answer in
-    rw (← c.self.view_is) (record { for_views = λ other off. rw (rooms.view_room_is c.self.inside.parts.items other, rooms.view_room_is c.map_view.new.parts.items other) ((mapped.left (tables_of c.self.inside.procs c.self.inside.parts.items c.self.inside.ports c.self.inside.waits c.self.inside.names c.self.inside.sections c.self.inside.tokens c.self.inside.token_names c.self.inside.marks) c.self.inside.calls c.self.inside.made c.self.invariant c.args.pid c.map_view.new.parts.items c.args.owner c.map_view.result there.owner answer.owned c.map_view.ensures.inside c.map_view.ensures.parts c.map_view.ensures.same (tables.single (tables_of c.self.inside.procs c.self.inside.parts.items c.self.inside.ports c.self.inside.waits c.self.inside.names c.self.inside.sections c.self.inside.tokens c.self.inside.token_names c.self.inside.marks) c.self.inside.calls c.self.inside.made c.self.invariant) c.map_view.ensures.place).others other off) })
+    rw (← c.self.view_is) (record { for_views = λ other off. rw (rooms.view_room_is c.self.inside.parts.items other, rooms.view_room_is c.map_view.new.self.items other) ((mapped.left (tables_of c.self.inside.procs c.self.inside.parts.items c.self.inside.ports c.self.inside.waits c.self.inside.names c.self.inside.sections c.self.inside.tokens c.self.inside.token_names c.self.inside.marks) c.self.inside.calls c.self.inside.made c.self.invariant c.args.pid c.map_view.new.self.items c.args.owner c.map_view.result there.owner answer.owned c.map_view.ensures.inside c.map_view.ensures.parts c.map_view.ensures.same (tables.single (tables_of c.self.inside.procs c.self.inside.parts.items c.self.inside.ports c.self.inside.waits c.self.inside.names c.self.inside.sections c.self.inside.tokens c.self.inside.token_names c.self.inside.marks) c.self.inside.calls c.self.inside.made c.self.invariant) c.map_view.ensures.place).others other off) })
 
 pub returns-clause-capacity : goal.returns-clause-capacity
 returns-clause-capacity c =
     let there = rw (← c.self.view_is) at c.requires in
     let answer = mapped.answered (tables_of c.self.inside.procs c.self.inside.parts.items c.self.inside.ports c.self.inside.waits c.self.inside.names c.self.inside.sections c.self.inside.tokens c.self.inside.token_names c.self.inside.marks) c.self.invariant.named c.args.pid c.args.section c.args.offset c.args.size c.args.writable c.args.owner there.section c.map_view.result c.map_view.ensures.answer in
-    let left = mapped.left (tables_of c.self.inside.procs c.self.inside.parts.items c.self.inside.ports c.self.inside.waits c.self.inside.names c.self.inside.sections c.self.inside.tokens c.self.inside.token_names c.self.inside.marks) c.self.inside.calls c.self.inside.made c.self.invariant c.args.pid c.map_view.new.parts.items c.args.owner c.map_view.result there.owner answer.owned c.map_view.ensures.inside c.map_view.ensures.parts c.map_view.ensures.same (tables.single (tables_of c.self.inside.procs c.self.inside.parts.items c.self.inside.ports c.self.inside.waits c.self.inside.names c.self.inside.sections c.self.inside.tokens c.self.inside.token_names c.self.inside.marks) c.self.inside.calls c.self.inside.made c.self.invariant) c.map_view.ensures.place in
-    rw (← c.self.view_is, c.map_view.ensures.len, c.map_view.ensures.capacity) (capacities.of_handles (tables_of c.self.inside.procs c.self.inside.parts.items c.self.inside.ports c.self.inside.waits c.self.inside.names c.self.inside.sections c.self.inside.tokens c.self.inside.token_names c.self.inside.marks) (vec_capacity c.self.inside.parts - vec_len c.self.inside.parts) c.map_view.new.parts.items left.handle_places left.view_places)
+    let left = mapped.left (tables_of c.self.inside.procs c.self.inside.parts.items c.self.inside.ports c.self.inside.waits c.self.inside.names c.self.inside.sections c.self.inside.tokens c.self.inside.token_names c.self.inside.marks) c.self.inside.calls c.self.inside.made c.self.invariant c.args.pid c.map_view.new.self.items c.args.owner c.map_view.result there.owner answer.owned c.map_view.ensures.inside c.map_view.ensures.parts c.map_view.ensures.same (tables.single (tables_of c.self.inside.procs c.self.inside.parts.items c.self.inside.ports c.self.inside.waits c.self.inside.names c.self.inside.sections c.self.inside.tokens c.self.inside.token_names c.self.inside.marks) c.self.inside.calls c.self.inside.made c.self.invariant) c.map_view.ensures.place in
+    rw (← c.self.view_is, c.map_view.ensures.kept) (capacities.of_handles (tables_of c.self.inside.procs c.self.inside.parts.items c.self.inside.ports c.self.inside.waits c.self.inside.names c.self.inside.sections c.self.inside.tokens c.self.inside.token_names c.self.inside.marks) c.self.inside.parts.room c.map_view.new.self.items left.handle_places left.view_places)
 
 pub returns-clause-owner : goal.returns-clause-owner
 returns-clause-owner c =

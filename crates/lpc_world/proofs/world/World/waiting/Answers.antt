@@ -1,4 +1,4 @@
-use Rattle.std.proofs.Common.{◌≡◌, ◌-◌, true, false, ap, sym, ◌∙◌, vec_len, vec_capacity}
+use Rattle.std.proofs.Common.{◌≡◌, true, false, ap, sym, ◌∙◌}
 use Rattle.std.specs.Prelude.{is_some, option_copied}
 use Rattle.lpc_base.proofs.RowMaps.{some-map}
 use Rattle.lpc_waits.specs.Table.{row_of}
@@ -16,7 +16,7 @@ unreachable-requires c =
 
 pub returns-clause-wait : goal.returns-clause-wait
 returns-clause-wait c =
-    rw (← c.self.view_is) (readings.is_wait (tables_of c.self.inside.procs c.self.inside.parts.items c.self.inside.ports c.self.inside.waits c.self.inside.names c.self.inside.sections c.self.inside.tokens c.self.inside.token_names c.self.inside.marks) c.self.invariant.named (vec_capacity c.self.inside.parts - vec_len c.self.inside.parts) c.self.inside.calls c.self.inside.made c.self.inside.loose c.args.tid c.in-Some.wait.now (sym c.of.ensures.value ∙ ap (λ o. option_copied o) c.in-Some.is))
+    rw (← c.self.view_is) (readings.is_wait (tables_of c.self.inside.procs c.self.inside.parts.items c.self.inside.ports c.self.inside.waits c.self.inside.names c.self.inside.sections c.self.inside.tokens c.self.inside.token_names c.self.inside.marks) c.self.invariant.named c.self.inside.parts.room c.self.inside.calls c.self.inside.made c.self.inside.loose c.args.tid c.in-Some.wait.now (sym c.of.ensures.value ∙ ap (λ o. option_copied o) c.in-Some.is))
 
 pub returns-clause-apart : goal.returns-clause-apart
 returns-clause-apart c = rw (← c.self.view_is) c.self.invariant.named.ports_apart

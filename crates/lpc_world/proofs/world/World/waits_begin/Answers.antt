@@ -12,7 +12,7 @@ use Rattle.lpc_rows.proofs.Raising.{ready-unmarked}
 use Rattle.lpc_rows.proofs.Rooms as rooms
 use Rattle.lpc_rows.proofs.Steps as steps
 use Rattle.lpc_rows.proofs.Tables as tables
-use Rattle.std.proofs.Common.{length, vec_len, vec_capacity}
+use Rattle.std.proofs.Common.{length}
 use Rattle.lpc_waits.specs.Table.{WaitTable}
 use Rattle.lpc_rows.proofs.Capacities as capacities
 use Rattle.lpc_world.proofs.world.World.waits_begin.Goals as goal
@@ -55,4 +55,4 @@ pub returns-clause-capacity : goal.returns-clause-capacity
 returns-clause-capacity c =
     let place = steps.wait_place (tables_of c.self.inside.procs c.self.inside.parts.items c.self.inside.ports c.self.inside.waits c.self.inside.names c.self.inside.sections c.self.inside.tokens c.self.inside.token_names c.self.inside.marks) c.self.inside.calls c.self.inside.made c.self.invariant c.args.tid (rw (← c.self.view_is) at c.requires.live) (rw (← c.self.view_is) at c.requires.ready) in
     rw (← c.self.view_is)
-    (capacities.of_waits (tables_of c.self.inside.procs c.self.inside.parts.items c.self.inside.ports c.self.inside.waits c.self.inside.names c.self.inside.sections c.self.inside.tokens c.self.inside.token_names c.self.inside.marks) (vec_capacity c.self.inside.parts - vec_len c.self.inside.parts) c.add.new.self (ap (λ (s : WaitTable). s.spare + length s.rows) c.add.ensures.table ∙ capacities.one_more c.self.inside.waits.spare c.self.inside.waits.rows (record { thread = c.args.tid; wait = c.args.wait; message = record { items = [] }; offer = None; accepted = None }) place))
+    (capacities.of_waits (tables_of c.self.inside.procs c.self.inside.parts.items c.self.inside.ports c.self.inside.waits c.self.inside.names c.self.inside.sections c.self.inside.tokens c.self.inside.token_names c.self.inside.marks) c.self.inside.parts.room c.add.new.self (ap (λ (s : WaitTable). s.spare + length s.rows) c.add.ensures.table ∙ capacities.one_more c.self.inside.waits.spare c.self.inside.waits.rows (record { thread = c.args.tid; wait = c.args.wait; message = record { items = [] }; offer = None; accepted = None }) place))

@@ -1,5 +1,5 @@
 use Rattle.std.proofs.Common.{refl, arith}
-use Rattle.std.proofs.Common.{◌+◌, ◌-◌, cond, ap, sym, ◌∙◌, vec_len, vec_capacity}
+use Rattle.std.proofs.Common.{◌+◌, cond, ap, sym, ◌∙◌}
 use Rattle.std.specs.Prelude.{is_some}
 use Rattle.lpc_base.specs.Rows.{has}
 use Rattle.lpc_model.specs.World.{World}
@@ -34,7 +34,7 @@ returns-clause-some c =
 
 pub returns-clause-wait : goal.returns-clause-wait
 returns-clause-wait c =
-    rw (← c.self.view_is) (readings.wait_if (tables_of c.self.inside.procs c.self.inside.parts.items c.self.inside.ports c.self.inside.waits c.self.inside.names c.self.inside.sections c.self.inside.tokens c.self.inside.token_names c.self.inside.marks) c.self.invariant.named (vec_capacity c.self.inside.parts - vec_len c.self.inside.parts) c.self.inside.calls c.self.inside.made c.self.inside.loose c.args.tid c.end.result c.end.ensures.value)
+    rw (← c.self.view_is) (readings.wait_if (tables_of c.self.inside.procs c.self.inside.parts.items c.self.inside.ports c.self.inside.waits c.self.inside.names c.self.inside.sections c.self.inside.tokens c.self.inside.token_names c.self.inside.marks) c.self.invariant.named c.self.inside.parts.room c.self.inside.calls c.self.inside.made c.self.inside.loose c.args.tid c.end.result c.end.ensures.value)
 
 pub returns-clause-step : goal.returns-clause-step
 returns-clause-step c = record {
@@ -54,4 +54,4 @@ returns-clause-step c = record {
 pub returns-clause-capacity : goal.returns-clause-capacity
 returns-clause-capacity c =
     rw (← c.self.view_is)
-    (capacities.of_waits (tables_of c.self.inside.procs c.self.inside.parts.items c.self.inside.ports c.self.inside.waits c.self.inside.names c.self.inside.sections c.self.inside.tokens c.self.inside.token_names c.self.inside.marks) (vec_capacity c.self.inside.parts - vec_len c.self.inside.parts) c.end.new.self (capacities.ended (tables_of c.self.inside.procs c.self.inside.parts.items c.self.inside.ports c.self.inside.waits c.self.inside.names c.self.inside.sections c.self.inside.tokens c.self.inside.token_names c.self.inside.marks) c.self.inside.calls c.self.inside.made c.self.invariant c.args.tid c.end.new.self (steps.end_is (tables_of c.self.inside.procs c.self.inside.parts.items c.self.inside.ports c.self.inside.waits c.self.inside.names c.self.inside.sections c.self.inside.tokens c.self.inside.token_names c.self.inside.marks) c.self.inside.calls c.self.inside.made c.self.invariant c.args.tid c.end.new.self c.end.result c.end.ensures.value c.end.ensures.rows c.end.ensures.spare c.end.ensures.made)))
+    (capacities.of_waits (tables_of c.self.inside.procs c.self.inside.parts.items c.self.inside.ports c.self.inside.waits c.self.inside.names c.self.inside.sections c.self.inside.tokens c.self.inside.token_names c.self.inside.marks) c.self.inside.parts.room c.end.new.self (capacities.ended (tables_of c.self.inside.procs c.self.inside.parts.items c.self.inside.ports c.self.inside.waits c.self.inside.names c.self.inside.sections c.self.inside.tokens c.self.inside.token_names c.self.inside.marks) c.self.inside.calls c.self.inside.made c.self.invariant c.args.tid c.end.new.self (steps.end_is (tables_of c.self.inside.procs c.self.inside.parts.items c.self.inside.ports c.self.inside.waits c.self.inside.names c.self.inside.sections c.self.inside.tokens c.self.inside.token_names c.self.inside.marks) c.self.inside.calls c.self.inside.made c.self.invariant c.args.tid c.end.new.self c.end.result c.end.ensures.value c.end.ensures.rows c.end.ensures.spare c.end.ensures.made)))

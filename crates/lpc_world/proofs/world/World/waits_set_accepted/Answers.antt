@@ -1,4 +1,4 @@
-use Rattle.std.proofs.Common.{◌-◌, arith, vec_len, vec_capacity}
+use Rattle.std.proofs.Common.{arith}
 use Rattle.lpc_rows.specs.Shown.{tables_of}
 use Rattle.lpc_rows.proofs.Accepts as accepts
 use Rattle.lpc_rows.proofs.Steps as steps
@@ -23,7 +23,7 @@ returns-clause-none c =
     rw (← c.self.view_is, c.set_accepted.ensures.table) (accepts.leaves_if (tables_of c.self.inside.procs c.self.inside.parts.items c.self.inside.ports c.self.inside.waits c.self.inside.names c.self.inside.sections c.self.inside.tokens c.self.inside.token_names c.self.inside.marks) c.self.inside.calls c.self.inside.made c.args.tid c.self.invariant off c.args.accepted)
 
 pub returns-clause-room : goal.returns-clause-room
-returns-clause-room c = rw (← c.self.view_is, c.set_accepted.ensures.table) (accepts.accepted_room (tables_of c.self.inside.procs c.self.inside.parts.items c.self.inside.ports c.self.inside.waits c.self.inside.names c.self.inside.sections c.self.inside.tokens c.self.inside.token_names c.self.inside.marks) c.self.inside.calls c.self.inside.made c.args.tid c.self.invariant c.args.accepted (vec_capacity c.self.inside.parts - vec_len c.self.inside.parts))
+returns-clause-room c = rw (← c.self.view_is, c.set_accepted.ensures.table) (accepts.accepted_room (tables_of c.self.inside.procs c.self.inside.parts.items c.self.inside.ports c.self.inside.waits c.self.inside.names c.self.inside.sections c.self.inside.tokens c.self.inside.token_names c.self.inside.marks) c.self.inside.calls c.self.inside.made c.args.tid c.self.invariant c.args.accepted c.self.inside.parts.room)
 
 pub returns-clause-unqueued : goal.returns-clause-unqueued
 returns-clause-unqueued c = rw (← c.self.view_is, c.set_accepted.ensures.table) (accepts.accepted_unqueued (tables_of c.self.inside.procs c.self.inside.parts.items c.self.inside.ports c.self.inside.waits c.self.inside.names c.self.inside.sections c.self.inside.tokens c.self.inside.token_names c.self.inside.marks) c.self.inside.calls c.self.inside.made c.args.tid c.self.invariant c.args.accepted)

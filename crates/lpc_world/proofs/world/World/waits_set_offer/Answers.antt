@@ -1,4 +1,4 @@
-use Rattle.std.proofs.Common.{◌-◌, arith, refl, vec_len, vec_capacity}
+use Rattle.std.proofs.Common.{arith, refl}
 use Rattle.lpc_rows.specs.Shown.{tables_of}
 use Rattle.lpc_rows.proofs.Offering as offering
 use Rattle.lpc_rows.proofs.Steps as steps
@@ -18,5 +18,5 @@ returns-clause-step c = record {
   made =
       let owed = offering.offered_owed (tables_of c.self.inside.procs c.self.inside.parts.items c.self.inside.ports c.self.inside.waits c.self.inside.names c.self.inside.sections c.self.inside.tokens c.self.inside.token_names c.self.inside.marks) c.self.inside.calls c.self.inside.made c.args.tid c.self.invariant c.args.offer in
       rw (← c.self.view_is, c.set_offer.ensures.table) (omega (arith, owed));
-  room = rw (← c.self.view_is, c.set_offer.ensures.table) (offering.offered_room (tables_of c.self.inside.procs c.self.inside.parts.items c.self.inside.ports c.self.inside.waits c.self.inside.names c.self.inside.sections c.self.inside.tokens c.self.inside.token_names c.self.inside.marks) c.self.inside.calls c.self.inside.made c.args.tid c.self.invariant c.args.offer (vec_capacity c.self.inside.parts - vec_len c.self.inside.parts));
+  room = rw (← c.self.view_is, c.set_offer.ensures.table) (offering.offered_room (tables_of c.self.inside.procs c.self.inside.parts.items c.self.inside.ports c.self.inside.waits c.self.inside.names c.self.inside.sections c.self.inside.tokens c.self.inside.token_names c.self.inside.marks) c.self.inside.calls c.self.inside.made c.args.tid c.self.invariant c.args.offer c.self.inside.parts.room);
 }

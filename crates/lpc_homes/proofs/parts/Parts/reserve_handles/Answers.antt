@@ -1,0 +1,44 @@
+use Rattle.lpc_numbers.specs.Numbered.{numbers}
+use Rattle.lpc_homes.proofs.Counted.{roomed_kept}
+use Rattle.lpc_homes.proofs.OnePart.{part_is, roomed_part}
+use Rattle.lpc_homes.proofs.parts.Parts.reserve_handles.Goals as goal
+
+pub returns-clause-parts : goal.returns-clause-parts
+returns-clause-parts c =
+    let at = part_is c.self.inside.parts.items c.args.pid c.place_of-place.result c.index_mut.result.now (rw (← c.self.view_is) at c.place_of-place.ensures) c.index_mut.ensures.value in
+    let roomed = roomed_part c.self.inside.parts.items c.args.pid c.place_of-place.result c.index_mut.result.now c.reserve-made.new.self (rw (← c.self.view_is) at c.requires.one) at c.reserve-made.ensures.rows in
+    rw (← c.self.view_is, roomed.spare_is) roomed.parts_are
+
+pub returns-clause-room : goal.returns-clause-room
+returns-clause-room c =
+    let at = part_is c.self.inside.parts.items c.args.pid c.place_of-place.result c.index_mut.result.now (rw (← c.self.view_is) at c.place_of-place.ensures) c.index_mut.ensures.value in
+    let roomed = roomed_part c.self.inside.parts.items c.args.pid c.place_of-place.result c.index_mut.result.now c.reserve-made.new.self (rw (← c.self.view_is) at c.requires.one) at c.reserve-made.ensures.rows in
+    rw roomed.spare_is c.reserve-made.ensures.room
+
+pub returns-clause-wanting : goal.returns-clause-wanting
+returns-clause-wanting c =
+    let at = part_is c.self.inside.parts.items c.args.pid c.place_of-place.result c.index_mut.result.now (rw (← c.self.view_is) at c.place_of-place.ensures) c.index_mut.ensures.value in
+    rw (← c.self.view_is, at.is_first) c.reserve-made.ensures.wanting
+
+pub returns-clause-spare : goal.returns-clause-spare
+returns-clause-spare c =
+    let at = part_is c.self.inside.parts.items c.args.pid c.place_of-place.result c.index_mut.result.now (rw (← c.self.view_is) at c.place_of-place.ensures) c.index_mut.ensures.value in
+    let roomed = roomed_part c.self.inside.parts.items c.args.pid c.place_of-place.result c.index_mut.result.now c.reserve-made.new.self (rw (← c.self.view_is) at c.requires.one) at c.reserve-made.ensures.rows in
+    rw (← c.self.view_is, roomed.spare_is, at.is_first) c.reserve-made.ensures.spare
+
+pub returns-clause-most : goal.returns-clause-most
+returns-clause-most c =
+    let at = part_is c.self.inside.parts.items c.args.pid c.place_of-place.result c.index_mut.result.now (rw (← c.self.view_is) at c.place_of-place.ensures) c.index_mut.ensures.value in
+    let roomed = roomed_part c.self.inside.parts.items c.args.pid c.place_of-place.result c.index_mut.result.now c.reserve-made.new.self (rw (← c.self.view_is) at c.requires.one) at c.reserve-made.ensures.rows in
+    rw (← c.self.view_is, roomed.spare_is, at.is_first) c.reserve-made.ensures.most
+
+pub returns-clause-enough : goal.returns-clause-enough
+returns-clause-enough c =
+    let at = part_is c.self.inside.parts.items c.args.pid c.place_of-place.result c.index_mut.result.now (rw (← c.self.view_is) at c.place_of-place.ensures) c.index_mut.ensures.value in
+    let roomed = roomed_part c.self.inside.parts.items c.args.pid c.place_of-place.result c.index_mut.result.now c.reserve-made.new.self (rw (← c.self.view_is) at c.requires.one) at c.reserve-made.ensures.rows in
+    rw (← c.self.view_is, roomed.spare_is, at.is_first) c.reserve-made.ensures.enough
+
+pub invariant_of-self : goal.invariant_of-self
+invariant_of-self c =
+    let at = part_is c.self.inside.parts.items c.args.pid c.place_of-place.result c.index_mut.result.now (rw (← c.self.view_is) at c.place_of-place.ensures) c.index_mut.ensures.value in
+    rw c.promise.ensures (roomed_kept c.self.inside.parts.items (numbers c.self.inside.places.entries) c.self.inside.counts c.args.pid c.place_of-place.result c.index_mut.result.now c.reserve-made.new.self (rw (← c.self.view_is) at c.requires.one) at c.reserve-made.ensures.rows c.self.invariant)

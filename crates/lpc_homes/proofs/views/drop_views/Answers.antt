@@ -1,7 +1,0 @@
-use Rattle.lpc_homes.proofs.OnePart.{emptied_part, part_is}
-use Rattle.lpc_homes.proofs.views.drop_views.Goals as goal
-
-pub returns-clause-parts : goal.returns-clause-parts
-returns-clause-parts c =
-    let at = part_is c.args.parts.now.items c.args.pid c.place_of-index.result c.index_mut.result.now (rw c.deref.ensures.value at c.place_of-index.ensures) c.index_mut.ensures.value in
-    emptied_part c.args.parts.now.items c.args.pid c.place_of-index.result c.index_mut.result.now c.clear.new.self c.requires.one at c.clear.ensures.views c.clear.ensures.spare

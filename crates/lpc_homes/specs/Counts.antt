@@ -1,0 +1,42 @@
+-- How many handles name each object, as it is kept.
+use Rattle.std.specs.Prelude.{ℕ, ◌≡◌, ◌+◌, ◌<◌, Bool, true, not, nat_lt, List, length, map, if◌then◌else◌, unwrap_or}
+use Rattle.std.specs.Map.{lookup}
+use Rattle.lpc_base.specs.Rows.{count, every}
+use Rattle.lpc_base.specs.declared.limits.TheConstants.{HANDLE_LIMIT}
+use Rattle.lpc_numbers.specs.Numbered.{numbers}
+use Rattle.lpc_homes.specs.Parts.{all_rows, is_object, names_it}
+use Rattle.lpc_homes.specs.declared.object.Object.{Object}
+use Rattle.lpc_homes.specs.declared.parts.Part.{Part}
+
+-- the objects that are named with their counts, and whether each handle was counted
+pub record Counted : Type 0 where
+  pub entries : List (Object × ℕ)
+  pub whole : Bool
+
+-- the count of an object, 0 of one that has none
+abbrev pub count_in : List (Object × ℕ) → Object → ℕ
+count_in entries o = unwrap_or (lookup (λ key. is_object key o) entries) 0
+
+-- what one handle adds to the count of an object
+abbrev pub one_for : Object → Object → ℕ
+one_for o object = if is_object o object then 1 else 0
+
+-- one handle more names the object, and one less, as long as each is counted
+pub record Gains (object : Object) (old new : Counted) : Type 0 where
+  pub whole : old.whole ≡ true
+  pub counts : (o : Object) → count_in new.entries o ≡ count_in old.entries o + one_for o object
+
+pub record Loses (object : Object) (old new : Counted) : Type 0 where
+  pub whole : old.whole ≡ true
+  pub counts : (o : Object) → count_in new.entries o + one_for o object ≡ count_in old.entries o
+
+-- a part has no more handles than a process may have
+abbrev pub is_within : Part → Bool
+is_within part = not (nat_lt HANDLE_LIMIT (length part.handles.rows))
+
+-- Each part stands at the place of its number, and where each handle was counted, an object's count is that of its
+-- handles.
+pub record AreCounted (parts : List Part) (places : List ℕ) (counts : Counted) : Type 0 where
+  pub placed : places ≡ map (λ part. part.process) parts
+  pub within : every is_within parts ≡ true
+  pub counted : counts.whole ≡ true → (o : Object) → count_in counts.entries o ≡ count (names_it o) (all_rows parts)
