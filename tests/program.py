@@ -489,8 +489,8 @@ def memory_runs_out(program):
 
 
 def growth():
-    """Ten times the lines take about ten times as long, where a script leaves as many rows as it finds, and where it makes
-    processes alone. Lines on a view take as long whatever the size of its section."""
+    """Ten times the lines take about ten times as long, where a script leaves as many rows as it finds, where it makes
+    processes alone, and where it makes and ends them. Lines on a view take as long whatever the size of its section."""
     scripts = (
         bench.requests,
         bench.datagrams,
@@ -504,7 +504,8 @@ def growth():
     )
     for script in scripts:
         yield f"time grows with the lines: {script.__name__}", grows_with_lines(script, TIMES_LONGER)
-    yield "time grows with the lines: boots", grows_with_lines(bench.boots, TIMES_LONGER_WITH_ROWS)
+    for script in bench.boots, bench.creations:
+        yield f"time grows with the lines: {script.__name__}", grows_with_lines(script, TIMES_LONGER_WITH_ROWS)
     yield "time doesn't grow with a section's size", grows_not_with_sections
 
 
