@@ -231,6 +231,13 @@ impl Waits {
         self.rows.len()
     }
 
+    /// The rows of all waits. Places go from 0 in the order of waiting.
+    pub fn rows(&self) -> &[WaitRow]
+        ensures rows { result.now ≡ self.now.rows }
+    {
+        &self.rows
+    }
+
     /// The wait of a thread: None exactly where it has none.
     pub fn of(&self, tid: u32) -> Option<&Wait>
         ensures value { option_copied result ≡ option_map (λ row. row.wait) (row_of self.now tid) }
