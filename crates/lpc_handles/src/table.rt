@@ -116,6 +116,13 @@ impl<O: Copy> Table<O> {
         self.rows.len()
     }
 
+    /// The handles, each by its value with what it names and grants. Places go from 0 by rising value.
+    pub fn rows(&self) -> &[(u32, Row<O>)]
+        ensures rows { result.now ≡ self.now.rows }
+    {
+        &self.rows
+    }
+
     /// How many further handles there is room for.
     pub fn spare(&self) -> usize
         ensures { result ≡ self.now.spare }
