@@ -67,6 +67,13 @@ impl<P: Copy + Eq> Space<P> {
         reserve_rows(&mut self.views, more)
     }
 
+    /// The views. Places go from 0 in the order of making.
+    pub fn views(&self) -> &[View<P>]
+        ensures views { result.now ≡ self.now.views }
+    {
+        &self.views
+    }
+
     /// The view that `map` would give a part of a section, or its fault; nothing is mapped. The section is present, and
     /// the offset is a multiple of 4096.
     pub fn view_for(
