@@ -1,5 +1,5 @@
 // The names of tokens, by which processes that are yet to come are given theirs.
-ghost use Rattle.std.specs.Prelude.{◌≡◌, ◌+◌, ◌<◌, ◌≤◌, ◌++◌, ◌∷◌, [], length, option_copied, None, OnErr, OnOk};
+ghost use Rattle.std.specs.Prelude.{◌≡◌, ◌+◌, ◌<◌, ◌≤◌, ◌++◌, ◌∷◌, [], length, option_copied, slice_get, None, Some, OnErr, OnOk};
 ghost use Rattle.lpc_tokens.specs.Names.{named};
 
 use arrayvec::ArrayVec;
@@ -77,6 +77,25 @@ impl TokenNames {
         match self.names.insert(key_of(name), token) {
             Ok(_) => {}
             Err(_) => unreachable!(),
+        }
+    }
+
+    /// How many tokens have names.
+    pub fn count(&self) -> usize
+        ensures { result ≡ length self.now.rows }
+    {
+        self.names.len()
+    }
+
+    /// The name at a place, and its token. Places go from 0 in the order in which the tokens got their names.
+    pub fn name_at(&self, place: usize) -> (&[u8], &Token)
+        requires { place < length self.now.rows }
+        ensures { slice_get self.now.rows place
+            ≡ Some (record { name = result.0.now; token = result.1.now }) }
+    {
+        match self.names.get_index(place) {
+            Some((name, token)) => (name.as_slice(), token),
+            None => unreachable!(),
         }
     }
 
