@@ -111,6 +111,13 @@ impl Parts {
         });
     }
 
+    /// The parts of all processes, each with its handles and its views. Places go from 0 in the order of making.
+    pub fn items(&self) -> &[Part]
+        ensures items { result.now ≡ self.now.items }
+    {
+        &self.parts
+    }
+
     /// Where the part of a process stands.
     pub(crate) fn place_of(&self, pid: u32) -> usize
         requires { has (is_part pid) self.now.items ≡ true }
