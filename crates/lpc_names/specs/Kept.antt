@@ -1,4 +1,4 @@
--- How the code keeps paths: as texts without links. No public clause cites this module.
+-- How the code keeps paths: as texts without links. Of the public clauses that of `binding_at` alone cites this module.
 use Rattle.std.specs.Prelude.{◌≡◌, ℕ, suc, Bool, true, false, ◌==◌, if◌then◌else◌, List, [], ◌∷◌, ◌++◌, map, MatchResult, Option, Result, Ok, Err}
 use Rattle.std.specs.Borrow.{Bor}
 use Rattle.std.specs.Option.{option_copied, option_map}

@@ -11,4 +11,4 @@ pub use laws::{
     law_binding_changes_one_path, law_bound_is_found, law_linked_path_leads_as_direct,
     law_unbound_is_not_found,
 };
-pub use names::{Found, Names};
+pub use names::{Found, Names, Node};

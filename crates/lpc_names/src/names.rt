@@ -1,5 +1,5 @@
 // The name space: a table from paths without links to what stands there, and the walk that finds them.
-ghost use Rattle.std.specs.Prelude.{◌≡◌, ◌≢◌, ◌+◌, ◌<◌, ◌≤◌, length, Err, None, IfErr, IfOk, IsOk, OnOk, OnErr, [], not};
+ghost use Rattle.std.specs.Prelude.{◌≡◌, ◌≢◌, ◌+◌, ◌<◌, ◌≤◌, length, slice_get, Err, None, Some, IfErr, IfOk, IsOk, OnOk, OnErr, [], not};
 ghost use Rattle.lpc_names.specs.Path.{IsWithinPath, parts_of};
 ghost use Rattle.lpc_names.specs.Walk as names;
 ghost use Rattle.lpc_names.specs.Binding as binding;
@@ -234,6 +234,26 @@ impl<T: Copy + Eq> Names<T> {
             }
         }
         false
+    }
+
+    /// How many names are bound.
+    pub fn count(&self) -> usize
+        ensures { result ≡ length self.now.bindings }
+    {
+        self.nodes.len()
+    }
+
+    /// The binding at a place: its path, as a text without the first backslash, and what stands there. Places go from 0
+    /// in the order of binding.
+    pub fn binding_at(&self, place: usize) -> (&[u8], &Node<T>)
+        requires { place < length self.now.bindings }
+        ensures { slice_get self.now.bindings place
+            ≡ Some (parts_of result.0.now, shown_node result.1.now) }
+    {
+        match self.nodes.get_index(place) {
+            Some((path, node)) => (path.as_slice(), node),
+            None => unreachable!(),
+        }
     }
 
     /// Whether a new name can be bound at a path: the fault that `bind` would answer, if there is one.
