@@ -556,6 +556,22 @@ impl Procs {
         }
     }
 
+    /// The process at a place. Places go from 0 in the order of making.
+    pub fn process_at(&self, place: usize) -> &ProcessRow
+        requires place { place < length self.now.processes }
+        ensures process { slice_get self.now.processes place ≡ Some result.now }
+    {
+        &self.processes[place].row
+    }
+
+    /// The thread at a place. Places go from 0 in the order of making.
+    pub fn thread_at(&self, place: usize) -> &ThreadRow
+        requires place { place < length self.now.threads }
+        ensures thread { slice_get self.now.threads place ≡ Some result.now }
+    {
+        &self.threads[place]
+    }
+
     /// The name of the thread at a place, and whether it is live. Places go from 0 in the order of making.
     pub fn thread_in(&self, place: usize) -> Life
         requires place { place < length self.now.threads }
