@@ -8,7 +8,7 @@ ghost use Rattle.lpc_base.specs.declared.limits.TheConstants.{MESSAGE_LIMIT};
 ghost use Rattle.lpc_slots.specs.Chain.{IsDistinct};
 ghost use Rattle.lpc_slots.specs.Table.{at_key, keys_of};
 ghost use Rattle.lpc_ports.specs.Lent.{IsQueue, IsSent, messages_of, queued_of};
-ghost use Rattle.lpc_ports.specs.Table.{LeavesOthers, LosesFirst, PullsFirst, first_connect_in, first_in, first_of, first_own_of, has_none_in, is_asking, is_client, is_closing, is_connect_in, is_connected_to, is_datagram_of, is_in, is_joined_to, is_message_at, is_named, is_own_of, is_paired_to, is_sent_on, is_the, message_at, new_port, nothing, pair_of, paired, parted, queue_at, queued, row_at, unpaired, with_changed, with_completed, with_creator, with_joined, with_port, with_room, with_security, with_sent, without_message, without_messages, without_port};
+ghost use Rattle.lpc_ports.specs.Table.{LeavesOthers, LosesFirst, PullsFirst, QueuedMessage, first_connect_in, first_in, first_of, first_own_of, has_none_in, is_asking, is_client, is_closing, is_connect_in, is_connected_to, is_datagram_of, is_in, is_joined_to, is_message_at, is_named, is_own_of, is_paired_to, is_sent_on, is_the, message_at, new_port, nothing, pair_of, paired, parted, queue_at, queued, row_at, unpaired, with_changed, with_completed, with_creator, with_joined, with_port, with_room, with_security, with_sent, without_message, without_messages, without_port};
 
 mod messages;
 mod rows;
@@ -192,6 +192,33 @@ impl Ports {
     {
         let (key, _) = self.ports.row(place);
         key
+    }
+
+    /// The port at a place, and its key. Places go from 0 in the order of making.
+    pub fn port_at(&self, place: usize) -> (Key, &Port)
+        requires { place < length self.now.ports }
+        ensures { slice_get self.now.ports place ≡ Some (result.0, result.1.now) }
+    {
+        let (key, row) = self.ports.row(place);
+        (key, &row.port)
+    }
+
+    /// How many messages stand in queues.
+    pub fn messages(&self) -> usize
+        ensures { result ≡ length self.now.messages }
+    {
+        self.blocks.count()
+    }
+
+    /// The message at a place, and the key of the port in whose queue it stands. Places go from 0 in the order of
+    /// sending.
+    pub fn message_at(&self, place: usize) -> (Key, &Message)
+        requires { place < length self.now.messages }
+        ensures { let row : QueuedMessage = record { queue = result.0; message = result.1.now } in
+            option_map (λ kept. kept.1) (slice_get self.now.messages place) ≡ Some row }
+    {
+        let (_, block) = self.blocks.row(place);
+        (block.queue, &block.message)
     }
 
     /// The birth of a port that has a row.
