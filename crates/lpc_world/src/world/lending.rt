@@ -7,19 +7,19 @@ ghost use Rattle.lpc_model.specs.Tests.{handle_load};
 ghost use Rattle.lpc_rows.specs.Kept.{CALL_BUDGET, OwnPend};
 ghost use Rattle.lpc_rows.specs.Lawful.{AreBornIn, are_single};
 ghost use Rattle.lpc_rows.specs.Names.{are_apart};
-ghost use Rattle.lpc_rows.specs.Shown.{port_names, section_names, shown_binding, shown_handle, shown_message, shown_port, shown_process, shown_section, shown_thread, shown_token, shown_used, shown_wait, token_births, wait_refs};
+ghost use Rattle.lpc_rows.specs.Shown.{binding_refs, message_refs, part_refs, port_names, port_refs, section_names, shown_binding, shown_handle, shown_message, shown_part, shown_port, shown_process, shown_section, shown_space, shown_thread, shown_token, shown_token_name, shown_used, shown_wait, space_refs, token_births, wait_refs};
 ghost use Rattle.lpc_rows.specs.Clauses.{all_stand, shown_in};
 ghost use Rattle.lpc_slots.specs.Table.{listed};
 
 use crate::world::World;
 use lpc_handles::Table;
-use lpc_homes::Object;
+use lpc_homes::{Object, Part};
 use lpc_names::Names;
 use lpc_ports::Ports;
 use lpc_procs::Procs;
 use lpc_sections::Section;
 use lpc_slots::{Key, Slots};
-use lpc_tokens::TokenRow;
+use lpc_tokens::{TokenNames, TokenRow};
 use lpc_waits::Waits;
 
 impl World {
@@ -43,6 +43,8 @@ impl World {
         ensures ports { self.now.rows.ports ≡ shown_in self.now shown_port result.now.ports }
         ensures messages { self.now.rows.messages
             ≡ shown_in self.now shown_message result.now.messages }
+        ensures ports_stand { all_stand self.now port_refs result.now.ports ≡ true }
+        ensures messages_stand { all_stand self.now message_refs result.now.messages ≡ true }
     {
         &self.ports
     }
@@ -65,6 +67,13 @@ impl World {
         &self.tokens
     }
 
+    /// The tokens that have names, with their names.
+    pub fn token_names(&self) -> &TokenNames
+        ensures names { self.now.rows.token_names ≡ map shown_token_name result.now.rows }
+    {
+        &self.token_names
+    }
+
     /// The waits of threads.
     pub fn waits(&self) -> &Waits
         ensures waits { self.now.rows.waits ≡ shown_in self.now shown_wait result.now.rows }
@@ -77,12 +86,31 @@ impl World {
         &self.waits
     }
 
+    /// The threads whose events are marked as not handled, by their numbers. Places go from 0 in the order of marking.
+    pub fn marks(&self) -> &[u32]
+        ensures marks { result.now ≡ self.now.rows.marks }
+    {
+        self.marks.list()
+    }
+
     /// The name space: directories, links, and ports.
     pub fn names(&self) -> &Names<Key>
         ensures bindings { self.now.rows.bindings
             ≡ shown_in self.now shown_binding result.now.bindings }
+        ensures stand { all_stand self.now binding_refs result.now.bindings ≡ true }
     {
         &self.names
+    }
+
+    /// The handles and the views of each process. Places go from 0 in the order in which the processes were made; a part
+    /// stays when its process goes.
+    pub fn parts(&self) -> &[Part]
+        ensures handles { self.now.rows.handles ≡ shown_in self.now shown_part result.now }
+        ensures views { self.now.rows.views ≡ shown_in self.now shown_space result.now }
+        ensures handles_stand { all_stand self.now part_refs result.now ≡ true }
+        ensures views_stand { all_stand self.now space_refs result.now ≡ true }
+    {
+        self.parts.items()
     }
 
     /// The handles of a process that stands.

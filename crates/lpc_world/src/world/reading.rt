@@ -8,12 +8,13 @@ ghost use Rattle.lpc_model.specs.World.{Request};
 ghost use Rattle.lpc_rows.specs.Lawful.{are_single};
 ghost use Rattle.lpc_rows.specs.Names.{are_apart, some_stands, stands};
 ghost use Rattle.lpc_rows.specs.Callers.{as_caller};
-ghost use Rattle.lpc_rows.specs.Shown.{object_stands, shown_creator};
+ghost use Rattle.lpc_rows.specs.Shown.{birth_of, object_stands, shown_creator};
 ghost use Rattle.lpc_rows.specs.Kept.{OwnPend, has_queued, is_alive, is_pending_in};
 ghost use Rattle.lpc_rows.specs.Ready.{HasRow, IsWait, caller, is_ready, waiter};
 ghost use Rattle.lpc_rows.specs.Clauses.{Finds, FindsWait, IsOwnWait, birth_at, has_process, has_table, is_quiet_for, oldest, port_at, row_at, row_shown, some_birth, takes_at, thread_row};
 
 use crate::world::World;
+use lpc_base::Birth;
 use lpc_handles::Row;
 use lpc_homes::Object;
 use lpc_ports::Port;
@@ -135,6 +136,20 @@ impl World {
         match self.ports.get(port) {
             Some(row) => row,
             None => unreachable!(),
+        }
+    }
+
+    /// The birth of an object that stands.
+    pub fn birth_of(&self, object: Object) -> Birth
+        requires { object_stands self.now.births object ≡ true }
+        ensures { result ≡ birth_of self.now.births object }
+    {
+        match object {
+            Object::Port(port) => self.port(port).birth,
+            Object::Process(birth) => birth,
+            Object::Thread(birth) => birth,
+            Object::Section(section) => self.section(section).birth(),
+            Object::Token(token) => self.token(token).birth,
         }
     }
 
