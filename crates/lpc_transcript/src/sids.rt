@@ -11,7 +11,10 @@ use arrayvec::ArrayString;
 use lpc_base::OutOfMemory;
 use lpc_sid::Sid;
 
-fn put_sid(into: &mut Vec<u8>, sid: &Sid) -> Result<(), OutOfMemory>
+/// The spelling of a SID.
+///
+/// OutOfMemory comes only where there was no room for it; the text begins as it was then.
+pub fn put_sid(into: &mut Vec<u8>, sid: &Sid) -> Result<(), OutOfMemory>
     ensures ok { Puts into.old.items into.new.items (spelling sid.now) result }
     ensures err { OnErr result (BeginsWith into.new.items into.old.items) }
     ensures capacity { vec_capacity into.old ≤ vec_capacity into.new }

@@ -76,9 +76,11 @@ pub(crate) fn put_bytes(into: &mut Vec<u8>, bytes: &[u8]) -> Result<(), OutOfMem
     put(into, digits)
 }
 
-/// The bytes of a memory read as pairs of hexadecimal digits, written where they are to stand: there may be too many
-/// for a buffer on the stack.
-pub(crate) fn put_read(into: &mut Vec<u8>, bytes: &[u8]) -> Result<(), OutOfMemory>
+/// Bytes as pairs of hexadecimal digits, written where they are to stand: there may be too many for a buffer on the
+/// stack.
+///
+/// OutOfMemory comes only where there was no room for them; the text begins as it was then.
+pub fn put_read(into: &mut Vec<u8>, bytes: &[u8]) -> Result<(), OutOfMemory>
     ensures ok { Puts into.old.items into.new.items (encode_lower bytes.now) result }
     ensures err { OnErr result (BeginsWith into.new.items into.old.items) }
     ensures capacity { vec_capacity into.old ≤ vec_capacity into.new }
@@ -95,7 +97,7 @@ pub(crate) fn put_read(into: &mut Vec<u8>, bytes: &[u8]) -> Result<(), OutOfMemo
 }
 
 /// The word for a kind of object.
-pub(crate) fn kind_name(kind: ObjectKind) -> &'static [u8]
+pub fn kind_name(kind: ObjectKind) -> &'static [u8]
     ensures { result.now ≡ kind_text kind }
 {
     match kind {
