@@ -4,10 +4,11 @@ ghost use Rattle.lpc_base.specs.Rows.{every, has};
 ghost use Rattle.lpc_base.specs.declared.limits.TheConstants.{HANDLE_LIMIT, LINES_LIMIT};
 ghost use Rattle.lpc_model.specs.Found.{handles_of, is_table, is_taken, objects};
 ghost use Rattle.lpc_model.specs.Tests.{handle_load};
+ghost use Rattle.lpc_model.specs.World.{Known};
 ghost use Rattle.lpc_rows.specs.Kept.{CALL_BUDGET, OwnPend};
 ghost use Rattle.lpc_rows.specs.Lawful.{AreBornIn, are_single};
 ghost use Rattle.lpc_rows.specs.Names.{are_apart};
-ghost use Rattle.lpc_rows.specs.Shown.{binding_refs, message_refs, part_refs, port_names, port_refs, section_names, shown_binding, shown_handle, shown_message, shown_part, shown_port, shown_process, shown_section, shown_space, shown_thread, shown_token, shown_token_name, shown_used, shown_wait, space_refs, token_births, wait_refs};
+ghost use Rattle.lpc_rows.specs.Shown.{binding_refs, message_refs, part_refs, port_names, port_refs, section_names, shown_binding, shown_content, shown_handle, shown_message, shown_part, shown_port, shown_process, shown_section, shown_space, shown_thread, shown_token, shown_token_name, shown_used, shown_wait, space_refs, token_births, wait_refs};
 ghost use Rattle.lpc_rows.specs.Clauses.{all_stand, shown_in};
 ghost use Rattle.lpc_slots.specs.Table.{listed};
 
@@ -54,6 +55,8 @@ impl World {
         ensures births { self.now.births.sections ≡ section_names result.now }
         ensures apart { are_apart self.now.births.sections ≡ true }
         ensures sections { self.now.rows.sections ≡ map shown_section (listed result.now) }
+        ensures contents { self.now.rows.contents
+            ≡ Known (map shown_content (listed result.now)) }
     {
         &self.sections
     }
