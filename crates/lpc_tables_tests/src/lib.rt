@@ -23,6 +23,8 @@ mod ports;
 #[cfg(test)]
 mod procs;
 #[cfg(test)]
+mod rows;
+#[cfg(test)]
 mod sections;
 #[cfg(test)]
 mod server;
