@@ -1,5 +1,5 @@
-//! Tests of the lists of entries, of the lines of a script and of the text of a transcript: what no clause says. They
-//! stand in a crate of their own, so that each crate that they test is proved once.
+//! Tests of the lists of entries, of the lines of a script, and of the text of a transcript and of rows: what no clause
+//! says. They stand in a crate of their own, so that each crate that they test is proved once.
 #![tactic(auto)]
 
 #[cfg(test)]
@@ -16,6 +16,8 @@ mod ranges;
 mod residents;
 #[cfg(test)]
 mod script;
+#[cfg(test)]
+mod states;
 #[cfg(test)]
 mod tokens;
 #[cfg(test)]

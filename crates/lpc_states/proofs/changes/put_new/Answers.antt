@@ -1,0 +1,18 @@
+use Rattle.std.proofs.Common.{◌≡◌, sym, ◌∙◌, ap, true, false, is_some}
+use Rattle.lpc_base.specs.Rows.{has}
+use Rattle.lpc_model.specs.Script.{script_lines}
+use Rattle.lpc_states.specs.Changes.{is_named}
+use Rattle.lpc_states.proofs.Searching.{by_name, new_came, new_changed}
+use Rattle.lpc_states.proofs.changes.put_new.Goals as goal
+
+pub returns-in-Some : goal.returns-in-Some
+returns-in-Some c =
+    let named : has (is_named c.name_of.result.now) (script_lines c.args.before.now) ≡ true = sym (by_name c.name_of.result.now (script_lines c.args.before.now)) ∙ (sym c.walk.ensures.found ∙ ap is_some c.in-Some.is) in
+    let changed = new_changed c.args.line (script_lines c.args.before.now) c.args.row.now c.requires.new (rw (sym c.name_of.ensures) named) in
+    rw changed c.put_told.ensures
+
+pub returns-in-None : goal.returns-in-None
+returns-in-None c =
+    let named : has (is_named c.name_of.result.now) (script_lines c.args.before.now) ≡ false = sym (by_name c.name_of.result.now (script_lines c.args.before.now)) ∙ (sym c.walk.ensures.found ∙ ap is_some c.in-None.is) in
+    let came = new_came c.args.line (script_lines c.args.before.now) c.args.row.now c.requires.new (rw (sym c.name_of.ensures) named) in
+    rw came c.put_told-in-None.ensures

@@ -1,0 +1,9 @@
+use Rattle.std.proofs.Common.{◌≡◌, ◌++◌, take}
+use Rattle.std.specs.List.{flat_map}
+use Rattle.lpc_states.specs.Values.{behind_comma, sid_text}
+use Rattle.lpc_states.proofs.tokens.put_further_sids.Given as goal
+
+abbrev pub invariant-loop-sid : goal.invariant-loop-sid
+invariant-loop-sid l = record {
+  text : l.into.items ≡ l.initial.into.items ++ flat_map (behind_comma sid_text) (take l.sid-index l.sids);
+}
