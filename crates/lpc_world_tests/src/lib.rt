@@ -23,6 +23,8 @@ mod ranges;
 #[cfg(test)]
 mod request;
 #[cfg(test)]
+mod rows;
+#[cfg(test)]
 mod tokens;
 #[cfg(test)]
 mod views;

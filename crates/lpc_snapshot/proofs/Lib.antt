@@ -1,0 +1,7 @@
+mod Loops
+mod Paths
+mod Pieces
+mod Places
+mod Refs
+mod Tables
+mod Zeros

@@ -1,0 +1,14 @@
+use Rattle.lpc_states.specs.Values.{creator_text}
+use Rattle.lpc_states.proofs.Puts.{puts_last, puts_more}
+use Rattle.lpc_snapshot.proofs.ports.put_creator.Goals as goal
+
+pub returns : goal.returns
+unfolding creator_text
+returns c =
+    puts_more _ _ _ _ _ _ c.in_ok-put.ensures.ok
+    (puts_more _ _ _ _ _ _ c.in_ok-put_decimal.ensures
+    (puts_more _ _ _ _ _ _ c.in_ok-put-2.ensures.ok
+    (puts_more _ _ _ _ _ _ c.in_ok-put_decimal-2.ensures
+    (puts_more _ _ _ _ _ _ c.in_ok-put-3.ensures.ok
+    (puts_more _ _ _ _ _ _ c.in_ok-put_decimal-3.ensures
+    (puts_last _ _ _ _ c.put-4.ensures.ok))))))

@@ -1,0 +1,159 @@
+// Processes and threads.
+ghost use Rattle.std.specs.Prelude.{◌≡◌, ◌<◌, Some, length, map, option_copied, option_map, slice_get};
+ghost use Rattle.std.specs.List.{flat_map};
+ghost use Rattle.lpc_rows.specs.Shown.{shown_process, shown_thread};
+ghost use Rattle.lpc_transcript.specs.Printing.{Puts};
+ghost use Rattle.lpc_states.specs.Rows.{lines, process_row, thread_row};
+ghost use Rattle.lpc_states.specs.Values.{behind_comma, impersonation_text, listed, or_null, port_text};
+
+use crate::counts::put_counts;
+use lpc_base::{Birth, OutOfMemory};
+use lpc_model::ObjectKind;
+use lpc_procs::{ProcessRow, Registration, ThreadRow};
+use lpc_states::{
+    put_decimal, put_flag, put_hex_or_null, put_leveled, put_number_or_null, put_object,
+    put_port_or_null, put_token,
+};
+use lpc_tokens::Impersonation;
+use lpc_transcript::put;
+use lpc_world::{Object, World};
+
+// The name of a port that is told of exceptions.
+fn event_port(port: Option<Registration>) -> Option<Birth>
+    ensures { result ≡ option_map (λ r. r.birth) port }
+{
+    match port {
+        Some(port) => Some(port.birth),
+        None => None,
+    }
+}
+
+fn put_process(into: &mut Vec<u8>, world: &World, process: &ProcessRow) -> Result<(), OutOfMemory>
+    ensures { Puts into.old.items into.new.items
+        (process_row world.now.rows (shown_process process.now)) result }
+{
+    put_object(into, ObjectKind::Process, process.birth)?;
+    put(into, b",\"number\":")?;
+    put_decimal(into, process.number)?;
+    put(into, b",\"maker\":")?;
+    put_number_or_null(into, process.maker)?;
+    put(into, b",\"token\":")?;
+    put_token(into, &process.token)?;
+    put(into, b",\"debug_port\":")?;
+    put_port_or_null(into, event_port(process.debug_port))?;
+    put(into, b",\"exception_port\":")?;
+    put_port_or_null(into, event_port(process.exception_port))?;
+    put(into, b",\"doom\":")?;
+    put_hex_or_null(into, process.doom)?;
+    put_counts(into, world, Object::Process(process.birth))?;
+    put(into, b"\n")
+}
+
+// The process at a place, in the order of making.
+fn process_at(world: &World, place: usize) -> &ProcessRow
+    requires { place < length world.now.rows.processes }
+    ensures { slice_get world.now.rows.processes place ≡ Some (shown_process result.now) }
+{
+    world.procs().process_at(place)
+}
+
+/// The processes, a line each.
+pub(crate) fn put_processes(into: &mut Vec<u8>, world: &World) -> Result<(), OutOfMemory>
+    ensures { Puts into.old.items into.new.items
+        (lines (process_row world.now.rows) world.now.rows.processes) result }
+{
+    for place in 0..world.procs().processes() {
+        put_process(into, world, process_at(world, place))?;
+    }
+    Ok(())
+}
+
+#[tactic(auto, using(std::proofs::Common::append_assoc))]
+fn put_further_port(into: &mut Vec<u8>, port: &Registration) -> Result<(), OutOfMemory>
+    ensures { Puts into.old.items into.new.items
+        (behind_comma port_text (port.now).birth) result }
+{
+    put(into, b",")?;
+    put_object(into, ObjectKind::Port, port.birth)
+}
+
+#[tactic(auto, using(std::proofs::Common::append_assoc))]
+fn put_further_ports(into: &mut Vec<u8>, ports: &[Registration]) -> Result<(), OutOfMemory>
+    ensures { Puts into.old.items into.new.items
+        (flat_map (behind_comma port_text) (map (λ r. r.birth) ports.now)) result }
+{
+    for port in ports {
+        put_further_port(into, port)?;
+    }
+    Ok(())
+}
+
+// The ports that a thread registered.
+#[tactic(auto, using(std::proofs::Common::append_assoc))]
+fn put_registrations(into: &mut Vec<u8>, ports: &[Registration]) -> Result<(), OutOfMemory>
+    ensures { Puts into.old.items into.new.items
+        (listed port_text (map (λ r. r.birth) ports.now)) result }
+{
+    match ports {
+        [] => put(into, b"[]"),
+        [first, others @ ..] => {
+            put(into, b"[")?;
+            put_object(into, ObjectKind::Port, first.birth)?;
+            put_further_ports(into, others)?;
+            put(into, b"]")
+        }
+    }
+}
+
+// The token as which a thread acts.
+fn put_own(into: &mut Vec<u8>, own: Option<&Impersonation>) -> Result<(), OutOfMemory>
+    ensures { Puts into.old.items into.new.items
+        (or_null impersonation_text (option_copied own.entry)) result }
+{
+    match own {
+        Some(own) => put_leveled(into, &own.token, Some(own.level)),
+        None => put(into, b"null"),
+    }
+}
+
+fn put_thread(into: &mut Vec<u8>, world: &World, thread: &ThreadRow) -> Result<(), OutOfMemory>
+    ensures { Puts into.old.items into.new.items
+        (thread_row world.now.rows (shown_thread thread.now)) result }
+{
+    put_object(into, ObjectKind::Thread, thread.birth)?;
+    put(into, b",\"number\":")?;
+    put_decimal(into, thread.number)?;
+    put(into, b",\"process\":")?;
+    put_decimal(into, thread.process)?;
+    put(into, b",\"live\":")?;
+    put_flag(into, thread.live)?;
+    put(into, b",\"next_identifier\":")?;
+    put_decimal(into, thread.next_identifier)?;
+    put(into, b",\"next_ordinal\":")?;
+    put_decimal(into, thread.next_ordinal)?;
+    put(into, b",\"registrations\":")?;
+    put_registrations(into, thread.registered.as_slice())?;
+    put(into, b",\"acts_as\":")?;
+    put_own(into, thread.own.as_ref())?;
+    put_counts(into, world, Object::Thread(thread.birth))?;
+    put(into, b"\n")
+}
+
+// The thread at a place, in the order of making.
+fn thread_at(world: &World, place: usize) -> &ThreadRow
+    requires { place < length world.now.rows.threads }
+    ensures { slice_get world.now.rows.threads place ≡ Some (shown_thread result.now) }
+{
+    world.procs().thread_at(place)
+}
+
+/// The threads, a line each.
+pub(crate) fn put_threads(into: &mut Vec<u8>, world: &World) -> Result<(), OutOfMemory>
+    ensures { Puts into.old.items into.new.items
+        (lines (thread_row world.now.rows) world.now.rows.threads) result }
+{
+    for place in 0..world.procs().threads() {
+        put_thread(into, world, thread_at(world, place))?;
+    }
+    Ok(())
+}

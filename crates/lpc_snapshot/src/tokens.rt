@@ -1,0 +1,101 @@
+// Tokens, and the names of tokens.
+ghost use Rattle.std.specs.Prelude.{◌≡◌, ◌<◌, Some, length, slice_get, true};
+ghost use Rattle.lpc_rows.specs.Names.{name_of, stands};
+ghost use Rattle.lpc_rows.specs.Shown.{shown_token};
+ghost use Rattle.lpc_transcript.specs.Printing.{Puts};
+ghost use Rattle.lpc_states.specs.Rows.{lines, token_name_row, token_row};
+
+use crate::counts::put_counts;
+use lpc_base::OutOfMemory;
+use lpc_model::ObjectKind;
+use lpc_sid::Token;
+use lpc_slots::Key;
+use lpc_states::{put_name, put_number_or_null, put_object, put_token};
+use lpc_tokens::TokenRow;
+use lpc_transcript::put;
+use lpc_world::{Object, World};
+
+// The level of an impersonation token, none where it is a process's.
+fn level_of(token: &TokenRow) -> Option<u32>
+    ensures { result ≡ (token.now).level }
+{
+    match token.level {
+        Some(level) => Some(u32::from(level)),
+        None => None,
+    }
+}
+
+fn put_token_row(
+    into: &mut Vec<u8>,
+    world: &World,
+    key: Key,
+    token: &TokenRow,
+) -> Result<(), OutOfMemory>
+    requires stands { stands world.now.births.tokens key ≡ true }
+    requires name { name_of world.now.births.tokens key ≡ (token.now).birth }
+    ensures { Puts into.old.items into.new.items
+        (token_row world.now.rows (shown_token (key, token.now))) result }
+{
+    put_object(into, ObjectKind::Token, token.birth)?;
+    put(into, b",\"token\":")?;
+    put_token(into, &token.token)?;
+    put(into, b",\"level\":")?;
+    put_number_or_null(into, level_of(token))?;
+    put_counts(into, world, Object::Token(key))?;
+    put(into, b"\n")
+}
+
+// The token at a place, in the order of making.
+fn token_at(world: &World, place: usize) -> (Key, &TokenRow)
+    requires { place < length world.now.rows.tokens }
+    ensures row { slice_get world.now.rows.tokens place
+        ≡ Some (shown_token (result.0, result.1.now)) }
+    ensures stands { stands world.now.births.tokens result.0 ≡ true }
+    ensures name { name_of world.now.births.tokens result.0 ≡ (result.1.now).birth }
+{
+    world.tokens().row(place)
+}
+
+/// The tokens, a line each.
+pub(crate) fn put_tokens(into: &mut Vec<u8>, world: &World) -> Result<(), OutOfMemory>
+    ensures { Puts into.old.items into.new.items
+        (lines (token_row world.now.rows) world.now.rows.tokens) result }
+{
+    for place in 0..world.tokens().count() {
+        let (key, token) = token_at(world, place);
+        put_token_row(into, world, key, token)?;
+    }
+    Ok(())
+}
+
+fn put_token_name(into: &mut Vec<u8>, name: &[u8], token: &Token) -> Result<(), OutOfMemory>
+    ensures { Puts into.old.items into.new.items
+        (token_name_row (record { name = name.now; token = token.now })) result }
+{
+    put(into, b"\"token_name ")?;
+    put_name(into, name)?;
+    put(into, b"\",\"token\":")?;
+    put_token(into, token)?;
+    put(into, b"\n")
+}
+
+// The name of a token at a place, in the order of naming.
+fn token_name_at(world: &World, place: usize) -> (&[u8], &Token)
+    requires { place < length world.now.rows.token_names }
+    ensures { slice_get world.now.rows.token_names place
+        ≡ Some (record { name = result.0.now; token = result.1.now }) }
+{
+    world.token_names().name_at(place)
+}
+
+/// The names of tokens, a line each.
+pub(crate) fn put_token_names(into: &mut Vec<u8>, world: &World) -> Result<(), OutOfMemory>
+    ensures { Puts into.old.items into.new.items
+        (lines token_name_row world.now.rows.token_names) result }
+{
+    for place in 0..world.token_names().count() {
+        let (name, token) = token_name_at(world, place);
+        put_token_name(into, name, token)?;
+    }
+    Ok(())
+}
