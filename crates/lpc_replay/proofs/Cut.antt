@@ -6,7 +6,8 @@ use Rattle.lpc_base.specs.Streams.{Adds}
 use Rattle.lpc_model.specs.Lines.{ScriptLine}
 use Rattle.lpc_model.specs.Machine.{Stepped}
 use Rattle.lpc_model.specs.Run.{numbered_line, said_from, trace}
-use Rattle.lpc_model.specs.Transcript.{body_from}
+use Rattle.lpc_replay.specs.declared.form.Form.{Form}
+use Rattle.lpc_replay.specs.Forms.{steps_told}
 use Rattle.lpc_replay.specs.Playing.{step_at, Progress, behind_line, steps_of}
 use Rattle.lpc_replay.specs.Sending.{TellsFirst}
 
@@ -15,5 +16,5 @@ unfolding said_from trace
 steps_go p line lines said is = rw is refl
 
 -- all lines were told
-pub all_told : (a b : Option (List ℕ)) (n : ℕ) (run : List Stepped) → Adds a b (body_from n run) → TellsFirst a b n run
-all_told a b n run told = record { steps = run; later = []; parts = sym (append-nil run); told = told }
+pub all_told : (form : Form) (a b : Option (List ℕ)) (run : List Stepped) → Adds a b (steps_told form run) → TellsFirst form a b run
+all_told form a b run told = record { steps = run; later = []; parts = sym (append-nil run); told = told }

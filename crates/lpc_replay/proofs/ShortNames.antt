@@ -1,11 +1,12 @@
 -- A line that is read gives a token no name of more than 32 bytes.
 use Rattle.std.proofs.Common.{◌≡◌, ℕ, Bool, true, false, cond, List, [], ◌∷◌, length, refl}
-use Rattle.std.specs.Prelude.{None, Option, Some, Result, Ok, Err, codes, nat_le, nat_lt, not, ◌&&◌}
+use Rattle.std.specs.Prelude.{IfSome, None, Option, option_map, Some, Result, Ok, Err, codes, nat_le, nat_lt, not, ◌&&◌}
 use Rattle.std.specs.List.{list_all}
 use Rattle.std.specs.Option.{ok_or}
 use Rattle.lpc_base.specs.declared.limits.TheConstants.{LINE_LIMIT}
 use Rattle.lpc_model.specs.Grammar.{three_words, kind_word, call_line, directive_line, directive_named, directive_words, each_word, is_name_byte, is_printable, one_word, process_and_token, read_line, sid_word, starts_call, thread_call, token_word, token_words, two_and_more_words, two_words, words_line}
-use Rattle.lpc_model.specs.Lines.{ScriptLine}
+use Rattle.lpc_model.specs.declared.line.Line.{Line}
+use Rattle.lpc_model.specs.Lines.{ScriptLine, line_of}
 use Rattle.lpc_model.specs.Then.{◌>>=◌}
 use Rattle.lpc_model.specs.Words.{begins, fault_if, id_word, words, number_word}
 use Rattle.lpc_model.specs.World.{Token}
@@ -84,3 +85,7 @@ short_line line =
 
 pub short_named : (bytes : List ℕ) (line : ScriptLine) → read_line bytes ≡ Ok (Some line) → has_short_name line ≡ true
 short_named bytes line is = gives_ok SaysShortName (read_line bytes) (Some line) (short_line bytes) is
+
+pub short_said : (bytes : List ℕ) (said : Option Line) → read_line bytes ≡ Ok (option_map line_of said) → IfSome said (λ line. has_short_name (line_of line) ≡ true)
+short_said bytes None is = tt
+short_said bytes (Some line) is = short_named bytes (line_of line) is

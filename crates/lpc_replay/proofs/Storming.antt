@@ -22,10 +22,11 @@ use Rattle.lpc_storm.specs.declared.line.StormLine.{StormLine}
 use Rattle.lpc_storm.specs.Generated.{Course, behind_round, clients, connecting, ending, generated, line_text, next_round, opening, rounds, start, storm_lines}
 use Rattle.lpc_storm.specs.Summary.{is_mismatch, is_replied, summary_of}
 use Rattle.lpc_storm.proofs.Printable.{HadFew, lines_are, small_storm}
+use Rattle.lpc_replay.specs.declared.form.Form.TheVariants.{Transcript}
 use Rattle.lpc_replay.specs.Playing.{step_at, state_at, Progress, RunsLine, begin, behind_line, entries_told, last_text, line_text as text_of, steps_of, text_from}
 use Rattle.lpc_replay.specs.Storming.{Tally, behind_said, behind_storm, behind_text, behind_texts, calm, tallied, unless_stopped}
 use Rattle.lpc_replay.proofs.Cut.{steps_go}
-use Rattle.lpc_replay.proofs.Turns.{done_is, steps_is, text_goes, text_stops, transcript_is}
+use Rattle.lpc_replay.proofs.Turns.{done_is, steps_is, text_goes, text_stops, whole_is}
 
 -- a running sum of bytes
 pub sum_goes : (total now next : ℕ) (bytes : List ℕ) (i : ℕ) → i < length bytes → now ≡ (total + sum (take i bytes)) % 2 ^ 32 → next ≡ (now + get_or bytes i 0) % 2 ^ 32 → next ≡ (total + sum (take (i + 1) bytes)) % 2 ^ 32
@@ -63,7 +64,7 @@ record Comes (p : Progress) (r m s : ℕ) (lines : List (List ℕ)) (u : Tally) 
   rows : u.at.rows ≡ world_behind p.rows (done_from kept (state_at p) (said_from (p.lines + 1) lines))
   replied : u.replies ≡ r + count_by is_replied (all_entries (steps_of p lines))
   missed : u.mismatches ≡ m + count_by is_mismatch (all_entries (steps_of p lines))
-  summed : (u.total + sum (last_text u.at u.fault)) % 2 ^ 32 ≡ (s + sum (text_from p lines)) % 2 ^ 32
+  summed : (u.total + sum (last_text u.at u.fault)) % 2 ^ 32 ≡ (s + sum (text_from Transcript p lines)) % 2 ^ 32
 
 steps_stop : (p : Progress) (line : List ℕ) (lines : List (List ℕ)) (f : LineFault) → numbered_line (p.lines + 1) line ≡ Err f → steps_of p (line ∷ lines) ≡ []
 unfolding said_from trace
@@ -97,11 +98,11 @@ comes_stop p r m s line lines f is =
       rows = world_stops p line lines f is;
       replied = rw none (omega arith);
       missed = rw none (omega arith);
-      summed = rw (text_stops p line lines f is) refl;
+      summed = rw (text_stops Transcript p line lines f is) refl;
     }
 
 comes_on : (p : Progress) (r m s : ℕ) (line : List ℕ) (lines : List (List ℕ)) (said : Option ScriptLine) (u : Tally) → numbered_line (p.lines + 1) line ≡ Ok said
-    → Comes (behind_line p said) (r + count_by is_replied (step_at p said).entries) (m + count_by is_mismatch (step_at p said).entries) ((s + sum (text_of p said)) % 2 ^ 32) lines u → Comes p r m s (line ∷ lines) u
+    → Comes (behind_line p said) (r + count_by is_replied (step_at p said).entries) (m + count_by is_mismatch (step_at p said).entries) ((s + sum (text_of Transcript p said)) % 2 ^ 32) lines u → Comes p r m s (line ∷ lines) u
 comes_on p r m s line lines said u is h =
     let q = behind_line p said in
     let first = (step_at p said).entries in
@@ -114,22 +115,22 @@ comes_on p r m s line lines said u is h =
     let told = h.told in
     let one = h.replied in
     let two = h.missed in
-    let bytes = sum_by-append (λ x. x) (text_of p said) (text_from q lines) in
-    let all : s + sum (text_of p said) + sum (text_from q lines) ≡ s + sum (text_of p said ++ text_from q lines) = omega arith in
+    let bytes = sum_by-append (λ x. x) (text_of Transcript p said) (text_from Transcript q lines) in
+    let all : s + sum (text_of Transcript p said) + sum (text_from Transcript q lines) ≡ s + sum (text_of Transcript p said ++ text_from Transcript q lines) = omega arith in
     record {
       ran = rw goes (omega arith);
       told = rw goes (omega arith);
       rows = h.rows ∙ sym (world_goes p line lines said is);
       replied = rw goes (omega arith);
       missed = rw goes (omega arith);
-      summed = h.summed ∙ (mod-add-mod (s + sum (text_of p said)) (2 ^ 32) (sum (text_from q lines)) ∙ ap (λ n. n % 2 ^ 32) (all ∙ ap (λ t. s + sum t) (sym (text_goes p line lines said is))));
+      summed = h.summed ∙ (mod-add-mod (s + sum (text_of Transcript p said)) (2 ^ 32) (sum (text_from Transcript q lines)) ∙ ap (λ n. n % 2 ^ 32) (all ∙ ap (λ t. s + sum t) (sym (text_goes Transcript p line lines said is))));
     }
 
 comes_case : (p : Progress) (r m s : ℕ) (line : List ℕ) (lines : List (List ℕ)) (said : Result (Option ScriptLine) LineFault) → numbered_line (p.lines + 1) line ≡ said
     → ((q : Progress) (a b c : ℕ) → Comes q a b c lines (behind_texts (going q a b c) lines)) → Comes p r m s (line ∷ lines) (behind_texts (behind_said (going p r m s) said) lines)
 comes_case p r m s line lines (Err f) is h = rw (stays p f r m s lines) (comes_stop p r m s line lines f is)
 comes_case p r m s line lines (Ok said) is h =
-    comes_on p r m s line lines said _ is (h (behind_line p said) (r + count_by is_replied (step_at p said).entries) (m + count_by is_mismatch (step_at p said).entries) ((s + sum (text_of p said)) % 2 ^ 32))
+    comes_on p r m s line lines said _ is (h (behind_line p said) (r + count_by is_replied (step_at p said).entries) (m + count_by is_mismatch (step_at p said).entries) ((s + sum (text_of Transcript p said)) % 2 ^ 32))
 
 comes : (p : Progress) (r m s : ℕ) (lines : List (List ℕ)) → Comes p r m s lines (behind_texts (going p r m s) lines)
 unfolding behind_texts
@@ -154,7 +155,7 @@ tallied_is script =
     let replied : u.replies ≡ count_by is_replied (all_entries run) = replied_first ∙ ap (λ (r : List Stepped). count_by is_replied (all_entries r)) runs in
     let missed_first : u.mismatches ≡ count_by is_mismatch (all_entries first) = h.missed ∙ omega arith in
     let missed : u.mismatches ≡ count_by is_mismatch (all_entries run) = missed_first ∙ ap (λ (r : List Stepped). count_by is_mismatch (all_entries r)) runs in
-    let none : 0 + sum (text_from begin lines) ≡ sum (transcript script) = omega arith ∙ ap sum (transcript_is script) in
+    let none : 0 + sum (text_from Transcript begin lines) ≡ sum (transcript script) = omega arith ∙ ap sum (whole_is Transcript script) in
     let summed : (u.total + sum (last_text u.at u.fault)) % 2 ^ 32 ≡ sum (transcript script) % 2 ^ 32 = h.summed ∙ ap (λ n. n % 2 ^ 32) none in
     λ i. record { lines = ran i; entries = told i; objects = rows i; replies = replied i; mismatches = missed i; sum = summed i }
 
@@ -253,13 +254,13 @@ idle_case None t next some = absurd (cc)
 pub line_idle : (t : Tally) (line : StormLine) → is_some t.fault ≡ true → t ≡ behind_storm t (line ∷ [])
 line_idle t line some = idle_case t.fault t (behind_said t (numbered_line (t.at.lines + 1) (line_text line))) some ∙ sym (line_is t line)
 
-pub line_stops : (b o : Option LineFault) (p q : Progress) (r m s : ℕ) (line : StormLine) (text : List ℕ) → is_some b ≡ false → is_some o ≡ true → RunsLine (line_text line) o p q text
+pub line_stops : (b o : Option LineFault) (p q : Progress) (r m s : ℕ) (line : StormLine) (text : List ℕ) → is_some b ≡ false → is_some o ≡ true → RunsLine Transcript (line_text line) o p q text
     → record { at = q; fault = o; replies = r; mismatches = m; total = s } ≡ behind_storm (record { at = p; fault = b; replies = r; mismatches = m; total = s }) (line ∷ [])
 line_stops (Some g) o p q r m s line text none some runs = absurd (cc)
 line_stops None None p q r m s line text none some runs = absurd (cc)
 line_stops None (Some f) p q r m s line text none some runs = rw (line_is (going p r m s) line, runs.0, runs.1) refl
 
-pub line_runs : (b o : Option LineFault) (p q : Progress) (r m s a c z : ℕ) (line : StormLine) (text : List ℕ) (aside : Aside) (listed told : List Entry) → is_some b ≡ false → is_some o ≡ false → RunsLine (line_text line) o p q text
+pub line_runs : (b o : Option LineFault) (p q : Progress) (r m s a c z : ℕ) (line : StormLine) (text : List ℕ) (aside : Aside) (listed told : List Entry) → is_some b ≡ false → is_some o ≡ false → RunsLine Transcript (line_text line) o p q text
     → told ≡ entries_told p (numbered_line (p.lines + 1) (line_text line)) → map (shown_entry aside) listed ≡ told → a ≡ count_by is_replied listed → c ≡ count_by is_mismatch listed → z ≡ (s + sum text) % 2 ^ 32
     → record { at = q; fault = o; replies = r + a; mismatches = m + c; total = z } ≡ behind_storm (record { at = p; fault = b; replies = r; mismatches = m; total = s }) (line ∷ [])
 line_runs (Some g) o p q r m s a c z line text aside listed told none clear runs tells shows x y w = absurd (cc)
@@ -269,7 +270,7 @@ line_runs None None p q r m s a c z line text aside listed told none clear runs 
     let all : map (shown_entry aside) listed ≡ entries = shows ∙ (tells ∙ rw runs.1 refl) in
     let one : a ≡ count_by is_replied entries = x ∙ (sym (count_shown aside is_replied (replied_same aside) listed) ∙ ap (λ es. count_by is_replied es) all) in
     let two : c ≡ count_by is_mismatch entries = y ∙ (sym (count_shown aside is_mismatch (missed_same aside) listed) ∙ ap (λ es. count_by is_mismatch es) all) in
-    let three : z ≡ (s + sum (text_of p runs.0)) % 2 ^ 32 = w ∙ ap (λ t. (s + sum t) % 2 ^ 32) runs.3 in
+    let three : z ≡ (s + sum (text_of Transcript p runs.0)) % 2 ^ 32 = w ∙ ap (λ t. (s + sum t) % 2 ^ 32) runs.3 in
     rw (line_is (going p r m s) line, runs.1, runs.2, one, two, three) refl
 
 -- the rounds so far are few enough for one more

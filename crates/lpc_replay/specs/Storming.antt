@@ -8,6 +8,7 @@ use Rattle.lpc_storm.specs.declared.line.StormLine.{StormLine}
 use Rattle.lpc_storm.specs.declared.summary.Summary.{Summary}
 use Rattle.lpc_storm.specs.Generated.{line_text}
 use Rattle.lpc_storm.specs.Summary.{is_mismatch, is_replied}
+use Rattle.lpc_replay.specs.declared.form.Form.TheVariants.{Transcript}
 use Rattle.lpc_replay.specs.Playing.{Progress, begin, behind_line, last_text, line_text as text_of, step_at}
 
 -- how far a storm has run, the fault of its last line, if any, and so far: the requests that returned with their reply,
@@ -32,7 +33,7 @@ behind_said t (Ok said) = record {
   fault = None;
   replies = t.replies + count_by is_replied (step_at t.at said).entries;
   mismatches = t.mismatches + count_by is_mismatch (step_at t.at said).entries;
-  total = (t.total + sum (text_of t.at said)) % 2 ^ 32;
+  total = (t.total + sum (text_of Transcript t.at said)) % 2 ^ 32;
 }
 
 -- behind a faulty line no line is run

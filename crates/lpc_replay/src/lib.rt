@@ -1,6 +1,8 @@
-//! The replay of scripts: a script is read from a source, run line by line, and its transcript is sent to a sink.
+//! The replay of scripts: a script is read from a source, run line by line, and its transcript is sent to a sink, or its
+//! transcript with what becomes of the world's rows in each line.
 #![tactic(auto)]
 
+mod form;
 mod laws;
 mod play;
 mod playback;

@@ -1,4 +1,4 @@
-// A script is read and run line by line, and its transcript sent.
+// A script is read and run line by line, and its text sent.
 ghost use Rattle.std.specs.Prelude.{◌≡◌, ◌+◌, ◌<◌, ◌≤◌, [], length, true, false, None, Some, IfOk, IfSome, OnErr, OnOk, IsErrOf};
 ghost use Rattle.lpc_base.specs.Streams.{Adds, Rose};
 ghost use Rattle.lpc_model.specs.Script.{script_lines};
@@ -9,6 +9,7 @@ ghost use Rattle.lpc_replay.specs.Reading.{IsAskedForPieces};
 ghost use Rattle.lpc_replay.specs.Sending.{AddsFront, IsLeftAlone, RunsOn};
 ghost use Rattle.lpc_replay.specs.TopCall.{Begins, BreaksOff, CutsShort, IsFormed, ReadsInTime, Replays, Stops, StopsAtFault};
 
+use crate::form::Form;
 use crate::playback::Playback;
 use crate::reading::{NextLine, Reader};
 use crate::sending::send_all;
@@ -81,27 +82,31 @@ fn play_lines<S: Source, K: Sink>(
 ) -> Result<Stop, PlayError>
     requires begin { playback.old.at ≡ begin }
     requires unread { reader.old.piece ≡ [] }
-    ensures stops { IfOk result (λ stop. StopsAs stop (S.left source.old) (S.left source.new)
+    ensures stops { IfOk result (λ stop. StopsAs playback.old.form stop
+        (S.left source.old) (S.left source.new)
         (K.sent sink.old) (K.sent sink.new) playback.new.at reader.new.line.line) }
+    ensures form { playback.new.form ≡ playback.old.form }
     ensures end { IfOk result (λ stop. stop ≡ Stop.End →
         IfSome (S.left source.new) (λ left. left ≡ [])) }
     ensures lacks { OnOk result (has_end reader.new.line.line ≡ false) }
-    ensures begun { OnErr result (Begins (S.left source.old) (S.left source.new)
+    ensures begun { OnErr result (Begins playback.old.form (S.left source.old) (S.left source.new)
         (K.sent sink.old) (K.sent sink.new)) }
-    ensures in_time { OnErr result (ReadsInTime (S.left source.old) (S.left source.new)
-        (K.sent sink.old) (K.sent sink.new)) }
+    ensures in_time { OnErr result (ReadsInTime playback.old.form
+        (S.left source.old) (S.left source.new) (K.sent sink.old) (K.sent sink.new)) }
     ensures cut { IsErrOf result PlayError.OutOfMemory →
-        CutsShort (S.left source.old) (S.left source.new) (K.sent sink.old) (K.sent sink.new) }
+        CutsShort playback.old.form (S.left source.old) (S.left source.new)
+        (K.sent sink.old) (K.sent sink.new) }
     ensures failed { IsErrOf result PlayError.SinkFailed →
         Rose (K.faults sink.old) (K.faults sink.new) }
     ensures still { OnOk result (K.faults sink.new ≡ K.faults sink.old) }
     ensures out_of_memory { IsErrOf result PlayError.OutOfMemory →
         K.faults sink.new ≡ K.faults sink.old }
     ensures later { K.faults sink.old ≤ K.faults sink.new }
-    ensures spends { IfOk result (λ stop. Spends (S.left source.old)
-        (text_next stop playback.new.at reader.new.line.line) (K.sure sink.old) (K.sure sink.new)) }
+    ensures spends { IfOk result (λ stop. Spends playback.old.form (S.left source.old)
+        (text_next playback.old.form stop playback.new.at reader.new.line.line)
+        (K.sure sink.old) (K.sure sink.new)) }
     ensures unsure { IsErrOf result PlayError.SinkFailed →
-        IsUnsure (S.left source.old) (K.sure sink.old) }
+        IsUnsure playback.old.form (S.left source.old) (K.sure sink.old) }
     ensures left_alone { IsLeftAlone (K.asked sink.old) (K.asked sink.new) }
     ensures runs_on { OnOk result (RunsOn (K.asked sink.old) (K.asked sink.new)) }
     ensures asked { IsAskedForPieces (S.asked source.old) (S.asked source.new) }
@@ -135,10 +140,10 @@ fn play_rest<K: Sink>(
     sink: &mut K,
 ) -> Result<Option<LineFault>, PlayError>
     requires lacks { has_end rest.now ≡ false }
-    ensures ends { IfOk result (λ fault. EndsAs fault playback.old.at playback.new.at rest.now
-        (K.sent sink.old) (K.sent sink.new)) }
+    ensures ends { IfOk result (λ fault. EndsAs playback.old.form fault
+        playback.old.at playback.new.at rest.now (K.sent sink.old) (K.sent sink.new)) }
     ensures front { AddsFront (K.sent sink.old) (K.sent sink.new)
-        (body_text playback.old.at (script_lines rest.now)) }
+        (body_text playback.old.form playback.old.at (script_lines rest.now)) }
     ensures failed { IsErrOf result PlayError.SinkFailed →
         Rose (K.faults sink.old) (K.faults sink.new) }
     ensures still { OnOk result (K.faults sink.new ≡ K.faults sink.old) }
@@ -149,9 +154,11 @@ fn play_rest<K: Sink>(
     ensures later { K.faults sink.old ≤ K.faults sink.new }
     ensures spends { IfOk result (λ fault.
         K.sure sink.old + length (last_text playback.new.at fault)
-        ≤ K.sure sink.new + length (text_from playback.old.at (script_lines rest.now))) }
+        ≤ K.sure sink.new
+        + length (text_from playback.old.form playback.old.at (script_lines rest.now))) }
     ensures unsure { IsErrOf result PlayError.SinkFailed →
-        K.sure sink.old < length (text_from playback.old.at (script_lines rest.now)) }
+        K.sure sink.old
+        < length (text_from playback.old.form playback.old.at (script_lines rest.now)) }
     ensures left_alone { IsLeftAlone (K.asked sink.old) (K.asked sink.new) }
     ensures runs_on { OnOk result (RunsOn (K.asked sink.old) (K.asked sink.new)) }
 {
@@ -196,7 +203,7 @@ fn finish<K: Sink>(
     })
 }
 
-/// Reads a script of which nothing is read yet, runs each line as it comes, and sends its transcript, as [`play`] says it.
+/// Reads a script of which nothing is read yet, runs each line as it comes, and sends its text, as [`play`] says it.
 fn play_through<S: Source, K: Sink>(
     playback: &mut Playback,
     scratch: &mut Scratch,
@@ -207,25 +214,29 @@ fn play_through<S: Source, K: Sink>(
     requires begin { playback.old.at ≡ begin }
     requires unread { reader.old.piece ≡ [] }
     ensures transcript { IfOk result (λ ending. ending ≡ Replayed →
-        Replays (S.left source.old) (S.left source.new) (K.sent sink.old) (K.sent sink.new)) }
+        Replays playback.old.form (S.left source.old) (S.left source.new)
+        (K.sent sink.old) (K.sent sink.new)) }
     ensures whole { IfOk result (λ ending. ending ≡ Replayed →
         IsFormed true (S.left source.old)) }
     ensures sound { IfOk result (λ ending. ending ≡ Replayed →
         StopsAtFault (S.left source.old) (S.left source.new) 0) }
     ensures stopped { IfOk result (λ ending. ending ≡ Stopped →
-        Stops (S.left source.old) (S.left source.new) (K.sent sink.old) (K.sent sink.new)) }
+        Stops playback.old.form (S.left source.old) (S.left source.new)
+        (K.sent sink.old) (K.sent sink.new)) }
     ensures faulty { IfOk result (λ ending. ending ≡ Stopped →
         IsFormed false (S.left source.old)) }
     ensures failed_text { IfOk result (λ ending. ending ≡ SourceFailed →
-        BreaksOff (S.left source.old) (S.left source.new) (K.sent sink.old) (K.sent sink.new)) }
+        BreaksOff playback.old.form (S.left source.old) (S.left source.new)
+        (K.sent sink.old) (K.sent sink.new)) }
     ensures failed_sound { IfOk result (λ ending. ending ≡ SourceFailed →
         StopsAtFault (S.left source.old) (S.left source.new) 3) }
-    ensures begun { Begins (S.left source.old) (S.left source.new)
+    ensures begun { Begins playback.old.form (S.left source.old) (S.left source.new)
         (K.sent sink.old) (K.sent sink.new) }
-    ensures in_time { ReadsInTime (S.left source.old) (S.left source.new)
+    ensures in_time { ReadsInTime playback.old.form (S.left source.old) (S.left source.new)
         (K.sent sink.old) (K.sent sink.new) }
     ensures cut { IsErrOf result PlayError.OutOfMemory →
-        CutsShort (S.left source.old) (S.left source.new) (K.sent sink.old) (K.sent sink.new) }
+        CutsShort playback.old.form (S.left source.old) (S.left source.new)
+        (K.sent sink.old) (K.sent sink.new) }
     ensures failed { IsErrOf result PlayError.SinkFailed →
         Rose (K.faults sink.old) (K.faults sink.new) }
     ensures still { OnOk result (K.faults sink.new ≡ K.faults sink.old) }
@@ -233,7 +244,7 @@ fn play_through<S: Source, K: Sink>(
         K.faults sink.new ≡ K.faults sink.old }
     ensures later { K.faults sink.old ≤ K.faults sink.new }
     ensures unsure { IsErrOf result PlayError.SinkFailed →
-        IsUnsure (S.left source.old) (K.sure sink.old) }
+        IsUnsure playback.old.form (S.left source.old) (K.sure sink.old) }
     ensures left_alone { IsLeftAlone (K.asked sink.old) (K.asked sink.new) }
     ensures asked { IsAskedForPieces (S.asked source.old) (S.asked source.new) }
     ensures source_failed { IfOk result (λ ending. ending ≡ SourceFailed →
@@ -252,36 +263,38 @@ fn play_through<S: Source, K: Sink>(
     }
 }
 
-/// Reads a script from the source, runs each line as it comes, and sends its transcript. Where the source fails, what is
-/// sent is what the lines tell that are ended by byte 10.
+/// Reads a script from the source, runs each line as it comes, and sends its text in this form. Where the source fails,
+/// what is sent is what the lines tell that are ended by byte 10.
 ///
-/// `SinkFailed`: the sink failed, and counted that; a front of the transcript was sent. `OutOfMemory`: memory ran out;
+/// `SinkFailed`: the sink failed, and counted that; a front of the text was sent. `OutOfMemory`: memory ran out;
 /// what some first lines tell was sent, each whole, and no last line. The sink counted no failure then.
 pub fn play<S: Source, K: Sink>(
     alloc: Global,
+    form: Form,
     source: &mut S,
     sink: &mut K,
 ) -> Result<Ending, PlayError>
     ensures transcript { IfOk result (λ ending. ending ≡ Replayed →
-        Replays (S.left source.old) (S.left source.new) (K.sent sink.old) (K.sent sink.new)) }
+        Replays form (S.left source.old) (S.left source.new) (K.sent sink.old) (K.sent sink.new)) }
     ensures whole { IfOk result (λ ending. ending ≡ Replayed →
         IsFormed true (S.left source.old)) }
     ensures sound { IfOk result (λ ending. ending ≡ Replayed →
         StopsAtFault (S.left source.old) (S.left source.new) 0) }
     ensures stopped { IfOk result (λ ending. ending ≡ Stopped →
-        Stops (S.left source.old) (S.left source.new) (K.sent sink.old) (K.sent sink.new)) }
+        Stops form (S.left source.old) (S.left source.new) (K.sent sink.old) (K.sent sink.new)) }
     ensures faulty { IfOk result (λ ending. ending ≡ Stopped →
         IsFormed false (S.left source.old)) }
     ensures failed_text { IfOk result (λ ending. ending ≡ SourceFailed →
-        BreaksOff (S.left source.old) (S.left source.new) (K.sent sink.old) (K.sent sink.new)) }
+        BreaksOff form (S.left source.old) (S.left source.new)
+        (K.sent sink.old) (K.sent sink.new)) }
     ensures failed_sound { IfOk result (λ ending. ending ≡ SourceFailed →
         StopsAtFault (S.left source.old) (S.left source.new) 3) }
-    ensures begun { Begins (S.left source.old) (S.left source.new)
+    ensures begun { Begins form (S.left source.old) (S.left source.new)
         (K.sent sink.old) (K.sent sink.new) }
-    ensures in_time { ReadsInTime (S.left source.old) (S.left source.new)
+    ensures in_time { ReadsInTime form (S.left source.old) (S.left source.new)
         (K.sent sink.old) (K.sent sink.new) }
     ensures cut { IsErrOf result PlayError.OutOfMemory →
-        CutsShort (S.left source.old) (S.left source.new) (K.sent sink.old) (K.sent sink.new) }
+        CutsShort form (S.left source.old) (S.left source.new) (K.sent sink.old) (K.sent sink.new) }
     ensures failed { IsErrOf result PlayError.SinkFailed →
         Rose (K.faults sink.old) (K.faults sink.new) }
     ensures still { OnOk result (K.faults sink.new ≡ K.faults sink.old) }
@@ -289,7 +302,7 @@ pub fn play<S: Source, K: Sink>(
         K.faults sink.new ≡ K.faults sink.old }
     ensures later { K.faults sink.old ≤ K.faults sink.new }
     ensures unsure { IsErrOf result PlayError.SinkFailed →
-        IsUnsure (S.left source.old) (K.sure sink.old) }
+        IsUnsure form (S.left source.old) (K.sure sink.old) }
     ensures left_alone { IsLeftAlone (K.asked sink.old) (K.asked sink.new) }
     ensures asked { IsAskedForPieces (S.asked source.old) (S.asked source.new) }
     ensures source_failed { IfOk result (λ ending. ending ≡ SourceFailed →
@@ -301,6 +314,6 @@ pub fn play<S: Source, K: Sink>(
     let mut scratch = Scratch::new(alloc)?;
     let mut reader = Reader::new(alloc)?;
     // The playback comes last, since its tables go last then: no other way out has to let them go.
-    let mut playback = Playback::new(alloc)?;
+    let mut playback = Playback::new(alloc, form)?;
     play_through(&mut playback, &mut scratch, &mut reader, source, sink)
 }

@@ -1,5 +1,5 @@
 // A script is run and printed line by line.
-ghost use Rattle.std.specs.Prelude.{◌≡◌, ◌<◌, ◌≤◌, ◌+◌, ◌++◌, [], length, nat_le, true, Some, IfOk, OnOk};
+ghost use Rattle.std.specs.Prelude.{◌≡◌, ◌<◌, ◌≤◌, ◌+◌, ◌++◌, [], length, nat_le, option_map, true, Some, IfOk, IfSome, OnOk};
 ghost use Rattle.lpc_base.specs.declared.limits.TheConstants.{LINES_LIMIT};
 ghost use Rattle.lpc_machine.specs.Short.{has_short_name};
 ghost use Rattle.lpc_model.specs.Grammar.{has_ids};
@@ -8,8 +8,11 @@ ghost use Rattle.lpc_model.specs.Text.{entries_text};
 ghost use Rattle.lpc_model.specs.Found as found;
 ghost use Rattle.lpc_model.specs.Run.{line_step, numbered_line, said_done, state_behind};
 ghost use Rattle.lpc_residents.specs.Kept.{kept, state_of};
+ghost use Rattle.lpc_replay.specs.declared.form.Form.TheVariants.{States};
+ghost use Rattle.lpc_replay.specs.Forms.{line_told};
 ghost use Rattle.lpc_replay.specs.Playing.{RunsLine, begin, entries_told, last_text};
 
+use crate::form::Form;
 use crate::step::step;
 use lpc_base::OutOfMemory;
 use lpc_base::limits::LINES_LIMIT;
@@ -17,16 +20,28 @@ use lpc_machine::Machine;
 use lpc_model::{Entries, Line, LineFault};
 use lpc_residents::Residents;
 use lpc_script::{Scratch, read_line};
+use lpc_snapshot::print_rows;
+use lpc_states::print_changes;
 use lpc_transcript::{print, print_end, print_stop};
 use std::alloc::Global;
 use std::marker::Model;
 
+/// The rows of the world before a line and behind it, as the form of states prints them. What they hold between lines
+/// is of no use.
+#[derive(Drop)]
+struct Snapshots {
+    before: Vec<u8>,
+    after: Vec<u8>,
+}
+
 /// A script as far as it has run, and the text that is to be sent next.
 #[derive(Drop)]
 pub struct Playback {
+    form: Form,
     machine: Machine,
     residents: Residents,
     out: Entries,
+    snapshots: Snapshots,
     text: Vec<u8>,
     lines: u32,
     told: u128,
@@ -38,6 +53,7 @@ impl Model for Playback {
     ghost Value = { Played };
 
     ghost view = { λ p. record {
+      form = p.form;
       at = record { rows = p.machine.rows; residents = p.residents; lines = p.lines; told = p.told };
       entries = p.out.list;
       text = p.text.items;
@@ -47,17 +63,23 @@ impl Model for Playback {
 }
 
 impl Playback {
-    /// Before the first line.
+    /// Before the first line, of which this is to be sent.
     ///
     /// OutOfMemory comes where memory for the entries' buffer is wanting; no clause tells more of when it does.
-    pub fn new(alloc: Global) -> Result<Playback, OutOfMemory>
-        ensures { IfOk result (λ p. p ≡ record { at = begin; entries = []; text = [] }) }
+    pub fn new(alloc: Global, form: Form) -> Result<Playback, OutOfMemory>
+        ensures { IfOk result
+            (λ p. p ≡ record { form = form; at = begin; entries = []; text = [] }) }
     {
         let out = Entries::new(alloc)?;
         Ok(Playback {
+            form,
             machine: Machine::new(alloc),
             residents: Residents::new(alloc),
             out,
+            snapshots: Snapshots {
+                before: Vec::new(alloc),
+                after: Vec::new(alloc),
+            },
             text: Vec::new(alloc),
             lines: 0,
             told: 0,
@@ -109,15 +131,16 @@ impl Playback {
     /// Runs the next line, and has the text of what it tells ready. Answers its fault where it is faulty, and then the
     /// script has run no further.
     ///
-    /// OutOfMemory comes where memory for the line's step, its entries or their text is wanting; no clause tells more
-    /// of when it does, or of what it leaves.
+    /// OutOfMemory comes where memory for the line's step, its entries or their text is wanting, or for the rows of the
+    /// world where they are printed; no clause tells more of when it does, or of what it leaves.
     pub fn run_line(
         &mut self,
         scratch: &mut Scratch,
         line: &[u8],
     ) -> Result<Option<LineFault>, OutOfMemory>
         ensures runs { IfOk result
-            (λ f. RunsLine line.now f self.old.at self.new.at self.new.text) }
+            (λ f. RunsLine self.old.form line.now f self.old.at self.new.at self.new.text) }
+        ensures form { self.new.form ≡ self.old.form }
         ensures entries { let read = numbered_line (self.old.at.lines + 1) line.now in
             OnOk result (self.new.entries ≡ entries_told self.old.at read) }
         ensures few { self.new.at.lines ≤ LINES_LIMIT }
@@ -133,17 +156,17 @@ impl Playback {
             Err(fault) => return Ok(Some(fault)),
         };
         self.lines += 1;
-        if let Some(said) = said {
-            let told = tell(
-                &mut self.machine,
-                &mut self.residents,
-                &mut self.out,
-                self.lines,
-                &said,
-                &mut self.text,
-            )?;
-            self.told += told as u128;
-        }
+        let told = tell_in(
+            self.form,
+            &mut self.machine,
+            &mut self.residents,
+            &mut self.out,
+            self.lines,
+            &said,
+            &mut self.snapshots,
+            &mut self.text,
+        )?;
+        self.told += told as u128;
         Ok(None)
     }
 
@@ -154,6 +177,7 @@ impl Playback {
     #[tactic(auto, unfolding(crate::specs::Playing::last_text))]
     pub fn end(&mut self, fault: Option<LineFault>) -> Result<(), OutOfMemory>
         ensures text { OnOk result (self.new.text ≡ last_text self.old.at fault) }
+        ensures form { self.new.form ≡ self.old.form }
         ensures at { self.new.at ≡ self.old.at }
     {
         self.text.clear();
@@ -169,35 +193,41 @@ impl Playback {
     }
 }
 
-/// Takes the step of a line of this number, over the machine and the servers on threads, and appends its text. Answers
-/// how many entries it told.
+/// Takes the step of what a line of this number says, if it says anything, over the machine and the servers on threads,
+/// and appends the text of its entries. Answers how many entries it told.
+#[tactic(auto, unfolding(lpc_model::specs::Text::entries_text))]
 fn tell(
     machine: &mut Machine,
     residents: &mut Residents,
     out: &mut Entries,
     number: u32,
-    said: &Line<'_>,
+    said: &Option<Line<'_>>,
     text: &mut Vec<u8>,
 ) -> Result<usize, OutOfMemory>
     requires few { machine.old.calls < LINES_LIMIT }
-    requires ids { has_ids (line_of said.now) ≡ true }
-    requires named { has_short_name (line_of said.now) ≡ true }
+    requires ids { IfSome said.now (λ line. has_ids (line_of line) ≡ true) }
+    requires named { IfSome said.now (λ line. has_short_name (line_of line) ≡ true) }
     ensures rows { let s = state_of machine.old.rows residents.old in
-        OnOk result (machine.new.rows ≡ (state_behind kept s (Some (line_of said.now))).world) }
+        OnOk result (machine.new.rows
+        ≡ (state_behind kept s (option_map line_of said.now)).world) }
     ensures residents { let s = state_of machine.old.rows residents.old in
-        OnOk result (residents.new ≡ (state_behind kept s (Some (line_of said.now))).residents) }
+        OnOk result (residents.new
+        ≡ (state_behind kept s (option_map line_of said.now)).residents) }
     ensures text { let s = state_of machine.old.rows residents.old in
-        let step = line_step s.world (said_done kept s (Some (line_of said.now))) in
+        let step = line_step s.world (said_done kept s (option_map line_of said.now)) in
         OnOk result (text.new.items ≡ text.old.items ++ entries_text number step.entries) }
     ensures entries { let s = state_of machine.old.rows residents.old in
-        let step = line_step s.world (said_done kept s (Some (line_of said.now))) in
+        let step = line_step s.world (said_done kept s (option_map line_of said.now)) in
         OnOk result (out.new.list ≡ step.entries) }
     ensures told { let s = state_of machine.old.rows residents.old in
-        let step = line_step s.world (said_done kept s (Some (line_of said.now))) in
+        let step = line_step s.world (said_done kept s (option_map line_of said.now)) in
         IfOk result (λ told. told ≡ length step.entries) }
     ensures calls { machine.new.calls ≤ machine.old.calls + 1 }
 {
     out.clear();
+    let Some(said) = said else {
+        return Ok(0);
+    };
     let needed = machine.room_needed();
     if out.spare() < needed {
         // Twice as much, since it would have to grow with each thread that is made otherwise.
@@ -206,4 +236,81 @@ fn tell(
     step(machine, residents, said, out)?;
     print(number, out, text)?;
     Ok(out.list().len())
+}
+
+/// The same, and behind that what became of the world's rows.
+fn tell_states(
+    machine: &mut Machine,
+    residents: &mut Residents,
+    out: &mut Entries,
+    number: u32,
+    said: &Option<Line<'_>>,
+    snapshots: &mut Snapshots,
+    text: &mut Vec<u8>,
+) -> Result<usize, OutOfMemory>
+    requires few { machine.old.calls < LINES_LIMIT }
+    requires ids { IfSome said.now (λ line. has_ids (line_of line) ≡ true) }
+    requires named { IfSome said.now (λ line. has_short_name (line_of line) ≡ true) }
+    ensures rows { let s = state_of machine.old.rows residents.old in
+        OnOk result (machine.new.rows
+        ≡ (state_behind kept s (option_map line_of said.now)).world) }
+    ensures residents { let s = state_of machine.old.rows residents.old in
+        OnOk result (residents.new
+        ≡ (state_behind kept s (option_map line_of said.now)).residents) }
+    ensures text { let s = state_of machine.old.rows residents.old in
+        let step = line_step s.world (said_done kept s (option_map line_of said.now)) in
+        OnOk result (text.new.items ≡ text.old.items ++ line_told States number s.world step) }
+    ensures entries { let s = state_of machine.old.rows residents.old in
+        let step = line_step s.world (said_done kept s (option_map line_of said.now)) in
+        OnOk result (out.new.list ≡ step.entries) }
+    ensures told { let s = state_of machine.old.rows residents.old in
+        let step = line_step s.world (said_done kept s (option_map line_of said.now)) in
+        IfOk result (λ told. told ≡ length step.entries) }
+    ensures calls { machine.new.calls ≤ machine.old.calls + 1 }
+{
+    snapshots.before.clear();
+    print_rows(machine.world(), &mut snapshots.before)?;
+    let told = tell(machine, residents, out, number, said, text)?;
+    snapshots.after.clear();
+    print_rows(machine.world(), &mut snapshots.after)?;
+    print_changes(number, &snapshots.before, &snapshots.after, text)?;
+    Ok(told)
+}
+
+/// Takes the step of what a line of this number says, if it says anything, and appends its text in this form. Answers how
+/// many entries it told.
+fn tell_in(
+    form: Form,
+    machine: &mut Machine,
+    residents: &mut Residents,
+    out: &mut Entries,
+    number: u32,
+    said: &Option<Line<'_>>,
+    snapshots: &mut Snapshots,
+    text: &mut Vec<u8>,
+) -> Result<usize, OutOfMemory>
+    requires few { machine.old.calls < LINES_LIMIT }
+    requires ids { IfSome said.now (λ line. has_ids (line_of line) ≡ true) }
+    requires named { IfSome said.now (λ line. has_short_name (line_of line) ≡ true) }
+    ensures rows { let s = state_of machine.old.rows residents.old in
+        OnOk result (machine.new.rows
+        ≡ (state_behind kept s (option_map line_of said.now)).world) }
+    ensures residents { let s = state_of machine.old.rows residents.old in
+        OnOk result (residents.new
+        ≡ (state_behind kept s (option_map line_of said.now)).residents) }
+    ensures text { let s = state_of machine.old.rows residents.old in
+        let step = line_step s.world (said_done kept s (option_map line_of said.now)) in
+        OnOk result (text.new.items ≡ text.old.items ++ line_told form number s.world step) }
+    ensures entries { let s = state_of machine.old.rows residents.old in
+        let step = line_step s.world (said_done kept s (option_map line_of said.now)) in
+        OnOk result (out.new.list ≡ step.entries) }
+    ensures told { let s = state_of machine.old.rows residents.old in
+        let step = line_step s.world (said_done kept s (option_map line_of said.now)) in
+        IfOk result (λ told. told ≡ length step.entries) }
+    ensures calls { machine.new.calls ≤ machine.old.calls + 1 }
+{
+    match form {
+        Form::Transcript => tell(machine, residents, out, number, said, text),
+        Form::States => tell_states(machine, residents, out, number, said, snapshots, text),
+    }
 }

@@ -1,5 +1,5 @@
 // The top call.
-ghost use Rattle.std.specs.Prelude.{◌≡◌, ◌≤◌, [], ◌∷◌, true, false, IfSome, IsErrOf, OnOk, is_some, length};
+ghost use Rattle.std.specs.Prelude.{◌≡◌, ◌≤◌, [], ◌∷◌, true, false, IfSome, IsErrOf, IsSomeAnd, OnOk, is_none, is_some, length};
 ghost use Rattle.lpc_base.specs.Streams.{Adds, Rose};
 ghost use Rattle.lpc_model.specs.Accounts.{RunAccountsForDeaths};
 ghost use Rattle.lpc_model.specs.Deaths.{RunTellsDeaths};
@@ -12,8 +12,9 @@ ghost use Rattle.lpc_replay.specs.Laws.{ClientsApart, ConnectsReturn, LinesSettl
 ghost use Rattle.lpc_replay.specs.Playing.{IsUnsure};
 ghost use Rattle.lpc_replay.specs.Reading.{IsAskedForPieces};
 ghost use Rattle.lpc_replay.specs.Sending.{AddsFront, IsLeftAlone};
-ghost use Rattle.lpc_replay.specs.TopCall.{Begins, BreaksOff, CutsShort, EndsAsFormed, IfSure, IsFormed, ReadsInTime, Replays, Still, Stops, StopsAtFault, StopsUnfailing, is_form, is_one_of, is_replay, storm_of as storm_in, storm_text, usage};
+ghost use Rattle.lpc_replay.specs.TopCall.{Begins, BreaksOff, CutsShort, EndsAsFormed, IfSure, IsFormed, ReadsInTime, Replays, Still, Stops, StopsAtFault, StopsUnfailing, form_of as form_in, is_form, is_one_of, is_replay, is_states, storm_of as storm_in, storm_text, usage};
 
+use crate::form::Form;
 use crate::play::{Ending, PlayError, play};
 use crate::sending::send_all;
 use crate::storm::run_storm;
@@ -47,6 +48,28 @@ fn is_replay(words: &[String]) -> bool
         [word] => word.as_str() == "replay",
         _ => false,
     }
+}
+
+fn is_states(words: &[String]) -> bool
+    ensures { result ≡ is_states words.now }
+{
+    match words {
+        [word] => word.as_str() == "states",
+        _ => false,
+    }
+}
+
+/// What the words say to send of the lines of a script, where they say to replay one.
+fn form_of(words: &[String]) -> Option<Form>
+    ensures { result ≡ form_in words.now }
+{
+    if is_replay(words) {
+        return Some(Form::Transcript);
+    }
+    if is_states(words) {
+        return Some(Form::States);
+    }
+    None
 }
 
 /// The rounds and the seed of a storm, where the words are `storm N SEED`.
@@ -86,26 +109,26 @@ fn tell_usage<K: Sink>(sink: &mut K) -> u8
     }
 }
 
-/// Reads a script from the source and sends its transcript.
-fn replay<S: Source, K: Sink>(alloc: Global, source: &mut S, sink: &mut K) -> u8
+/// Reads a script from the source and sends its text in this form.
+fn replay<S: Source, K: Sink>(alloc: Global, form: Form, source: &mut S, sink: &mut K) -> u8
     ensures statuses { is_one_of (0 ∷ 2 ∷ 3 ∷ 4 ∷ 5 ∷ []) result ≡ true }
     ensures transcript { result ≡ 0 →
-        Replays (S.left source.old) (S.left source.new) (K.sent sink.old) (K.sent sink.new) }
+        Replays form (S.left source.old) (S.left source.new) (K.sent sink.old) (K.sent sink.new) }
     ensures whole { result ≡ 0 → IsFormed true (S.left source.old) }
     ensures stopped { result ≡ 2 →
-        Stops (S.left source.old) (S.left source.new) (K.sent sink.old) (K.sent sink.new) }
+        Stops form (S.left source.old) (S.left source.new) (K.sent sink.old) (K.sent sink.new) }
     ensures faulty { result ≡ 2 → IsFormed false (S.left source.old) }
     ensures unfailed { result ≡ 2 →
         StopsUnfailing (S.left source.old) (S.left source.new)
         (S.faults source.old) (S.faults source.new) }
     ensures faulty_read { StopsAtFault (S.left source.old) (S.left source.new) result }
     ensures failed_text { result ≡ 3 →
-        BreaksOff (S.left source.old) (S.left source.new) (K.sent sink.old) (K.sent sink.new) }
-    ensures begun { Begins (S.left source.old) (S.left source.new)
+        BreaksOff form (S.left source.old) (S.left source.new) (K.sent sink.old) (K.sent sink.new) }
+    ensures begun { Begins form (S.left source.old) (S.left source.new)
         (K.sent sink.old) (K.sent sink.new) }
     ensures cut { result ≡ 5 →
-        CutsShort (S.left source.old) (S.left source.new) (K.sent sink.old) (K.sent sink.new) }
-    ensures in_time { ReadsInTime (S.left source.old) (S.left source.new)
+        CutsShort form (S.left source.old) (S.left source.new) (K.sent sink.old) (K.sent sink.new) }
+    ensures in_time { ReadsInTime form (S.left source.old) (S.left source.new)
         (K.sent sink.old) (K.sent sink.new) }
     ensures asked { IsAskedForPieces (S.asked source.old) (S.asked source.new) }
     ensures source_failed { result ≡ 3 → Rose (S.faults source.old) (S.faults source.new) }
@@ -115,10 +138,10 @@ fn replay<S: Source, K: Sink>(alloc: Global, source: &mut S, sink: &mut K) -> u8
         K.faults sink.new ≡ K.faults sink.old }
     ensures source_later { S.faults source.old ≤ S.faults source.new }
     ensures sink_later { K.faults sink.old ≤ K.faults sink.new }
-    ensures unsure { result ≡ 4 → IsUnsure (S.left source.old) (K.sure sink.old) }
+    ensures unsure { result ≡ 4 → IsUnsure form (S.left source.old) (K.sure sink.old) }
     ensures left_alone { IsLeftAlone (K.asked sink.old) (K.asked sink.new) }
 {
-    match play(alloc, source, sink) {
+    match play(alloc, form, source, sink) {
         Ok(Ending::Replayed) => DONE,
         Ok(Ending::Stopped) => STOPPED,
         Ok(Ending::SourceFailed) => SOURCE_FAILED,
@@ -185,14 +208,17 @@ fn storm<K: Sink>(alloc: Global, count: u32, seed: u32, sink: &mut K) -> u8
 /// 10 was sent, and no last line. 4: the sink failed. 5: memory ran out; what some first lines tell was sent, each
 /// whole, and no last line.
 ///
+/// The words `states` do the same, and send behind what each line tells what became of the world's rows in it: a line of
+/// JSON for each row that went, came or changed. The statuses are those of `replay`.
+///
 /// The words `storm N SEED`, with N a number from 0 to 200000 and SEED a number, both spelled as a script's numbers,
 /// read nothing. They run the script that is made of the two, line after line as a replay would, and send one line that
 /// sums up its transcript. Status 0: it was sent. 4: the sink failed. 5: memory ran out, and nothing was sent.
 ///
 /// Other words answer 64, send the usage line and read nothing.
 ///
-/// Whatever the status, what was sent is a front of the transcript of what was read, of the storm's line, or of the
-/// usage line: nothing else is sent, and nothing twice. Behind a failed write the sink is asked for nothing more. What
+/// Whatever the status, what was sent is a front of the text of what was read, in the form that the words name, of the
+/// storm's line, or of the usage line: nothing else is sent, and nothing twice. Behind a failed write the sink is asked for nothing more. What
 /// is said here of bytes that were read or sent, and of how the sink was asked, holds of a source and a sink that tell
 /// it.
 ///
@@ -215,7 +241,7 @@ pub fn run_words<S: Source, K: Sink>(
     // and want of memory is no answer.
     ensures words { result ≡ 64 → is_form words.now ≡ false }
     ensures no_form { is_form words.now ≡ false → is_one_of (64 ∷ 4 ∷ []) result ≡ true }
-    ensures unread { is_replay words.now ≡ false → source.new ≡ source.old }
+    ensures unread { is_none (form_in words.now) ≡ true → source.new ≡ source.old }
     ensures usage { result ≡ 64 → Adds (K.sent sink.old) (K.sent sink.new) usage }
     ensures usage_begun { is_form words.now ≡ false →
         AddsFront (K.sent sink.old) (K.sent sink.new) usage }
@@ -240,38 +266,42 @@ pub fn run_words<S: Source, K: Sink>(
     ensures storm_sure { IfSome (storm_in words.now) (λ storm.
         length (storm_text storm) ≤ K.sure sink.old → is_one_of (0 ∷ 5 ∷ []) result ≡ true) }
 
-    // The script is read to its end, is well formed, and its transcript is sent.
-    ensures transcript { is_replay words.now ≡ true → result ≡ 0 →
-        Replays (S.left source.old) (S.left source.new) (K.sent sink.old) (K.sent sink.new) }
-    ensures whole { is_replay words.now ≡ true → result ≡ 0 →
+    // The words are those of a replay, in one of its forms. The script is read to its end, is well formed, and its text
+    // is sent, which in the first form is its transcript.
+    ensures transcript { IfSome (form_in words.now) (λ form. result ≡ 0 →
+        Replays form (S.left source.old) (S.left source.new) (K.sent sink.old) (K.sent sink.new)) }
+    ensures whole { is_some (form_in words.now) ≡ true → result ≡ 0 →
         IsFormed true (S.left source.old) }
 
-    // The script is read up to a faulty line, and its transcript is sent. A rest without byte 10 is such a line only
-    // where the source answered its end, or where the rest passes a limit.
-    ensures stopped { result ≡ 2 →
-        Stops (S.left source.old) (S.left source.new) (K.sent sink.old) (K.sent sink.new) }
+    // The script is read up to a faulty line, and its text is sent. A rest without byte 10 is such a line only where the
+    // source answered its end, or where the rest passes a limit.
+    ensures stopped { result ≡ 2 → IsSomeAnd (form_in words.now) (λ form.
+        Stops form (S.left source.old) (S.left source.new) (K.sent sink.old) (K.sent sink.new)) }
     ensures faulty { result ≡ 2 → IsFormed false (S.left source.old) }
     ensures unfailed { result ≡ 2 →
         StopsUnfailing (S.left source.old) (S.left source.new)
         (S.faults source.old) (S.faults source.new) }
-    ensures faulty_read { is_replay words.now ≡ true →
+    ensures faulty_read { is_some (form_in words.now) ≡ true →
         StopsAtFault (S.left source.old) (S.left source.new) result }
 
     // The source failed before a faulty line was read: what the lines tell that are ended by byte 10 is sent.
-    ensures failed_text { result ≡ 3 →
-        BreaksOff (S.left source.old) (S.left source.new) (K.sent sink.old) (K.sent sink.new) }
+    ensures failed_text { result ≡ 3 → IsSomeAnd (form_in words.now) (λ form.
+        BreaksOff form (S.left source.old) (S.left source.new)
+        (K.sent sink.old) (K.sent sink.new)) }
 
     // Memory ran out: what some first lines tell is sent, each whole, and no last line.
-    ensures cut { result ≡ 5 →
-        CutsShort (S.left source.old) (S.left source.new) (K.sent sink.old) (K.sent sink.new) }
+    ensures cut { IfSome (form_in words.now) (λ form. result ≡ 5 →
+        CutsShort form (S.left source.old) (S.left source.new)
+        (K.sent sink.old) (K.sent sink.new)) }
 
-    // Whatever the status, what was sent begins the transcript of what was read.
-    ensures begun { is_replay words.now ≡ true →
-        Begins (S.left source.old) (S.left source.new) (K.sent sink.old) (K.sent sink.new) }
+    // Whatever the status, what was sent begins the text of what was read.
+    ensures begun { IfSome (form_in words.now) (λ form.
+        Begins form (S.left source.old) (S.left source.new) (K.sent sink.old) (K.sent sink.new)) }
 
     // Behind a line's end at most 4,096 bytes more are read before what the line tells is sent.
-    ensures in_time { is_replay words.now ≡ true →
-        ReadsInTime (S.left source.old) (S.left source.new) (K.sent sink.old) (K.sent sink.new) }
+    ensures in_time { IfSome (form_in words.now) (λ form.
+        ReadsInTime form (S.left source.old) (S.left source.new)
+        (K.sent sink.old) (K.sent sink.new)) }
 
     // Behind its end or a failure the source is asked for nothing, and for at most 4,096 bytes at once before.
     ensures asked { IsAskedForPieces (S.asked source.old) (S.asked source.new) }
@@ -290,24 +320,24 @@ pub fn run_words<S: Source, K: Sink>(
     ensures sink_later { K.faults sink.old ≤ K.faults sink.new }
 
     // Without a failure a replay ends at the script's end or at its first faulty line, unless memory runs out.
-    ensures unfailing { is_replay words.now ≡ true →
+    ensures unfailing { is_some (form_in words.now) ≡ true →
         Still (S.faults source.old) (S.faults source.new) →
         Still (K.faults sink.old) (K.faults sink.new) →
         is_one_of (0 ∷ 2 ∷ 5 ∷ []) result ≡ true }
-    ensures complete { is_replay words.now ≡ true →
+    ensures complete { is_some (form_in words.now) ≡ true →
         Still (S.faults source.old) (S.faults source.new) →
         Still (K.faults sink.old) (K.faults sink.new) →
         EndsAsFormed (S.left source.old) result }
 
-    // A sink that is sure of the whole transcript fails no replay. So over it and an honest source, which counts no
+    // A sink that is sure of the whole text fails no replay. So over it and an honest source, which counts no
     // failure, a replay is read to its end or to a faulty line, unless memory runs out.
-    ensures replay_sure { is_replay words.now ≡ true →
-        IfSure (S.left source.old) (K.sure sink.old)
-        (is_one_of (0 ∷ 2 ∷ 3 ∷ 5 ∷ []) result ≡ true) }
-    ensures honest { is_replay words.now ≡ true →
+    ensures replay_sure { IfSome (form_in words.now) (λ form.
+        IfSure form (S.left source.old) (K.sure sink.old)
+        (is_one_of (0 ∷ 2 ∷ 3 ∷ 5 ∷ []) result ≡ true)) }
+    ensures honest { IfSome (form_in words.now) (λ form.
         Still (S.faults source.old) (S.faults source.new) →
-        IfSure (S.left source.old) (K.sure sink.old)
-        (is_one_of (0 ∷ 2 ∷ 5 ∷ []) result ≡ true) }
+        IfSure form (S.left source.old) (K.sure sink.old)
+        (is_one_of (0 ∷ 2 ∷ 5 ∷ []) result ≡ true)) }
 
     // In the script read a request returns with success only by a reply that fits it, and an exception is continued
     // only by one whose data begin with 02000100. A reply that fits no wait is refused, a refused reply changes
@@ -346,11 +376,11 @@ pub fn run_words<S: Source, K: Sink>(
     // same inputs of the two, the process does and is told the same.
     ensures apart { result ≡ 0 → IfSome (S.left source.old) ClientsApart }
 {
-    if !is_replay(words) {
+    let Some(form) = form_of(words) else {
         return match storm_of(words) {
             Some((count, seed)) => storm(alloc, count, seed, sink),
             None => tell_usage(sink),
         };
-    }
-    replay(alloc, source, sink)
+    };
+    replay(alloc, form, source, sink)
 }

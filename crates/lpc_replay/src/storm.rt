@@ -6,6 +6,7 @@ ghost use Rattle.lpc_storm.specs.Generated.{line_text};
 ghost use Rattle.lpc_storm.specs.Summary as summary;
 ghost use Rattle.lpc_replay.specs.Storming.{behind_storm, calm, tallied};
 
+use crate::form::Form;
 use crate::playback::Playback;
 use lpc_base::OutOfMemory;
 use lpc_base::status::{REPLY_MESSAGE_MISMATCH, SUCCESS};
@@ -31,9 +32,10 @@ struct Storm {
 }
 
 impl Model for Storm {
-    ghost use Rattle.std.specs.Prelude.{◌≤◌, ◌*◌, ◌^◌};
+    ghost use Rattle.std.specs.Prelude.{◌≡◌, ◌≤◌, ◌*◌, ◌^◌};
     ghost use Rattle.lpc_base.specs.declared.limits.TheConstants.{LINES_LIMIT};
     ghost use Rattle.lpc_replay.specs.Storming.{Tally};
+    ghost use Rattle.lpc_replay.specs.declared.form.Form.TheVariants.{Transcript};
 
     ghost Value = { Tally };
 
@@ -45,7 +47,8 @@ impl Model for Storm {
       total = s.total;
     } };
 
-    ghost invariant = { λ s. (s.playback.at.lines ≤ LINES_LIMIT)
+    ghost invariant = { λ s. (s.playback.form ≡ Transcript)
+        × (s.playback.at.lines ≤ LINES_LIMIT)
         × (s.replies ≤ s.playback.at.lines * 2 ^ 64)
         × (s.mismatches ≤ s.playback.at.lines * 2 ^ 64) };
 }
@@ -124,7 +127,7 @@ impl Storm {
             return Err(OutOfMemory);
         };
         let scratch = Scratch::new(alloc)?;
-        let playback = Playback::new(alloc)?;
+        let playback = Playback::new(alloc, Form::Transcript)?;
         Ok(Storm {
             line,
             scratch,

@@ -477,6 +477,14 @@ fn other_words_are_told_the_usage(rt: HostRuntime) -> Result<(), Fail> {
         b"boot 20 24\n",
         64,
         usage,
+    )?;
+    answered(
+        &rt,
+        rt.alloc(),
+        &["states", "now"],
+        b"boot 20 24\n",
+        64,
+        usage,
     )
 }
 
@@ -556,6 +564,22 @@ fn a_faulty_rest_is_no_line_where_the_source_fails_in_it_or_at_its_end(
     broken_off(&rt, alloc, "24 NtFoo\n", 9, 3, "")?;
     broken_off(&rt, alloc, "24 NtFoo", 9, 3, "")?;
     broken_off(&rt, alloc, "24 NtFoo", 10, 2, "stop 1 3\n")
+}
+
+// No row comes, changes or goes, so nothing is told of rows.
+#[test]
+fn the_states_of_lines_that_change_no_row_are_the_transcript(rt: HostRuntime) -> Result<(), Fail> {
+    let alloc = rt.alloc();
+    let script = b"# a comment\n24 NtCreatePort -\n";
+    answered(
+        &rt,
+        alloc,
+        &["states"],
+        script,
+        0,
+        "2 24 nothread\nend 2 1 0\n",
+    )?;
+    answered(&rt, alloc, &["states"], b"24 NtFoo\n", 2, "stop 1 3\n")
 }
 
 // One line for a sink of some room, whose calls of these numbers fail.

@@ -7,52 +7,58 @@ pub returns-in_err-scratch-clause-begun : goal.returns-in_err-scratch-clause-beg
 returns-in_err-scratch-clause-begun g c =
     let left = g.S.Source.left in
     let sent = g.K.Sink.sent in
-    begins_here (left c.args.source.now) (left c.args.source.now) (sent c.args.sink.now) (sent c.args.sink.now) begin [] (played_none (left c.args.source.now) (sent c.args.sink.now))
+    begins_here c.args.form (left c.args.source.now) (left c.args.source.now) (sent c.args.sink.now) (sent c.args.sink.now) begin [] (played_none c.args.form (left c.args.source.now) (sent c.args.sink.now))
 
 pub returns-in_err-scratch-clause-in_time : goal.returns-in_err-scratch-clause-in_time
 returns-in_err-scratch-clause-in_time g c =
     let left = g.S.Source.left in
     let sent = g.K.Sink.sent in
-    reads_in_time (left c.args.source.now) (left c.args.source.now) (sent c.args.sink.now) (sent c.args.sink.now) (sent c.args.sink.now) begin [] (played_none (left c.args.source.now) (sent c.args.sink.now)) (grows_none (sent c.args.sink.now))
+    reads_in_time c.args.form (left c.args.source.now) (left c.args.source.now) (sent c.args.sink.now) (sent c.args.sink.now) (sent c.args.sink.now) begin [] (played_none c.args.form (left c.args.source.now) (sent c.args.sink.now)) (grows_none (sent c.args.sink.now))
 
 pub returns-in_err-scratch-clause-cut : goal.returns-in_err-scratch-clause-cut
 returns-in_err-scratch-clause-cut g c =
     let left = g.S.Source.left in
     let sent = g.K.Sink.sent in
-    λ _. cuts_here (left c.args.source.now) (left c.args.source.now) (sent c.args.sink.now) (sent c.args.sink.now) begin [] (played_none (left c.args.source.now) (sent c.args.sink.now))
+    λ _. cuts_here c.args.form (left c.args.source.now) (left c.args.source.now) (sent c.args.sink.now) (sent c.args.sink.now) begin [] (played_none c.args.form (left c.args.source.now) (sent c.args.sink.now))
 
 pub returns-in_err-playback-clause-begun : goal.returns-in_err-playback-clause-begun
 returns-in_err-playback-clause-begun g c =
     let left = g.S.Source.left in
     let sent = g.K.Sink.sent in
-    begins_here (left c.args.source.now) (left c.args.source.now) (sent c.args.sink.now) (sent c.args.sink.now) begin [] (played_none (left c.args.source.now) (sent c.args.sink.now))
+    begins_here c.args.form (left c.args.source.now) (left c.args.source.now) (sent c.args.sink.now) (sent c.args.sink.now) begin [] (played_none c.args.form (left c.args.source.now) (sent c.args.sink.now))
 
 pub returns-in_err-playback-clause-in_time : goal.returns-in_err-playback-clause-in_time
 returns-in_err-playback-clause-in_time g c =
     let left = g.S.Source.left in
     let sent = g.K.Sink.sent in
-    reads_in_time (left c.args.source.now) (left c.args.source.now) (sent c.args.sink.now) (sent c.args.sink.now) (sent c.args.sink.now) begin [] (played_none (left c.args.source.now) (sent c.args.sink.now)) (grows_none (sent c.args.sink.now))
+    reads_in_time c.args.form (left c.args.source.now) (left c.args.source.now) (sent c.args.sink.now) (sent c.args.sink.now) (sent c.args.sink.now) begin [] (played_none c.args.form (left c.args.source.now) (sent c.args.sink.now)) (grows_none (sent c.args.sink.now))
 
 pub returns-in_err-playback-clause-cut : goal.returns-in_err-playback-clause-cut
 returns-in_err-playback-clause-cut g c =
     let left = g.S.Source.left in
     let sent = g.K.Sink.sent in
-    λ _. cuts_here (left c.args.source.now) (left c.args.source.now) (sent c.args.sink.now) (sent c.args.sink.now) begin [] (played_none (left c.args.source.now) (sent c.args.sink.now))
+    λ _. cuts_here c.args.form (left c.args.source.now) (left c.args.source.now) (sent c.args.sink.now) (sent c.args.sink.now) begin [] (played_none c.args.form (left c.args.source.now) (sent c.args.sink.now))
 
 pub returns-in_err-reader-clause-begun : goal.returns-in_err-reader-clause-begun
 returns-in_err-reader-clause-begun g c =
     let left = g.S.Source.left in
     let sent = g.K.Sink.sent in
-    begins_here (left c.args.source.now) (left c.args.source.now) (sent c.args.sink.now) (sent c.args.sink.now) begin [] (played_none (left c.args.source.now) (sent c.args.sink.now))
+    begins_here c.args.form (left c.args.source.now) (left c.args.source.now) (sent c.args.sink.now) (sent c.args.sink.now) begin [] (played_none c.args.form (left c.args.source.now) (sent c.args.sink.now))
+
+pub returns-in_err-reader-clause-in_time : goal.returns-in_err-reader-clause-in_time
+returns-in_err-reader-clause-in_time g c =
+    let left = g.S.Source.left in
+    let sent = g.K.Sink.sent in
+    reads_in_time c.args.form (left c.args.source.now) (left c.args.source.now) (sent c.args.sink.now) (sent c.args.sink.now) (sent c.args.sink.now) begin [] (played_none c.args.form (left c.args.source.now) (sent c.args.sink.now)) (grows_none (sent c.args.sink.now))
 
 pub returns-in_err-reader-clause-cut : goal.returns-in_err-reader-clause-cut
 returns-in_err-reader-clause-cut g c =
     let left = g.S.Source.left in
     let sent = g.K.Sink.sent in
-    λ _. cuts_here (left c.args.source.now) (left c.args.source.now) (sent c.args.sink.now) (sent c.args.sink.now) begin [] (played_none (left c.args.source.now) (sent c.args.sink.now))
+    λ _. cuts_here c.args.form (left c.args.source.now) (left c.args.source.now) (sent c.args.sink.now) (sent c.args.sink.now) begin [] (played_none c.args.form (left c.args.source.now) (sent c.args.sink.now))
 
 pub returns-clause-transcript : goal.returns-clause-transcript
-returns-clause-transcript g c = c.play_through.ensures.transcript
+returns-clause-transcript g c = rw c.in_ok-playback.ensures at c.play_through.ensures.transcript
 
 pub returns-clause-whole : goal.returns-clause-whole
 returns-clause-whole g c = c.play_through.ensures.whole
@@ -61,25 +67,25 @@ pub returns-clause-sound : goal.returns-clause-sound
 returns-clause-sound g c = c.play_through.ensures.sound
 
 pub returns-clause-stopped : goal.returns-clause-stopped
-returns-clause-stopped g c = c.play_through.ensures.stopped
+returns-clause-stopped g c = rw c.in_ok-playback.ensures at c.play_through.ensures.stopped
 
 pub returns-clause-faulty : goal.returns-clause-faulty
 returns-clause-faulty g c = c.play_through.ensures.faulty
 
 pub returns-clause-failed_text : goal.returns-clause-failed_text
-returns-clause-failed_text g c = c.play_through.ensures.failed_text
+returns-clause-failed_text g c = rw c.in_ok-playback.ensures at c.play_through.ensures.failed_text
 
 pub returns-clause-failed_sound : goal.returns-clause-failed_sound
 returns-clause-failed_sound g c = c.play_through.ensures.failed_sound
 
 pub returns-clause-begun : goal.returns-clause-begun
-returns-clause-begun g c = c.play_through.ensures.begun
+returns-clause-begun g c = rw c.in_ok-playback.ensures at c.play_through.ensures.begun
 
 pub returns-clause-in_time : goal.returns-clause-in_time
-returns-clause-in_time g c = c.play_through.ensures.in_time
+returns-clause-in_time g c = rw c.in_ok-playback.ensures at c.play_through.ensures.in_time
 
 pub returns-clause-cut : goal.returns-clause-cut
-returns-clause-cut g c = c.play_through.ensures.cut
+returns-clause-cut g c = rw c.in_ok-playback.ensures at c.play_through.ensures.cut
 
 pub returns-clause-failed : goal.returns-clause-failed
 returns-clause-failed g c = c.play_through.ensures.failed
@@ -106,4 +112,4 @@ pub returns-clause-source_later : goal.returns-clause-source_later
 returns-clause-source_later g c = c.play_through.ensures.source_later
 
 pub returns-clause-unsure : goal.returns-clause-unsure
-returns-clause-unsure g c = c.play_through.ensures.unsure
+returns-clause-unsure g c = rw c.in_ok-playback.ensures at c.play_through.ensures.unsure

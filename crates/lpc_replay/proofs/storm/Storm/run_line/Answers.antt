@@ -16,7 +16,7 @@ returns-then-is_some-2 c =
     let s = c.self.inside in
     let none : is_some s.fault ≡ false = sym c.is_some.ensures ∙ c.if-is_some.false in
     let some : is_some c.in_ok-self-inside.field-0 ≡ true = sym c.is_some-2.ensures ∙ c.if-is_some-2.true in
-    let runs = rw (c.deref.ensures.value, c.in_ok-write.ensures) at c.in_ok-self-inside.ensures.runs in
+    let runs = rw (c.deref.ensures.value, c.in_ok-write.ensures, c.self.invariant.0) at c.in_ok-self-inside.ensures.runs in
     rw (← c.self.view_is) (line_stops s.fault c.in_ok-self-inside.field-0 s.playback.at c.run_line.new.self.at s.replies s.mismatches s.total c.args.line.now c.run_line.new.self.text none some runs)
 
 pub returns : goal.returns
@@ -24,7 +24,7 @@ returns c =
     let s = c.self.inside in
     let none : is_some s.fault ≡ false = sym c.is_some.ensures ∙ c.if-is_some.false in
     let clear : is_some c.in_ok-self-inside.field-0 ≡ false = sym c.is_some-2.ensures ∙ c.if-is_some-2.false in
-    let runs = rw (c.deref.ensures.value, c.in_ok-write.ensures) at c.in_ok-self-inside.ensures.runs in
+    let runs = rw (c.deref.ensures.value, c.in_ok-write.ensures, c.self.invariant.0) at c.in_ok-self-inside.ensures.runs in
     let tells = rw (c.deref.ensures.value, c.in_ok-write.ensures) at c.in_ok-self-inside.ensures.entries in
     let shows = c.list-entries.ensures ∙ c.entries.ensures in
     let sums = rw c.text.ensures at c.summed-self-inside.ensures in
