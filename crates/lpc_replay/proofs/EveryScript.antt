@@ -9,7 +9,8 @@ use Rattle.lpc_model.specs.Replies.{MisfitsAreRefused, RefusedRepliesChangeNothi
 use Rattle.lpc_model.proofs.GivenBytes.{said_bytes}
 use Rattle.lpc_model.proofs.Runs.{along-keeps, lawful_none, lawful_step}
 use Rattle.lpc_isolation.proofs.Gone.Said.{isolation_law}
-use Rattle.lpc_replay.specs.Laws.{ClientsApart, ConnectsReturn, LeavesSettled, LinesSettle, MisfitsRefused, RaisesReturn, RefusalsIdle, RefusalsStay, RequestsReturn, ThreadsEnd, WaitsEnd}
+use Rattle.lpc_replay.specs.Laws.{ClientsApart, ConnectsReturn, HandlesLead, LeadsBefore, LeavesSettled, LinesSettle, MisfitsRefused, RaisesReturn, RefusalsIdle, RefusalsStay, RequestsReturn, ThreadsEnd, WaitsEnd}
+use Rattle.lpc_replay.proofs.Leading.{leads}
 use Rattle.lpc_replay.proofs.Returning.{answers_along, ends_along, raises_along, returns_along}
 use Rattle.lpc_replay.proofs.Refusing.{misfits_refused, refusals_stay}
 use Rattle.lpc_replay.proofs.Removing.{refusals_idle}
@@ -38,6 +39,10 @@ every_end script = ends_along no_rows (said_in script) (done_bytes win32 first_s
 pub every_settling : (script : List ℕ) → LinesSettle script
 unfolding LinesSettle
 every_settling script = along-keeps LeavesSettled (λ w line t. let after = lawful_step w line t in after.settled) no_rows (said_in script) lawful_none
+
+pub every_handle : (script : List ℕ) → HandlesLead script
+unfolding HandlesLead
+every_handle script = along-keeps LeadsBefore (λ w line t. leads w t.names) no_rows (said_in script) lawful_none
 
 pub every_misfit : (script : List ℕ) → MisfitsRefused script
 unfolding MisfitsRefused

@@ -51,3 +51,4 @@ pub mod Coming
 pub mod Spending
 pub mod ShortNames
 pub mod Serving
+pub mod Leading

@@ -10,6 +10,7 @@ use Rattle.lpc_model.specs.Lines.{ScriptLine}
 use Rattle.lpc_model.specs.Machine.{step}
 use Rattle.lpc_replay.specs.Connects.{ConnectsReturnByAnswer}
 use Rattle.lpc_replay.specs.Ends.{ThreadsEndAsNamed}
+use Rattle.lpc_replay.specs.Leading.{LeadsToRows}
 use Rattle.lpc_replay.specs.Raises.{RaisesReturnAsHandled}
 use Rattle.lpc_replay.specs.Waits.{WaitsEndAsTold}
 
@@ -52,6 +53,13 @@ LeavesSettled w line = IsSettled (step w line).world
 
 unfoldable pub LinesSettle : List ℕ → Type 0
 LinesSettle script = Along LeavesSettled no_rows (said_in script)
+
+-- before each line handles lead to rows
+abbrev pub LeadsBefore : World → ScriptLine → Type 0
+LeadsBefore w line = LeadsToRows w
+
+unfoldable pub HandlesLead : List ℕ → Type 0
+HandlesLead script = Along LeadsBefore no_rows (said_in script)
 
 -- a process with a circle in this script and in another one, and with the same inputs in both, does and is told the
 -- same

@@ -3,6 +3,7 @@ pub mod Raises
 pub mod Ends
 pub mod Waits
 pub mod Laws
+pub mod Leading
 pub mod Forms
 pub mod Sending
 pub mod Reading

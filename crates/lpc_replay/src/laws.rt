@@ -12,7 +12,7 @@ ghost use Rattle.lpc_model.specs.WorkedRanges.{WorkedRanges};
 ghost use Rattle.lpc_model.specs.WorkedResidents.{WorkedResidents};
 ghost use Rattle.lpc_model.specs.WorkedTokens.{WorkedTokens};
 ghost use Rattle.lpc_model.specs.WorkedViews.{WorkedViews};
-ghost use Rattle.lpc_replay.specs.Laws.{ConnectsReturn, LinesSettle, MisfitsRefused, RaisesReturn, RefusalsIdle, RefusalsStay, RequestsReturn, ThreadsEnd, WaitsEnd};
+ghost use Rattle.lpc_replay.specs.Laws.{ConnectsReturn, HandlesLead, LinesSettle, MisfitsRefused, RaisesReturn, RefusalsIdle, RefusalsStay, RequestsReturn, ThreadsEnd, WaitsEnd};
 
 /// Completion by a fitting reply, a connect's return by its answer, an exception's by its handler, and the end of
 /// each wait and of each thread, in every script.
@@ -68,4 +68,13 @@ pub fn law_worked_transcripts()
     ensures residents { WorkedResidents }
     ensures exceptions { WorkedExceptions }
     ensures neighbours { WorkedNeighbours }
+{}
+
+/// What a handle names has a row, in every script.
+///
+/// Before each line, where a handle of a thread's process names a port, a thread, a process or a token, and grants the
+/// right that the call wants, what it names has a row. The definitions have an answer for a row that is missing,
+/// INVALID_HANDLE; it never comes: each refusal of these tests is one of the handle's own.
+pub fn law_handles_lead_to_rows()
+    ensures { (script : List ℕ) → HandlesLead script }
 {}

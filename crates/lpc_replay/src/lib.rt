@@ -12,7 +12,7 @@ mod sending;
 mod step;
 mod storm;
 
-pub use laws::{law_completion, law_worked_transcripts};
+pub use laws::{law_completion, law_handles_lead_to_rows, law_worked_transcripts};
 pub use lpc_isolation::law_isolation;
 pub use lpc_model::law_death;
 pub use replay::run_words;
