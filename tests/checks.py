@@ -39,6 +39,7 @@ PARTS = [
     f"conformance/run {PROGRAM}",
     "conformance/coverage",
     f"tests/program.py {PROGRAM}",
+    f"tests/states.py {PROGRAM}",
     f"tests/edge.py {PROGRAM}",
     f"tests/allocations.py {PROGRAM}",
     f"tests/isolation.py {PROGRAM}",

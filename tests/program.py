@@ -174,7 +174,7 @@ def examples():
 
 
 def words():
-    """Other words than `replay` alone: the usage line, status 64, and nothing is read."""
+    """Other words than those of the forms: the usage line, status 64, and nothing is read."""
     others = {
         "no word": [],
         "an empty word": [""],
@@ -190,6 +190,12 @@ def words():
         "a word that is not UTF-8": [b"\xff"],
         "a further word that is not UTF-8": ["replay", b"\xff"],
         "it with a byte that is not UTF-8": [b"replay\xff"],
+        "states with a letter too few": ["state"],
+        "states with a capital letter": ["States"],
+        "states with a further word": ["states", "unknown"],
+        "states twice": ["states", "states"],
+        "states behind replay": ["replay", "states"],
+        "replay behind states": ["states", "replay"],
         "a storm without its numbers": ["storm"],
         "a storm without its seed": ["storm", "2"],
         "a storm with a further word": ["storm", "2", "0", "0"],
