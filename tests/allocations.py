@@ -5,7 +5,8 @@
 
 A run in which one allocation is refused, or that one and each later one, ends with status 5, and has printed some first
 lines of the transcript, each whole and none of them the last one; or it ends as it does with all its memory. The same
-holds of the usage line. Where memory runs out before the words are known, the status is 5 too.
+holds of what the form `states` prints, and of the usage line. Where memory runs out before the words are known, the
+status is 5 too.
 
 How many allocations the smallest script makes is told in docs/PROOFS.md, and compared.
 
@@ -74,7 +75,13 @@ def checks(program):
             told = TOLD.search(page)
             good = told and int(told[1]) == count
             yield "the number in docs/PROOFS.md", [] if good else [f"there are {count} allocations"]
-    for words in [], ["unknown"], ["replay", "unknown"]:
+    for file in sorted((ROOT / "examples").rglob("*.states")):
+        script, text = file.with_suffix(".script").read_bytes(), file.read_bytes()
+        count, wanting, wrong = refusals(program, ["states"], script, 0, text)
+        yield f"{file.name}, {count} allocations", wrong
+        few = [f"{wanting} of {2 * count} runs wanted for memory"] if not 0 < wanting >= count else []
+        yield f"{file.name}: a refused allocation is told", few
+    for words in [], ["unknown"], ["replay", "unknown"], ["states", "unknown"]:
         count, wanting, wrong = refusals(program, words, b"", 64, USAGE)
         yield f"other words, {words}, {count} allocations", wrong
 

@@ -12,6 +12,7 @@
 - A disk that gets full has taken as many bytes as it has room for, also inside what one line tells.
 - Input and output that give or take few bytes at a time change nothing. An input that gives none is at its end, and an
   output that takes none has failed.
+- The same holds of the form `states`, in which a line tells of rows too.
 - A storm reads nothing, and its writes fail as those of a replay do.
 
 Each check that fails has a line, and the last line is `N passed, M failed`. Where there is no C compiler all is left
@@ -29,6 +30,7 @@ from failing import tried
 
 ROOT = pathlib.Path(__file__).resolve().parent.parent
 SMALLEST, FAULTY, WORKED = "first-request", "faulty-line", "tests/worked"
+STATED = "07-a-connection", "examples/exercises"
 # The pieces of the smallest script's text, those of the usage line, and a storm's words.
 PIECES, USAGE, STORM = 7, b"usage: ntlpc COMMAND [WORDS]\n", ("storm", "2", "0")
 STORM_BEGINS = b"storm lines=58 entries=67 objects=0 replies=1 mismatches=1 sum="
@@ -37,18 +39,26 @@ ERRORS = {it: getattr(errno, it) for it in ("EIO", "EAGAIN", "ENOSPC", "EBADF", 
 PIECE = 4_096
 
 
-class Example:
-    """A script, its transcript, and the status that goes with it."""
+# The number of the script's line, in an entry and in what is told of a row.
+NUMBER = re.compile(rb'(?:\{"line":)?(\d+)')
 
-    def __init__(self, name, script, transcript):
-        self.name, self.script, self.transcript = name, script, transcript
+
+class Example:
+    """A script, what a form prints for it, its transcript or that with rows, and the status that goes with it."""
+
+    def __init__(self, name, script, transcript, form="replay"):
+        self.name, self.script, self.transcript, self.form = name, script, transcript, form
         self.lines = self.transcript.splitlines(True)
         self.status = 2 if self.lines[-1].startswith(b"stop ") else 0
+
+    def run(self, program, **given):
+        """Runs the program over the script."""
+        return program.run(self.form, source=self.script, **given)
 
     def pieces(self):
         """What is written at once where a byte is read at a time: what each line of the script tells, and the last
         line."""
-        found = [list(it) for _, it in itertools.groupby(self.lines[:-1], lambda it: it.split(b" ")[0])]
+        found = [list(it) for _, it in itertools.groupby(self.lines[:-1], lambda it: NUMBER.match(it)[1])]
         return [b"".join(it) for it in found] + self.lines[-1:]
 
     def reads(self, piece):
@@ -64,13 +74,19 @@ class Example:
         whole = self.script[:size].count(b"\n")
         if self.status == 2 and whole >= int(self.lines[-1].split()[1]):
             return 2, self.transcript
-        told = [it for it in self.lines[:-1] if int(re.match(rb"\d+", it)[0]) <= whole]
+        told = [it for it in self.lines[:-1] if int(NUMBER.match(it)[1]) <= whole]
         return 3, b"".join(told)
 
 
 def example(name, folder="examples"):
     """An example of a folder."""
     return Example(name, *((ROOT / folder / f"{name}.{it}").read_bytes() for it in ("script", "transcript")))
+
+
+def stated(name, folder):
+    """The same in the form of states."""
+    parts = ((ROOT / folder / f"{name}.{it}").read_bytes() for it in ("script", "states"))
+    return Example(f"{name}.states", *parts, "states")
 
 
 def wrong_with(run, status, text, **counts):
@@ -89,10 +105,10 @@ def reads(program, it, piece):
     """Each read fails in turn, of an input that gives so many bytes at a time."""
     count = it.reads(piece)
     for number in range(1, count + 1):
-        run = program.replay(it.script, READ_PIECE=piece, FAIL_READ=number)
+        run = it.run(program, READ_PIECE=piece, FAIL_READ=number)
         status, text = it.broken_off((number - 1) * piece)
         yield f"{it.name}: read {number} of {count} fails", wrong_with(run, status, text, reads=number)
-    run = program.replay(it.script, READ_PIECE=piece, FAIL_READ=count + 1)
+    run = it.run(program, READ_PIECE=piece, FAIL_READ=count + 1)
     whole = wrong_with(run, it.status, it.transcript, reads=count)
     yield f"{it.name}: no read fails, {piece} bytes at a time", whole
 
@@ -100,16 +116,16 @@ def reads(program, it, piece):
 def few_bytes(program, it):
     """An input that gives few bytes at a time changes nothing."""
     for piece in 1, 7:
-        run = program.replay(it.script, READ_PIECE=piece)
+        run = it.run(program, READ_PIECE=piece)
         whole = wrong_with(run, it.status, it.transcript)
         yield f"{it.name}: an input that gives {piece} bytes at a time", whole
 
 
 def no_bytes(program, it):
     """An input that gives no byte is at its end, and an output that takes none has failed."""
-    run = program.replay(it.script, READ_PIECE=0)
+    run = it.run(program, READ_PIECE=0)
     yield f"{it.name}: an input that gives nothing", wrong_with(run, 0, b"end 0 0 0\n", reads=1)
-    run = program.replay(it.script, WRITE_PIECE=0)
+    run = it.run(program, WRITE_PIECE=0)
     yield f"{it.name}: an output that takes nothing", wrong_with(run, 4, b"", writes=1)
 
 
@@ -118,10 +134,10 @@ def writes(program, it):
     pieces = it.pieces()
     for number in range(1, len(pieces) + 1):
         for more in {}, {"FAIL_FROM": 1}:
-            run = program.replay(it.script, READ_PIECE=1, FAIL_WRITE=number, **more)
+            run = it.run(program, READ_PIECE=1, FAIL_WRITE=number, **more)
             sent = b"".join(pieces[: number - 1])
             yield f"{it.name}: write {number} of {len(pieces)} fails", wrong_with(run, 4, sent, writes=number)
-    run = program.replay(it.script, READ_PIECE=1, FAIL_WRITE=len(pieces) + 1)
+    run = it.run(program, READ_PIECE=1, FAIL_WRITE=len(pieces) + 1)
     whole = wrong_with(run, it.status, it.transcript, writes=len(pieces))
     yield f"{it.name}: a write fails that isn't made", whole
 
@@ -129,11 +145,11 @@ def writes(program, it):
 def writes_in_parts(program, it, part):
     """An output that takes so many bytes at a time: all is sent; and each write fails in turn."""
     parts = [it[at : at + part] for it in it.pieces() for at in range(0, len(it), part)]
-    run = program.replay(it.script, READ_PIECE=1, WRITE_PIECE=part)
+    run = it.run(program, READ_PIECE=1, WRITE_PIECE=part)
     whole = wrong_with(run, it.status, it.transcript, writes=len(parts))
     yield f"{it.name}: an output that takes {part} bytes at a time", whole
     for number in range(1, len(parts) + 1):
-        run = program.replay(it.script, READ_PIECE=1, WRITE_PIECE=part, FAIL_WRITE=number)
+        run = it.run(program, READ_PIECE=1, WRITE_PIECE=part, FAIL_WRITE=number)
         sent = b"".join(parts[: number - 1])
         yield f"{it.name}: write {number} of {part} bytes fails", wrong_with(run, 4, sent, writes=number)
 
@@ -141,12 +157,12 @@ def writes_in_parts(program, it, part):
 def writes_of_all(program, it, numbers=None, **how):
     """Writes fail in turn, each or those at some places from 0 to 1, where all that there is may be read at once: what
     was sent begins the transcript, a later write leaves more of it, and behind the failed one none is made."""
-    whole = program.replay(it.script, **how)
+    whole = it.run(program, **how)
     yield f"{it.name}: no write fails", wrong_with(whole, it.status, it.transcript)
     last, longest = max(whole.writes, 1), -1
     chosen = range(1, last + 1) if numbers is None else sorted({1 + round(at * (last - 1)) for at in numbers})
     for number in chosen:
-        run = program.replay(it.script, FAIL_WRITE=number, **how)
+        run = it.run(program, FAIL_WRITE=number, **how)
         found = wrong_with(run, 4, it.transcript[: len(run.printed)], writes=number)
         if not longest < len(run.printed) < len(it.transcript):
             found.append(f"it printed {len(run.printed)} bytes, and {longest} where an earlier write failed")
@@ -157,9 +173,9 @@ def writes_of_all(program, it, numbers=None, **how):
 def full_disks(program, it, rooms=None):
     """A disk that gets full takes the bytes that it has room for."""
     for room in range(len(it.transcript)) if rooms is None else rooms:
-        run = program.replay(it.script, WRITE_ROOM=room)
+        run = it.run(program, WRITE_ROOM=room)
         yield f"{it.name}: a disk with room for {room} bytes", wrong_with(run, 4, it.transcript[:room])
-    run = program.replay(it.script, WRITE_ROOM=len(it.transcript))
+    run = it.run(program, WRITE_ROOM=len(it.transcript))
     whole = wrong_with(run, it.status, it.transcript)
     yield f"{it.name}: a disk with room for all", whole
 
@@ -193,18 +209,18 @@ def storm(program):
 
 def both(program, it):
     """A read and a write are to fail: what fails first is told."""
-    run = program.replay(it.script, READ_PIECE=20, FAIL_READ=3, FAIL_WRITE=1)
+    run = it.run(program, READ_PIECE=20, FAIL_READ=3, FAIL_WRITE=1)
     yield f"{it.name}: a write fails before a read", wrong_with(run, 4, b"", writes=1)
-    run = program.replay(it.script, READ_PIECE=20, FAIL_READ=2, FAIL_WRITE=2)
+    run = it.run(program, READ_PIECE=20, FAIL_READ=2, FAIL_WRITE=2)
     yield f"{it.name}: a read fails before a write", wrong_with(run, *it.broken_off(20), reads=2, writes=1)
 
 
 def errors(program, it):
     """Which error it is makes no difference."""
     for name, number in ERRORS.items():
-        run = program.replay(it.script, READ_PIECE=20, FAIL_READ=3, FAIL_ERROR=number)
+        run = it.run(program, READ_PIECE=20, FAIL_READ=3, FAIL_ERROR=number)
         yield f"{name} of a read", wrong_with(run, *it.broken_off(40), reads=3)
-        run = program.replay(it.script, READ_PIECE=1, FAIL_WRITE=3, FAIL_ERROR=number)
+        run = it.run(program, READ_PIECE=1, FAIL_WRITE=3, FAIL_ERROR=number)
         yield f"{name} of a write", wrong_with(run, 4, b"".join(it.pieces()[:2]), writes=3)
 
 
@@ -221,6 +237,17 @@ def long_output(program):
     good = rooms[-2] < rooms[-1]
     yield "long output: one line tells much", [] if good else [f"it tells {end - begin} bytes"]
     yield from full_disks(program, it, rooms)
+
+
+def states(program):
+    """The form of states, whose lines tell more: each read and each write fails, and a disk gets full in each line."""
+    it = stated(*STATED)
+    yield from few_bytes(program, it)
+    yield from reads(program, it, 7)
+    yield from writes(program, it)
+    yield from writes_of_all(program, it)
+    ends = list(itertools.accumulate(map(len, it.lines)))
+    yield from full_disks(program, it, sorted({0, *ends[:-1], *(end - 1 for end in ends)}))
 
 
 def checks(program):
@@ -247,6 +274,7 @@ def checks(program):
     yield from both(program, smallest)
     yield from errors(program, smallest)
     yield from long_output(program)
+    yield from states(program)
 
 
 if __name__ == "__main__":
