@@ -10,6 +10,8 @@
 - Each limit that the pages name is that of the profile, and docs/SERVICES.md names no number that isn't one.
 - The worked tables of README.md, docs/CONNECTIONS.md, docs/EXCEPTIONS.md, docs/SECURITY.md and docs/VIEWS.md have the
   lines of the scripts and transcripts in examples/.
+- docs/STATES.md shows all that some lines of its example tell, in their order, and has each key that the definitions
+  print, and no other.
 - Each function, clause and law that docs/PROOFS.md names as carrying a claim stands in that crate, and each clause of
   the top call is named there, in one claim.
 - Each name that the pages on definitions, proofs and code have as code stands below crates/, or is a file.
@@ -41,6 +43,9 @@ WORKED_ROWS = {
     "docs/SECURITY.md": 45,
     "docs/VIEWS.md": 22,
 }
+# What docs/STATES.md shows of its example, and how many keys the rows have.
+STATED = "exercises/07-a-connection"
+STATED_ROWS, KEY_COUNT = 23, 66
 # The calls that refuse nothing, and so have no table of refusals.
 UNREFUSED = ("raise",)
 CLAIM_COUNT = 64
@@ -269,6 +274,29 @@ def worked():
             yield f"{page}: {name}, lines {first} to {last}", list(worked_table(rows, name, first, last))
 
 
+def stated():
+    """The worked table of docs/STATES.md, against the example; and its table of keys, against the definitions."""
+    text = (pages.DOCS / "STATES.md").read_text(encoding="utf-8")
+    rows = next(rows for _, head, rows in tables(text) if head == ["Line", "Printed", "What it shows"])
+    printed = (pages.EXAMPLES / f"{STATED}.states").read_text(encoding="utf-8").splitlines()
+    shown = {row[0] for row in rows if row[0]}
+    wanted = [it for it in printed if re.match(r'(?:\{"line":)?(\w+)', it)[1] in shown]
+    told = [row[1].strip("`") for row in rows]
+    others = [pair for pair in zip(told, wanted) if not shortened(pair[0]).fullmatch(pair[1])]
+    yield "STATES.md: what the lines tell", [f"it shows {it}, the example has {line}" for it, line in others]
+    yield pinned("rows of the worked table in STATES.md", len(told), STATED_ROWS)
+    yield pinned("rows of these lines in its example", len(wanted), STATED_ROWS)
+    keys = set(re.findall(r'\\"(\w+)\\":', definitions.text_of("lpc_states", "specs", "antt"))) - {"line"}
+    cells = next(rows for _, head, rows in tables(text) if head[:2] == ["Row", "Key"])
+    prose = CODE.findall(text[text.index("## The keys") :].partition("\n\n| Row")[0])
+    named = {it for row in cells for cell in row[1:] for it in CODE.findall(cell)}
+    named |= {it for span in prose for it in re.findall(r'"(\w+)":', span)}
+    yield pinned("keys of rows", len(keys), KEY_COUNT)
+    yield "STATES.md has each key", [f"{it} isn't there" for it in sorted(keys - named)]
+    columns = {it for row in cells for it in CODE.findall(row[1])}
+    yield "STATES.md has no other key", [f"{it} is none" for it in sorted(columns - keys)]
+
+
 def claims():
     """The rows of docs/PROOFS.md that name what carries a claim: the crates of each, and its last cell."""
     text, crates = (pages.DOCS / "PROOFS.md").read_text(encoding="utf-8"), []
@@ -337,7 +365,7 @@ def names_in_code():
 
 def checks():
     """All checks: each with its name and what it found wrong."""
-    for group in (status_names, refusals, limits, worked, proofs, names_in_code):
+    for group in (status_names, refusals, limits, worked, stated, proofs, names_in_code):
         yield from group()
 
 
