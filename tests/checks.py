@@ -10,6 +10,7 @@
 - The probe of `tests/program.py` that takes memory away refuses a program that tells nothing, and one that doesn't run.
 - `tests/edge.py` passes a program that writes what each line tells, and one that keeps it back until more is read; it
   refuses those that go wrong where a read or a write fails. Where there is no C compiler this is left out.
+- `tests/states.py` passes the text of an example, and refuses texts in which a row or an entry is altered.
 
 Each check that fails has a line, and the last line is `N passed, M failed`. The exit status is 0 where all passed, 1
 where not.
@@ -30,6 +31,7 @@ sys.dont_write_bytecode = True
 import edge
 import failing
 import program
+import states
 
 ROOT = pathlib.Path(__file__).resolve().parent.parent
 # What `.ci/run` runs, in order. Who adds a part adds it here.
@@ -110,6 +112,31 @@ BAD = (
     "tells a failed write as a failed read",
     "keeps back what it told too long",
 )
+# How the text of an example in the form of states is made wrong: by a pattern, and what is put in its place.
+STATES = "11-a-client-dies"
+ALTERED = {
+    "leaves out a row that went": (r'\{"line":13,"went":"wait 20.2"\}\n', ""),
+    "leaves out a row that came": (r'\{"line":5,"came":"port 12.1".*\n', ""),
+    "tells a row twice": (r'(\{"line":6,"came":"wait 20.1".*\n)', r"\1\1"),
+    "tells a row that is as it was": (r'(\{"line":7,)"changed"(:"port 20.1".*\n)', r'\1"changed"\2\1"changed"\2'),
+    "tells a changed row as one that came": (r'("line":7,)"changed"(:"port 20.1")', r'\1"came"\2'),
+    "tells a row that came as a changed one": (r'("line":2,)"came"(:"process 0.8")', r'\1"changed"\2'),
+    "tells a row that went twice": (r'(\{"line":13,"went":"wait 20.2"\}\n)', r"\1\1"),
+    "tells more of a row that went": (r'("line":13,"went":"wait 20.2")', r'\1,"thread":20'),
+    "tells a row of another line": (r'"line":7,"changed":"port 20.1"', '"line":6,"changed":"port 20.1"'),
+    "tells rows in front of their entries": (r'(4 - thread 00000000\n)(\{.*\n)', r"\2\1"),
+    "tells what went at last": (r'(\{"line":15,"went".*\n)(\{.*\n)', r"\2\1"),
+    "tells kinds in another order": (r'(\{"line":5,"came":"handle.*\n)(\{.*\n)', r"\2\1"),
+    "has a key twice": (r'("line":5,"came":"handle 8/4","process":8)', r'\1,"process":8'),
+    "writes no JSON": (r'("line":5,"came":"handle 8/4","process":)8', r"\g<1>x"),
+    "counts other objects": (r"end 19 20 0", "end 19 20 1"),
+}
+# The same of a text that is cut off behind its line 13, where rows are left.
+COUNTED = {
+    "counts a handle too few": (r'("line":13,"changed":"port 12.2".*"handles":)1', r"\g<1>0"),
+    "counts a row too many": (r'("line":13,"changed":"port 20.1".*"pointers":)2', r"\g<1>3"),
+    "names an object that isn't there": (r'("line":5,"came":"handle 8/4".*"object":)"port 12.1"', r'\1"port 12.9"'),
+}
 # What the pages name that transcripts can reach, and how many cases the suite has at least.
 OUTCOMES = 255
 CASES_AT_LEAST = 2_000
@@ -372,9 +399,36 @@ def edges():
         yield f"the edge of a program that {how}", lambda: same(edge_finds(how), True)
 
 
+def rows_find(text, transcript=None):
+    """Whether the test of the form of states finds something wrong with a text; beside its own entries, where no others
+    are given."""
+    lines = text.encode().splitlines(True)
+    return bool(states.found(states.followed, lines, transcript or b"".join(it for it in lines if it[:1] != b"{")))
+
+
+def rows_altered(text, pattern, other):
+    """Nothing where something is found wrong with a text in which one thing is altered."""
+    wrong, count = re.subn(pattern, other, text)
+    return same((count, rows_find(wrong)), (1, True))
+
+
+def rows():
+    """The test of the form of states, over the text of an example and over texts that aren't right."""
+    file = ROOT / "examples" / "exercises" / f"{STATES}.states"
+    text, transcript = file.read_text(encoding="ascii"), file.with_suffix(".transcript").read_bytes()
+    # Behind line 13 a process, a thread and three ports are left.
+    front = text[: text.index("14 12 NtReplyPort")] + "end 13 14 5\n"
+    yield "rows that are right", lambda: same(rows_find(text, transcript), False)
+    yield "rows that are right, and left", lambda: same(rows_find(front), False)
+    yield "rows without an entry", lambda: same(rows_find(text.replace("13 ~24 died 00000003\n", ""), transcript), True)
+    for whole, ways in (text, ALTERED), (front, COUNTED):
+        for how, (pattern, other) in ways.items():
+            yield f"a text that {how}", lambda: rows_altered(whole, pattern, other)
+
+
 def checks():
     """All checks: each with its name and what finds out what is wrong."""
-    for group in (gate_seconds, gate, suites, probes, edges):
+    for group in (gate_seconds, gate, suites, probes, edges, rows):
         yield from group()
 
 
