@@ -3,6 +3,7 @@ import contextlib
 import io
 import os
 import pathlib
+import shutil
 import subprocess
 import sys
 import tempfile
@@ -11,10 +12,12 @@ import unittest
 sys.dont_write_bytecode = True
 TOOLS = pathlib.Path(__file__).resolve().parent.parent
 sys.path.insert(0, str(TOOLS))
+import reading
 from ntlpc_tool import main, program
 
 ROOT = TOOLS.parent
 EXAMPLES = sorted((ROOT / "examples").rglob("*.script"))
+BROWSER = next(filter(None, map(shutil.which, ("chromium", "chromium-browser", "google-chrome"))), None)
 
 
 def run(*words, source=b"", **environment):
@@ -55,3 +58,24 @@ class WithFolder(unittest.TestCase):
         path = pathlib.Path(self.folder.name) / name
         path.write_bytes(content)
         return str(path)
+
+    def program(self, code):
+        """A program that does what shell code says; its word is `$1` there."""
+        path = self.file("fake", b"#!/bin/sh\ncat > /dev/null\n" + code)
+        os.chmod(path, 0o755)
+        return path
+
+
+@unittest.skipUnless(BROWSER, "chromium isn't installed")
+class WithBrowser(WithFolder):
+    """A test of what a browser makes of a page."""
+
+    def loaded(self, text, fragment=""):
+        """The tree that a browser makes of a page."""
+        page = pathlib.Path(self.file("page.html", text.encode()))
+        flags = ["--headless", "--no-sandbox", "--disable-gpu", f"--user-data-dir={self.folder.name}/profile",
+                 "--virtual-time-budget=1000", "--enable-logging=stderr", "--v=0", "--dump-dom"]
+        ran = subprocess.run([BROWSER, *flags, page.as_uri() + fragment], capture_output=True, text=True, timeout=120)
+        self.assertNotIn("Content Security Policy", ran.stderr)
+        self.assertNotIn("Uncaught", ran.stderr)
+        return reading.tree(ran.stdout)

@@ -8,7 +8,6 @@ import importlib.util
 import os
 import pathlib
 import re
-import shutil
 import subprocess
 import sys
 import unittest
@@ -23,7 +22,6 @@ FIRST = support.ROOT / "examples" / "first-request.script"
 SUITE = [min(it.glob("*.script")) for it in sorted((support.ROOT / "conformance").iterdir()) if [*it.glob("*.script")]]
 DOCS = (support.ROOT / "docs").as_uri()
 POLICY = re.compile("<meta http-equiv=[^>]*>")
-BROWSER = next(filter(None, map(shutil.which, ("chromium", "chromium-browser", "google-chrome"))), None)
 MISCHIEF = rb"""\<script>alert(1)</script>&amp;"'<!--]]>$title</style><svg/onload=alert(2)>"""
 
 
@@ -395,29 +393,25 @@ class Words(support.WithFolder):
         told = self.refused(binary, "--transcript", FIRST.with_suffix(".transcript"))
         self.assertIn("is not the script of this transcript", told)
 
-    def fake(self, code):
-        """A program that does what shell code says."""
-        path = self.file("fake", b"#!/bin/sh\ncat > /dev/null\n" + code)
-        os.chmod(path, 0o755)
-        return path
-
     def test_the_program_is_run(self):
-        told = self.fake(f"cat '{FIRST.with_suffix('.transcript')}'\n".encode())
+        told = self.program(f"cat '{FIRST.with_suffix('.transcript')}'\n".encode())
         ran = support.run("page", FIRST, "--program", told)
         self.assertEqual((ran.returncode, ran.stdout), (0, text_of(FIRST)))
         ran = support.run("page", "-", "--program", told, source=FIRST.read_bytes())
         self.assertEqual(words(next(reading.tree(ran.stdout).all("h1"))), "the standard input")
 
     def test_a_program_that_fails_is_told(self):
-        self.assertIn("ended with status 5: memory ran out", self.refused(FIRST, "--program", self.fake(b"exit 5\n")))
-        told = self.refused(FIRST, "--program", self.fake(b"echo junk\n"))
+        told = self.refused(FIRST, "--program", self.program(b"exit 5\n"))
+        self.assertIn("ended with status 5: memory ran out", told)
+        told = self.refused(FIRST, "--program", self.program(b"echo junk\n"))
         self.assertIn("printed no transcript: line 1 of the transcript", told)
         self.assertIn("names /nonexistent", self.refused(FIRST, "--program", "/nonexistent"))
 
     @support.needs_program
     def test_each_example_is_run(self):
         for script in support.EXAMPLES:
-            self.assertEqual(support.inside("page", script).stdout, text_of(script), script)
+            page = reading.tree(support.inside("page", script).stdout)
+            self.assertEqual([it.text() for it in page.all("code", "raw")], printed(script), script)
 
     def started(self, *shell):
         """The command in a shell that does something to its output."""
@@ -445,20 +439,10 @@ class Words(support.WithFolder):
         self.assertIn("# \u00e4", ran.stdout)
 
 
-@unittest.skipUnless(BROWSER, "chromium isn't installed")
-class Browser(support.WithFolder):
+class Browser(support.WithBrowser):
     """What a browser makes of the page of an example, whose line 1 is a comment, and whose first entry is of line 2."""
 
     SCRIPT = support.ROOT / "examples" / "datagrams.script"
-
-    def loaded(self, text, fragment=""):
-        """The tree that a browser makes of a page."""
-        page = pathlib.Path(self.file("page.html", text.encode()))
-        flags = ["--headless", "--no-sandbox", "--disable-gpu", f"--user-data-dir={self.folder.name}/profile",
-                 "--virtual-time-budget=1000", "--enable-logging=stderr", "--v=0", "--dump-dom"]
-        ran = subprocess.run([BROWSER, *flags, page.as_uri() + fragment], capture_output=True, text=True, timeout=120)
-        self.assertNotIn("Content Security Policy", ran.stderr)
-        return reading.tree(ran.stdout)
 
     def current(self, fragment):
         """The step that is shown: its id, its number on the slider, and the part of the drawing that is marked."""
