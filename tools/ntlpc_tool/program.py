@@ -11,6 +11,8 @@ VARIABLE = "NTLPC"
 BUILT = CHECKOUT / "crates" / "ntlpc" / "out" / "ntlpc"
 INSTALLED = "ntlpc"
 SECONDS = 60
+# The status of a program that doesn't know the word that it is called with.
+UNKNOWN_WORD = 64
 # What the exit statuses of the program mean; the README has the same table.
 ENDINGS = {
     0: "the script was read to its end, every line was well formed, and all was written",
@@ -18,7 +20,7 @@ ENDINGS = {
     3: "the input failed: what its whole lines tell is printed, without a last line",
     4: "the output failed",
     5: "memory ran out: what some first lines tell is printed, without a last line",
-    64: "the program takes no word `replay`, or further words stood beside it",
+    UNKNOWN_WORD: "the program takes no word `replay`, or further words stood beside it",
 }
 
 
@@ -72,10 +74,10 @@ def _runnable(place, name):
     return os.path.abspath(found)
 
 
-def replay(program, script, seconds=SECONDS):
-    """Runs the program over a script."""
+def replay(program, script, seconds=SECONDS, word="replay"):
+    """Runs the program over a script, which another word has it do in another form."""
     try:
-        ran = subprocess.run([program, "replay"], input=script, capture_output=True, timeout=seconds)
+        ran = subprocess.run([program, word], input=script, capture_output=True, timeout=seconds)
     except subprocess.TimeoutExpired:
         raise inputs.Misuse(f"{program} did not end within {seconds} seconds") from None
     except OSError as error:

@@ -5,6 +5,7 @@
   const steps = [...document.querySelectorAll(".step")];
   const [lanes, slider, place] = ["lanes", "slider", "place"].map(byId);
   const [mark, veil] = ["mark", "veil"].map(byId);
+  const SIDEWAYS = 60;
   let at = -1;
 
   // The step that a fragment names; of a line without an entry it is the next one that has any.
@@ -53,6 +54,7 @@
     Object.entries(ended).forEach(([id, is]) => byId(id).setAttribute("aria-disabled", is));
     const part = byId("part-" + step.dataset.key);
     if (part) point(part);
+    tables.show(at, step, line);
     step.scrollIntoView({ block: "nearest" });
     if (remember) keep("#" + step.id);
   }
@@ -71,6 +73,11 @@
     End: () => steps.length - 1,
   };
   document.addEventListener("keydown", (event) => {
+    const region = event.shiftKey && /^Arrow(Left|Right)$/.test(event.key) && event.target.closest("[role=region]");
+    if (region) {
+      event.preventDefault();
+      region.scrollLeft += event.key === "ArrowRight" ? SIDEWAYS : -SIDEWAYS;
+    }
     const known = keys[event.key];
     if (!known || event.altKey || event.ctrlKey || event.metaKey || event.shiftKey || event.target === slider) return;
     event.preventDefault();

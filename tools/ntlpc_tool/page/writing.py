@@ -1,14 +1,16 @@
 """Puts the steps and the drawing into the page, with its style and its script."""
 import base64
 import hashlib
+import itertools
 import string
 
 import ntlpc_tool
 from ntlpc_tool import describe, sequence, turns
-from ntlpc_tool.page import lanes, ruled, steps, strokes
+from ntlpc_tool.page import history, lanes, steps, strokes, tables
 from ntlpc_tool.page.markup import Markup, element, joined
 
 HERE = ntlpc_tool.FOLDER / "page"
+STYLES, CODES = ("page.css", "tables.css"), ("tables.js", "page.js")
 SAMPLE, SAMPLE_HEIGHT = 64, 16
 DRAWING = "Who sends what to whom, a lane for each thread; the lines tell the same in words"
 SHAPES = (
@@ -21,14 +23,16 @@ SHAPES = (
 )
 
 
-def page(name, found, script, links):
-    """The bytes of the page of a script and its transcript."""
+def page(name, found, script, links, changes):
+    """The bytes of the page of a script and its transcript. `changes` are what became of the machine's rows, or tell
+    why that isn't known."""
     items = list(steps.of(found, script))
     shown = [it for it in items if isinstance(it, steps.Step)]
     picture = sequence.Picture(found, script)
     taken = {int(it.key): (turns.thread_of(script.words(int(it.key))), it.deed) for it in shown if it.deed}
     drawn = lanes.Lanes(picture, taken, next(it.key for it in shown if it.last))
-    style, code = (Markup((HERE / it).read_text(encoding="utf-8")) for it in ("page.css", "page.js"))
+    told = None if isinstance(changes, str) else tables.Tables(history.History(changes, list(map(line_of, shown))))
+    style, code = (joined(map(text_of, it)) for it in (STYLES, CODES))
     parts = {
         "title": f"{name}, step by step",
         "name": name,
@@ -36,15 +40,23 @@ def page(name, found, script, links):
         "style": style,
         "code": code,
         "about": about(found, script, picture),
+        "untold": "" if told else element("p", changes, class_="untold"),
         "count": str(len(shown)),
-        "steps": joined((of_item(it, links) for it in items), "\n"),
+        "steps": steps_told(items, links, told),
         "head": drawn.head(),
         "body": drawn.body(DRAWING),
         "legend": legend(picture, taken),
+        "machine": machine(told, links) if told else "",
+        "kind": "with-machine" if told else "without-machine",
         "version": ntlpc_tool.VERSION,
     }
-    template = string.Template((HERE / "page.html").read_text(encoding="utf-8"))
+    template = string.Template(text_of("page.html"))
     return template.substitute({key: joined([value]) for key, value in parts.items()}).encode()
+
+
+def text_of(name):
+    """A file beside this one, as markup."""
+    return Markup((HERE / name).read_text(encoding="utf-8"))
 
 
 def policy(style, code):
@@ -65,17 +77,28 @@ def about(found, script, picture):
 # The lines.
 
 
-def of_item(item, links):
+def line_of(step):
+    """The number of a step's line, None behind all lines."""
+    return None if step.key == steps.END else int(step.key)
+
+
+def steps_told(items, links, told):
+    """The steps, and the lines between them."""
+    numbers = itertools.count()
+    return joined((of_item(it, links, told, numbers) for it in items), "\n")
+
+
+def of_item(item, links, told, numbers):
     """A step, or a line between steps."""
     if isinstance(item, steps.Step):
-        return of_step(item, links)
+        return of_step(item, links, told.changes(next(numbers)) if told else "")
     number = element("span", item.number, class_="number")
     behind = "" if item.comment else element("span", "no entry", class_="kind")
     return element("p", number, element("code", item.text), behind, class_="silent", id=f"line-{item.number}")
 
 
-def of_step(step, links):
-    """A step: its line, its entries with what they mean, and who waits."""
+def of_step(step, links, changes):
+    """A step: its line, its entries with what they mean, what that changes, and who waits."""
     name = f"line-{step.key}" if step.text is not None else step.key
     number = step.key if step.text is not None else "end"
     text = element("code", step.text) if step.text is not None else "behind the last line"
@@ -84,7 +107,7 @@ def of_step(step, links):
     parts = [element("h3", link, deed), *(of_entry(it, links) for it in step.told)]
     if step.last:
         parts.append(of_last(step.last, links))
-    parts.append(of_waits(step.waits))
+    parts += [changes, of_waits(step.waits)]
     return element("article", joined(parts, "\n"), class_="step", id=name, data_key=step.key)
 
 
@@ -120,6 +143,15 @@ def of_waits(waits):
         return element("div", element("p", "Behind it no thread waits."), class_="told waits")
     told = element("ul", *(element("li", it) for it in waits))
     return element("div", element("h4", "Who waits behind it"), told, class_="told waits")
+
+
+# The machine's rows.
+
+
+def machine(told, links):
+    """The tables of the machine's rows, and the data from which the page's script makes them."""
+    parts = {"tables": told.at_end(), "data": told.data(), "docs": links.link("STEPPING.md, The machine behind a line")}
+    return Markup(string.Template(text_of("machine.html")).substitute({key: joined([it]) for key, it in parts.items()}))
 
 
 # What the drawing's forms mean.
