@@ -20,6 +20,8 @@ import time
 LONG = (1_000, 10_000, 100_000)
 # With each client objects are left behind, over which each later line takes longer.
 SHORT = (1_000, 3_000, 10_000)
+# In the form of states each line takes time for all rows that stand.
+FEW = (100, 300, 1_000)
 HERE = os.path.dirname(os.path.abspath(__file__))
 
 
@@ -215,13 +217,13 @@ def seconds_of_children():
     return used.ru_utime + used.ru_stime
 
 
-def measured(program, script):
-    """Processor seconds and peak memory in MiB of one run, and the status with which it ended. The memory is looked at
-    again and again while the program runs, so a short run's may be missed."""
+def measured(program, form, script):
+    """Processor seconds and peak memory in MiB of one run in a form, and the status with which it ended. The memory is
+    looked at again and again while the program runs, so a short run's may be missed."""
     memory = 0
     with open(script, "rb") as source:
         before = seconds_of_children()
-        child = subprocess.Popen([program, "replay"], stdin=source, stdout=subprocess.DEVNULL)
+        child = subprocess.Popen([program, form], stdin=source, stdout=subprocess.DEVNULL)
         while child.poll() is None:
             memory = max(memory, peak(child.pid))
             time.sleep(0.0005)
@@ -256,29 +258,32 @@ def main():
     print("|---|---|---|---|---|---|")
     with tempfile.TemporaryDirectory() as folder:
         kinds = (
-            (requests, LONG),
-            (datagrams, LONG),
-            (closings, LONG),
-            (endings, LONG),
-            (creations, LONG),
-            (small_views, LONG),
-            (large_views, LONG),
-            (described, LONG),
-            (impersonations, LONG),
-            (raises, LONG),
-            (turns, LONG),
-            (boots, LONG),
-            (connects, SHORT),
+            (requests, LONG, "replay"),
+            (datagrams, LONG, "replay"),
+            (closings, LONG, "replay"),
+            (endings, LONG, "replay"),
+            (creations, LONG, "replay"),
+            (small_views, LONG, "replay"),
+            (large_views, LONG, "replay"),
+            (described, LONG, "replay"),
+            (impersonations, LONG, "replay"),
+            (raises, LONG, "replay"),
+            (turns, LONG, "replay"),
+            (boots, LONG, "replay"),
+            (connects, SHORT, "replay"),
+            (requests, SHORT, "states"),
+            (boots, FEW, "states"),
         )
-        for kind, sizes in kinds:
+        for kind, sizes, form in kinds:
             for size in sizes:
                 text = list(kind(size))
                 path = os.path.join(folder, "script")
                 with open(path, "w", encoding="ascii") as out:
                     out.write("\n".join(text) + "\n")
-                seconds, memory, status = measured(program, path)
+                seconds, memory, status = measured(program, form, path)
+                name = kind.__name__ if form == "replay" else f"{kind.__name__}, {form}"
                 print(
-                    f"| {kind.__name__} | {len(text)} | {seconds:.3f} | {len(text) / seconds:.0f} "
+                    f"| {name} | {len(text)} | {seconds:.3f} | {len(text) / seconds:.0f} "
                     f"| {f'{memory:.1f}' if memory > 0.1 else '-'} | {status} |",
                     flush=True,
                 )
