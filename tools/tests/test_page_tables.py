@@ -369,7 +369,7 @@ class Kinds(WithTables):
         process = self.cells(self.BOOT, row)["Processes"][1]
         self.assertEqual((process["Process"], process["Made as"], process["Made by"]), ("process 32", "24.4", "20"))
         self.assertEqual((process["Debug port"], process["Exception port"]), ("port 24.1", "port 24.2"))
-        self.assertEqual(process["Is to end with"], "c0000005 ACCESS_VIOLATION")
+        self.assertEqual(process["Ended unhandled with"], "c0000005 ACCESS_VIOLATION")
 
     def test_ports(self):
         kept = '{"token":{"user":"S-1-5-21-7","groups":["S-1-1-0"]},"level":null}'

@@ -71,7 +71,7 @@ KINDS = {
         ("Token", cells.token_of, "token"),
         ("Debug port", Book.row, "debug_port"),
         ("Exception port", Book.row, "exception_port"),
-        ("Is to end with", cells.code, "doom"),
+        ("Ended unhandled with", cells.code, "doom"),
         *COUNTS,
     ),
     "thread": _kind(
