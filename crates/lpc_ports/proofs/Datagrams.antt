@@ -1,10 +1,10 @@
 -- The stored number of the datagrams that were sent on a port.
-use Rattle.std.proofs.Common.{◌≡◌, ◌≢◌, ◌+◌, ◌-◌, ◌≤◌, ◌&&◌, ℕ, Bool, true, false, cond, refl, sym, ap, ◌∙◌, subst, arith, inl, inr, List, [], ◌∷◌, ◌++◌, Some, None}
+use Rattle.std.proofs.Common.{◌≡◌, ◌≢◌, ◌+◌, ◌-◌, ◌≤◌, ◌&&◌, ℕ, Bool, false, cond, refl, sym, ap, ◌∙◌, subst, arith, inl, inr, List, [], ◌∷◌, ◌++◌, Some, None}
 use Rattle.lpc_base.specs.Rows.{count, without}
 use Rattle.lpc_base.proofs.RowWords.{count-push}
 use Rattle.lpc_message.specs.declared.kind.TheConstants.{DATAGRAM}
 use Rattle.lpc_slots.specs.declared.Key.{Key}
-use Rattle.lpc_slots.specs.Table.{Table, at, at_key, is_key, with_value}
+use Rattle.lpc_slots.specs.Table.{Table, at, at_key, with_value}
 use Rattle.lpc_slots.proofs.Keys.{key_apart, key_itself}
 use Rattle.lpc_ports.specs.declared.rows.PortRow.{PortRow}
 use Rattle.lpc_ports.specs.Table.{QueuedMessage, is_datagram_of, is_of_type}

@@ -12,9 +12,10 @@ use Rattle.lpc_slots.proofs.Frames.{at_inserted, away_listed, distinct_listed, i
 use Rattle.lpc_slots.proofs.Same.{are_apart, at_first}
 use Rattle.lpc_ports.specs.declared.rows.PortRow.{PortRow}
 use Rattle.lpc_ports.specs.declared.messages.Block.{Block}
-use Rattle.lpc_ports.specs.Table.{QueuedMessage, is_datagram_of, is_in, is_of_type, row_at}
+use Rattle.lpc_ports.specs.Table.{QueuedMessage, is_connected_to, is_datagram_of, is_in, is_of_type, is_paired_to, row_at}
 use Rattle.lpc_message.specs.declared.kind.TheConstants.{DATAGRAM}
 use Rattle.lpc_ports.specs.Layout.{ChangesLinks, IsPlaced, IsSentBefore, InOrder, is_open, port_of, ports_of, seen, QueuesStand, SendersStand, IsCounted, AreDatagrams, IsDatagramPlaced}
+use Rattle.lpc_ports.specs.Names.{AreNames}
 use Rattle.lpc_ports.specs.Lent.{in_queue_of, is_by, keys_by, messages_of, of_sender_of, queue_of, queued_of, sender_of}
 
 pub mapped_some : {A B : Type 0} (f : A → B) (o : Option A) → is_some (option_map f o) ≡ is_some o
@@ -79,6 +80,12 @@ module _ (old_ports new_ports : Table PortRow) (old_blocks new_blocks : Table Bl
     message_room = links.block_spare i;
     ports_made = links.port_made i;
     messages_made = links.block_made i;
+  }
+
+  pub kept_names : (whole : Bool) → AreNames old_ports whole → AreNames new_ports whole
+  kept_names whole names = record {
+    paired = λ yes q. links.paired q ∙ names.paired yes q ∙ sym (ap (count (is_paired_to q)) kept_ports);
+    connected = λ yes q. links.connected q ∙ names.connected yes q ∙ sym (ap (count (is_connected_to q)) kept_ports);
   }
 
 -- senders
@@ -273,7 +280,7 @@ module _ (ports : Table PortRow) (blocks : Table Block) (inside : InOrder ports 
   abbrev fewer : Table PortRow
   fewer = removed ports key
 
-  gone_here : at fewer key ≡ None
+  pub gone_here : at fewer key ≡ None
   gone_here = map.get-remove key_cmp_total ports.rows key key ∙ ap (λ b. cond b None (at ports key)) (tied key key refl)
 
   at_fewer : (q : Key) (row : PortRow) → at fewer q ≡ Some row → at ports q ≡ Some row

@@ -14,6 +14,7 @@ use Rattle.lpc_ports.specs.declared.messages.Block.{Block}
 use Rattle.lpc_ports.specs.Table.{QueuedMessage}
 use Rattle.lpc_ports.specs.Layout.{ChangesLinks, IsPlaced, Stand, port_of}
 use Rattle.lpc_ports.specs.Lent.{keys_by, queued_of}
+use Rattle.lpc_ports.proofs.Named.{number_same}
 use Rattle.lpc_ports.proofs.Lists.{away_by, disjoint, ends_last, ends_next, gone_off, gone_on, push_off, push_on, split_by}
 
 -- the row of a port after a row was written
@@ -100,8 +101,8 @@ module _ {LIST : ℕ} (links_of : Block → Links) (with_links : Block → Links
       (split.0, split.1, subst (λ (ks : List Key). StandsFor links_of blocks (chain_of row) ks) split.2 (stand port row there))
 
 -- nothing but links and chains
-pub changes_links : (ports : Table PortRow) (port : Key) (row fresh : PortRow) (with_links : Block → Links → Block) (touched : List Key) (old new : Table Block) → at ports port ≡ Some row → port_of fresh ≡ port_of row → ((value : Block) (links : Links) → queued_of (with_links value links) ≡ queued_of value) → Relinks with_links touched old new → ChangesLinks ports (with_value ports port fresh) old new
-changes_links ports port row fresh with_links touched old new there same keeps relinks = record {
+pub changes_links : (ports : Table PortRow) (port : Key) (row fresh : PortRow) (with_links : Block → Links → Block) (touched : List Key) (old new : Table Block) → at ports port ≡ Some row → port_of fresh ≡ port_of row → fresh.paired ≡ row.paired → fresh.connected ≡ row.connected → ((value : Block) (links : Links) → queued_of (with_links value links) ≡ queued_of value) → Relinks with_links touched old new → ChangesLinks ports (with_value ports port fresh) old new
+changes_links ports port row fresh with_links touched old new there same paired connected keeps relinks = record {
   ports = λ q. elim (key_cases q port) [
     | inl here ↦
         ap (λ k. option_map port_of (at (with_value ports port fresh) k)) here ∙ ap (option_map port_of) (at_same ports port fresh)
@@ -109,6 +110,8 @@ changes_links ports port row fresh with_links touched old new there same keeps r
     | inr differs ↦ ap (option_map port_of) (at_other ports port fresh q (λ e. differs (let k : port ≡ q = cc in sym k)))
   ];
   blocks = λ q. by (at old q) (at new q) (relinks.values q);
+  paired = number_same (λ r. r.paired) ports port row fresh there paired;
+  connected = number_same (λ r. r.connected) ports port row fresh there connected;
   port_spare = refl;
   port_made = refl;
   block_spare = relinks.spare;
@@ -120,4 +123,4 @@ changes_links ports port row fresh with_links touched old new there same keeps r
     by o n (inr p) = ap (option_map queued_of) p.3 ∙ ap Some (keeps p.0 p.1) ∙ sym (ap (option_map queued_of) p.2)
 
 pub same_links : (ports : Table PortRow) (blocks : Table Block) → ChangesLinks ports ports blocks blocks
-same_links ports blocks = record { ports = λ _. refl; blocks = λ _. refl; port_spare = refl; port_made = refl; block_spare = refl; block_made = refl }
+same_links ports blocks = record { ports = λ _. refl; blocks = λ _. refl; paired = λ _. refl; connected = λ _. refl; port_spare = refl; port_made = refl; block_spare = refl; block_made = refl }

@@ -1,12 +1,12 @@
 -- How the numbers of messages and ports follow the rows.
-use Rattle.std.proofs.Common.{◌≡◌, ◌+◌, ◌-◌, ◌≤◌, ◌<◌, ℕ, Bool, true, false, cond, not, refl, sym, ap, ◌∙◌, subst, arith, length, List, [], ◌∷◌, ◌++◌, Option, Some, None, option_map, inl, inr}
+use Rattle.std.proofs.Common.{◌≡◌, ◌+◌, ◌-◌, ◌≤◌, ℕ, Bool, true, false, cond, not, refl, sym, ap, ◌∙◌, subst, arith, List, [], ◌∷◌, ◌++◌, Option, Some, option_map, is_some, inl, inr}
 use Rattle.std.proofs.lemmas.Bool.{cases_Bool}
-use Rattle.lpc_base.specs.Rows.{change, count, first, without}
-use Rattle.lpc_base.proofs.RowWords.{count-push}
+use Rattle.lpc_base.specs.Rows.{count, first, has, without}
+use Rattle.lpc_base.proofs.RowWords.{change-none, count-push}
 use Rattle.lpc_slots.specs.declared.Key.{Key}
 use Rattle.lpc_slots.specs.Table.{at_key, is_key, keys_of}
 use Rattle.lpc_slots.specs.Chain.{IsAway, IsDistinct}
-use Rattle.lpc_slots.proofs.Keys.{key_is}
+use Rattle.lpc_slots.proofs.Keys.{key_apart, key_is}
 use Rattle.lpc_slots.proofs.Frames.{without_away}
 use Rattle.lpc_ports.specs.declared.Port.{Port}
 use Rattle.lpc_ports.specs.declared.totals.Totals.{Totals}
@@ -48,6 +48,47 @@ module _ {X : Type 0} (test : Key × X → Bool) where
     where
       found : Bool → Key × X → List (Key × X) → Key → Option X
       found b row rows key = option_map (λ (row : Key × X). row.1) (cond b (Some row) (first (at_key key) rows))
+
+  swapped : (a c o n r : ℕ) → a ≡ n + r → c ≡ o + r → a + o ≡ c + n
+  swapped a c o n r is was = omega arith
+
+  beside : (a b c d o n t : ℕ) → b + o ≡ d + n → a ≡ t + b → c ≡ t + d → a + o ≡ c + n
+  beside a b c d o n t is one two = omega arith
+
+  none_has : (key : Key) (rows : List (Key × X)) → IsAway (Some key) (keys_of rows) → has (at_key key) rows ≡ false
+  none_has key [] away = refl
+  none_has key (row ∷ rows) away =
+      ap (λ b. is_some (cond b (Some row) (first (at_key key) rows))) (key_apart row.0 key (λ e. away.0 (ap Some (sym e)))) ∙ none_has key rows away.1
+
+  -- a row that changes counts where it passes now, and not where it passed before
+  pub count_with : (key : Key) (f : X → X) (value : X) (rows : List (Key × X)) → IsDistinct (keys_of rows) → row_at rows key ≡ Some value → count test (with_row rows key f) + one_if (test (key, value)) ≡ count test rows + one_if (test (key, f value))
+  count_with key f value [] distinct there = absurd (cc)
+  count_with key f value (row ∷ rows) distinct there =
+      elim (cases_Bool (is_key row.0 key)) [
+        | inl on ↦
+            let same : row.0 ≡ key = key_is row.0 key on in
+            let is : Some row.1 ≡ Some value = sym (ap (λ b. found b row rows key) on) ∙ there in
+            let value_is : row.1 ≡ value = cc in
+            let shown : row ≡ (key, value) = λ i. (same i, value_is i) in
+            let away : IsAway (Some key) (keys_of rows) = subst (λ (k : Key). IsAway (Some k) (keys_of rows)) same distinct.0 in
+            let kept : with_row rows key f ≡ rows = change-none (at_key key) (λ row. (row.0, f row.1)) rows (none_has key rows away) in
+            let here : with_row (row ∷ rows) key f ≡ (key, f value) ∷ rows = ap (λ b. cond b (row.0, f row.1) row ∷ with_row rows key f) on ∙ (λ i. (same i, f (value_is i)) ∷ kept i) in
+            swapped _ _ _ _ _ (ap (count test) here ∙ count_row (key, f value) rows) (count_row row rows ∙ ap (λ r. one_if (test r) + count test rows) shown)
+        | inr off ↦
+            let rest = count_with key f value rows distinct.1 (sym (ap (λ b. found b row rows key) off) ∙ there) in
+            let here : with_row (row ∷ rows) key f ≡ row ∷ with_row rows key f = ap (λ b. cond b (row.0, f row.1) row ∷ with_row rows key f) off in
+            beside _ _ _ _ _ _ _ rest (ap (count test) here ∙ count_row row (with_row rows key f)) (count_row row rows)
+      ]
+    where
+      found : Bool → Key × X → List (Key × X) → Key → Option X
+      found b row rows key = option_map (λ (row : Key × X). row.1) (cond b (Some row) (first (at_key key) rows))
+
+  -- what a row counted is within the number
+  pub count_had : (key : Key) (value : X) (rows : List (Key × X)) → IsDistinct (keys_of rows) → row_at rows key ≡ Some value → one_if (test (key, value)) ≤ count test rows
+  count_had key value rows distinct there = had _ _ _ (count_gone key value rows distinct there)
+    where
+      had : (a b c : ℕ) → a + b ≡ c → b ≤ c
+      had a b c is = omega arith
 
   -- a change that no row's passing rests on
   pub count_changed : (key : Key) (f : X → X) → ((k : Key) (value : X) → test (k, f value) ≡ test (k, value)) → (rows : List (Key × X)) → count test (with_row rows key f) ≡ count test rows

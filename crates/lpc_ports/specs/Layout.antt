@@ -1,6 +1,7 @@
 -- How the two tables lay out ports and messages: each port has a chain of the messages in its queue and a chain of
 -- those that were sent on it. No public clause cites this module.
 use Rattle.std.specs.Prelude.{◌≡◌, ℕ, ◌≤◌, ◌<◌, ◌-◌, ◌^◌, ◌&&◌, ◌++◌, Bool, true, List, [], ◌∷◌, Some, option_map, is_some}
+use Rattle.std.specs.Option.{option_map_or}
 use Rattle.lpc_base.specs.Rows.{count, every, has, without}
 use Rattle.lpc_slots.specs.declared.Key.{Key}
 use Rattle.lpc_slots.specs.declared.chain.Links.{Links}
@@ -33,6 +34,17 @@ port_of row = row.port
 
 abbrev pub ports_of : Table PortRow → List (Key × Port)
 ports_of ports = parts port_of (listed ports)
+
+-- a stored number of a port; 0 where the port has no row
+abbrev pub number_at : (PortRow → ℕ) → Table PortRow → Key → ℕ
+number_at number ports port = option_map_or number (at ports port) 0
+
+-- how many ports have a port as their other end, and as their connection port, as it is stored
+abbrev pub paired_at : Table PortRow → Key → ℕ
+paired_at ports port = number_at (λ row. row.paired) ports port
+
+abbrev pub connected_at : Table PortRow → Key → ℕ
+connected_at ports port = number_at (λ row. row.connected) ports port
 
 -- each port's chain stands for its messages of the list
 abbrev pub Stand : {LIST : ℕ} → (Block → Links) → (PortRow → Chain LIST) → (QueuedMessage → Key) → Table PortRow → Table Block → List (Key × QueuedMessage) → Type 0
@@ -109,6 +121,8 @@ pub record IsPlaced (owner : QueuedMessage → Key) (key port : Key) (messages :
 pub record ChangesLinks (old_ports new_ports : Table PortRow) (old_blocks new_blocks : Table Block) : Type 0 where
   pub ports : (key : Key) → option_map port_of (at new_ports key) ≡ option_map port_of (at old_ports key)
   pub blocks : (key : Key) → option_map queued_of (at new_blocks key) ≡ option_map queued_of (at old_blocks key)
+  pub paired : (key : Key) → paired_at new_ports key ≡ paired_at old_ports key
+  pub connected : (key : Key) → connected_at new_ports key ≡ connected_at old_ports key
   pub port_spare : new_ports.spare ≡ old_ports.spare
   pub port_made : new_ports.made ≡ old_ports.made
   pub block_spare : new_blocks.spare ≡ old_blocks.spare

@@ -2,3 +2,5 @@ pub mod Table
 pub mod Lent
 pub mod Layout
 pub mod Totals
+pub mod Names
+pub mod Kept

@@ -4,14 +4,9 @@ use Rattle.lpc_base.specs.Rows.{count}
 use Rattle.lpc_base.specs.declared.port_kind.PortKind.{PortKind}
 use Rattle.lpc_message.specs.declared.kind.TheConstants.{PORT_CLOSED}
 use Rattle.lpc_slots.specs.declared.Key.{Key}
-use Rattle.lpc_slots.specs.Table.{Table}
 use Rattle.lpc_ports.specs.declared.Port.{Port}
-use Rattle.lpc_ports.specs.declared.rows.PortRow.{PortRow}
-use Rattle.lpc_ports.specs.declared.messages.Block.{Block}
 use Rattle.lpc_ports.specs.declared.messages.Message.{Message}
 use Rattle.lpc_ports.specs.declared.totals.Totals.{Totals}
-use Rattle.lpc_ports.specs.Layout.{InOrder, ports_of}
-use Rattle.lpc_ports.specs.Lent.{messages_of}
 use Rattle.lpc_ports.specs.Table.{QueuedMessage, asks, is_asking, is_client, is_client_kind, is_closing, is_of_type}
 
 -- one where it is so
@@ -43,8 +38,3 @@ pub record AreTotals (totals : Totals) (ports : List (Key × Port)) (messages : 
   pub asking : totals.asking ≡ count is_asking messages
   pub closings : totals.closings ≡ count is_closing messages
   pub clients : totals.clients ≡ count is_client ports
-
--- the tables are in order, and the numbers are theirs
-pub record IsKept (ports : Table PortRow) (blocks : Table Block) (numbers : Totals) : Type 0 where
-  pub order : InOrder ports blocks
-  pub totals : AreTotals numbers (ports_of ports) (messages_of blocks)

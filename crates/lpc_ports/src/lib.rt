@@ -11,6 +11,7 @@ ghost use Rattle.lpc_ports.specs.Lent.{IsQueue, IsSent, messages_of, queued_of};
 ghost use Rattle.lpc_ports.specs.Table.{LeavesOthers, LosesFirst, PullsFirst, QueuedMessage, first_connect_in, first_in, first_of, first_own_of, has_none_in, is_asking, is_client, is_closing, is_connect_in, is_connected_to, is_datagram_of, is_in, is_joined_to, is_message_at, is_named, is_own_of, is_paired_to, is_sent_on, is_the, message_at, new_port, nothing, pair_of, paired, parted, queue_at, queued, row_at, unpaired, with_changed, with_completed, with_creator, with_joined, with_port, with_room, with_security, with_sent, without_message, without_messages, without_port};
 
 mod messages;
+mod names;
 mod rows;
 mod totals;
 
@@ -20,6 +21,7 @@ use lpc_message::ClientId;
 use lpc_slots::{Chain, Key, Links, Slots};
 use lpc_tokens::Security;
 pub use messages::{Block, Message};
+use names::{gain_connected, gain_paired, is_unnamed, lose_connected, lose_paired};
 use rows::{PortRow, push_queued, push_sent, unlink_queued, unlink_sent};
 use std::alloc::Global;
 use std::marker::Model;
@@ -55,15 +57,6 @@ pub struct Port {
     pub security: Security,
 }
 
-impl Port {
-    // It has this port as its other end or as its connection port.
-    fn is_joined_to(&self, port: Key) -> bool
-        ensures { result ≡ is_the port self.now.pair || is_the port self.now.connection }
-    {
-        is_the(port, self.pair) || is_the(port, self.connection)
-    }
-}
-
 // There is a key, and it is this one.
 fn is_the(key: Key, other: Option<Key>) -> bool
     ensures { result ≡ is_the key other }
@@ -83,6 +76,9 @@ pub struct Ports {
     ports: Slots<PortRow>,
     blocks: Slots<Block>,
     totals: Totals,
+    // The rows tell how many ports name each port. That ends where a port is named that has no row, and where one goes
+    // that others name: from then on the ports are searched.
+    whole: bool,
 }
 
 impl Model for Ports {
@@ -91,11 +87,11 @@ impl Model for Ports {
     ghost Value = { PortTable };
 
     ghost use Rattle.lpc_ports.specs.Layout.{seen};
-    ghost use Rattle.lpc_ports.specs.Totals.{IsKept};
+    ghost use Rattle.lpc_ports.specs.Kept.{IsKept};
 
     ghost view = { λ s. seen s.ports s.blocks };
 
-    ghost invariant = { λ s. IsKept s.ports s.blocks s.totals };
+    ghost invariant = { λ s. IsKept s.ports s.blocks s.totals s.whole };
 }
 
 impl Ports {
@@ -111,6 +107,7 @@ impl Ports {
                 closings: 0,
                 clients: 0,
             },
+            whole: true,
         }
     }
 
@@ -152,6 +149,8 @@ impl Ports {
         // No more ports stand than were made, so one more can be counted.
         let _ = self.ports.count();
         self.totals.add_port(kind);
+        let counted = gain_connected(&mut self.ports, connection);
+        self.whole = self.whole && counted;
         self.ports.insert_reserved(PortRow {
             port: Port {
                 birth,
@@ -167,6 +166,8 @@ impl Ports {
             sent: Chain::empty(),
             sent_count: 0,
             datagrams: 0,
+            paired: 0,
+            connected: 0,
         })
     }
 
@@ -322,7 +323,13 @@ impl Ports {
         ensures fewer { length self.new.ports + 1 ≡ length self.old.ports }
     {
         match self.ports.remove(port) {
-            Some(row) => self.totals.remove_port(row.port.kind),
+            Some(row) => {
+                self.totals.remove_port(row.port.kind);
+                lose_paired(&mut self.ports, row.port.pair);
+                lose_connected(&mut self.ports, row.port.connection);
+                let unnamed = is_unnamed(&row);
+                self.whole = self.whole && unnamed;
+            }
             None => unreachable!(),
         }
     }
@@ -401,28 +408,26 @@ impl Ports {
     pub fn paired_to(&self, port: Key) -> usize
         ensures { result ≡ count (is_paired_to port) self.now.ports }
     {
-        let mut paired = 0;
-        for place in 0..self.ports.count() {
-            let (_, row) = self.ports.row(place);
-            if is_the(port, row.port.pair) {
-                paired += 1;
-            }
+        if !self.whole {
+            return self.search_paired(port);
         }
-        paired
+        match self.ports.get(port) {
+            Some(row) => row.paired,
+            None => 0,
+        }
     }
 
     /// How many ports have this one as their connection port.
     pub fn connected_to(&self, port: Key) -> usize
         ensures { result ≡ count (is_connected_to port) self.now.ports }
     {
-        let mut connected = 0;
-        for place in 0..self.ports.count() {
-            let (_, row) = self.ports.row(place);
-            if is_the(port, row.port.connection) {
-                connected += 1;
-            }
+        if !self.whole {
+            return self.search_connected(port);
         }
-        connected
+        match self.ports.get(port) {
+            Some(row) => row.connected,
+            None => 0,
+        }
     }
 
     /// How many of the messages that stand in queues were sent on this port, which has a row: no more than were ever made.
@@ -558,13 +563,35 @@ impl Ports {
     fn is_joined(&self, port: Key) -> bool
         ensures { result ≡ has (is_joined_to port) self.now.ports }
     {
+        self.paired_to(port) != 0 || self.connected_to(port) != 0
+    }
+
+    // How many ports have this one as their other end, by a look at each.
+    fn search_paired(&self, port: Key) -> usize
+        ensures { result ≡ count (is_paired_to port) self.now.ports }
+    {
+        let mut paired = 0;
         for place in 0..self.ports.count() {
             let (_, row) = self.ports.row(place);
-            if row.port.is_joined_to(port) {
-                return true;
+            if is_the(port, row.port.pair) {
+                paired += 1;
             }
         }
-        false
+        paired
+    }
+
+    // How many ports have this one as their connection port, by a look at each.
+    fn search_connected(&self, port: Key) -> usize
+        ensures { result ≡ count (is_connected_to port) self.now.ports }
+    {
+        let mut connected = 0;
+        for place in 0..self.ports.count() {
+            let (_, row) = self.ports.row(place);
+            if is_the(port, row.port.connection) {
+                connected += 1;
+            }
+        }
+        connected
     }
 
     // A message was sent on the port, which has a row, or stands in its queue.
@@ -669,8 +696,12 @@ impl Ports {
         ensures { self.new ≡ with_changed self.old port (paired pair context) }
     {
         if let Some(row) = self.ports.get_mut(port) {
+            let parted = row.port.pair;
             row.port.pair = Some(pair);
             row.port.context = context;
+            lose_paired(&mut self.ports, parted);
+            let counted = gain_paired(&mut self.ports, Some(pair));
+            self.whole = self.whole && counted;
         }
     }
 
@@ -679,7 +710,9 @@ impl Ports {
         ensures { self.new ≡ with_changed self.old port unpaired }
     {
         if let Some(row) = self.ports.get_mut(port) {
+            let parted = row.port.pair;
             row.port.pair = None;
+            lose_paired(&mut self.ports, parted);
         }
     }
 }

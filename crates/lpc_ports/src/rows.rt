@@ -22,6 +22,10 @@ pub(crate) struct PortRow {
     pub sent_count: usize,
     /// How many of these are datagrams.
     pub datagrams: usize,
+    /// How many ports have this one as their other end. It is so as long as the numbers are whole.
+    pub paired: usize,
+    /// How many ports have this one as their connection port. It is so as long as the numbers are whole.
+    pub connected: usize,
 }
 
 /// A message goes to the end of the chain of its queue, where the port has a row.

@@ -8,7 +8,7 @@ use Rattle.lpc_ports.specs.Table.{QueuedMessage, is_asking, is_closing, is_datag
 use Rattle.lpc_message.specs.declared.kind.TheConstants.{DATAGRAM}
 use Rattle.lpc_ports.specs.Layout.{IsSentBefore, QueuesStand, SendersStand, IsCounted, is_open, port_of, ports_of, queued_chain, seen, sent_chain, with_in_queue, with_of_sender}
 use Rattle.lpc_ports.specs.Lent.{in_queue_of, is_by, messages_of, of_sender_of, queue_of, queued_of, sender_of}
-use Rattle.lpc_ports.proofs.Ordered.{in_order, kept_port, kept_block, kept_messages, kept_open, kept_ports, kept_seen, length_shown, key_is_new, keys_apart, mapped_some, sent_push, shown_at, vacant_shown}
+use Rattle.lpc_ports.proofs.Ordered.{in_order, kept_port, kept_block, kept_messages, kept_names, kept_open, kept_ports, kept_seen, length_shown, key_is_new, keys_apart, mapped_some, sent_push, shown_at, vacant_shown}
 use Rattle.lpc_ports.proofs.Stand.{beside_stand}
 use Rattle.lpc_ports.proofs.Totalled.{totals_push}
 use Rattle.lpc_ports.proofs.Ports.send.Goals as goal
@@ -79,7 +79,8 @@ invariant_of-self c =
     let shown : messages_of c.push_sent.new.blocks ≡ ms ++ (key, entered) ∷ [] =
     kept_messages _ _ _ _ c.push_sent.ensures.links ∙ kept_messages _ _ _ _ c.push_queued.ensures.links ∙ ap (parts queued_of) made.listed ∙ parts_push queued_of (listed old) key _ in
     let still : ports_of c.push_sent.new.ports ≡ ports_of ports = kept_ports _ _ _ _ c.push_sent.ensures.links ∙ kept_ports _ _ _ _ c.push_queued.ensures.links in
-    record { order = order; totals = rw (c.add_message.ensures, still, shown) (totals_push c.self.inside.totals (ports_of ports) ms c.self.invariant.totals key entered) }
+    let names = kept_names _ _ _ _ c.push_sent.ensures.links c.self.inside.whole (kept_names _ _ _ _ c.push_queued.ensures.links c.self.inside.whole c.self.invariant.names) in
+    record { order = order; totals = rw (c.add_message.ensures, still, shown) (totals_push c.self.inside.totals (ports_of ports) ms c.self.invariant.totals key entered); names = names }
 
 pub returns-clause-vacant : goal.returns-clause-vacant
 returns-clause-vacant c = rw (← c.self.view_is) (vacant_shown queued_of c.self.inside.blocks c.insert_reserved-key.result c.insert_reserved-key.ensures.vacant)

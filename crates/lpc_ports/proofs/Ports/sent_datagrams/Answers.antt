@@ -1,10 +1,7 @@
-use Rattle.std.proofs.Common.{ap, sym, ◌∙◌, arith, is_some, IsSome, true≢false}
-use Rattle.lpc_base.proofs.RowWords.{count-bound}
-use Rattle.lpc_slots.specs.Table.{at, listed}
+use Rattle.std.proofs.Common.{ap, sym, ◌∙◌, is_some, IsSome, true≢false}
+use Rattle.lpc_slots.specs.Table.{at}
 use Rattle.lpc_ports.specs.Layout.{port_of}
-use Rattle.lpc_ports.specs.Lent.{messages_of, queued_of}
-use Rattle.lpc_ports.specs.Table.{is_sent_on}
-use Rattle.lpc_ports.proofs.Ordered.{length_shown, mapped_some, shown_at}
+use Rattle.lpc_ports.proofs.Ordered.{mapped_some, shown_at}
 use Rattle.lpc_ports.proofs.Ports.sent_datagrams.Goals as goal
 
 pub unreachable-requires : goal.unreachable-requires

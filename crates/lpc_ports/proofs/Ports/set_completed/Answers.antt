@@ -9,7 +9,7 @@ invariant_of-self c =
     let ports = c.self.inside.ports in
     let blocks = c.self.inside.blocks in
     elim c.match-get_mut.branch [
-      | in-Some w ↦ rw w.self-inside-is (changed_kept ports blocks c.args.port (with_completed c.args.completed) c.self.inside.totals w.in-Some.row.now (sym w.in-Some.ensures.value) (λ _. refl) c.self.invariant)
+      | in-Some w ↦ rw w.self-inside-is (changed_kept ports blocks c.args.port (with_completed c.args.completed) c.self.inside.totals c.self.inside.whole w.in-Some.row.now (sym w.in-Some.ensures.value) (λ _. refl) (λ _. refl) (λ _. refl) c.self.invariant)
       | in_default w ↦ rw w.self-inside-is c.self.invariant
     ]
 

@@ -8,7 +8,7 @@ use Rattle.lpc_ports.specs.declared.messages.Block.{Block}
 use Rattle.lpc_ports.specs.Table.{without_message}
 use Rattle.lpc_ports.specs.Layout.{IsSentBefore, QueuesStand, SendersStand, is_open, ports_of, queued_chain, seen, sent_chain, with_in_queue, with_of_sender}
 use Rattle.lpc_ports.specs.Lent.{in_queue_of, messages_of, of_sender_of, queue_of, queued_of, sender_of}
-use Rattle.lpc_ports.proofs.Ordered.{away_gone, datagram_placed, gone, keys_apart, in_order, kept_block, kept_messages, kept_open, kept_ports, kept_seen, on_some, placed_at, sent_without, shown_at}
+use Rattle.lpc_ports.proofs.Ordered.{away_gone, datagram_placed, gone, keys_apart, in_order, kept_block, kept_messages, kept_names, kept_open, kept_ports, kept_seen, on_some, placed_at, sent_without, shown_at}
 use Rattle.lpc_ports.proofs.Stand.{beside_stand}
 use Rattle.lpc_ports.proofs.Totalled.{asking_counted, closings_counted, totals_without}
 use Rattle.lpc_ports.proofs.Ports.take.Goals as goal
@@ -63,7 +63,8 @@ invariant_of-self c =
     (c.unlink_sent.ensures.datagrams ms (c.unlink_queued.ensures.datagrams ms c.self.invariant.order.datagrams) (datagram_placed old key c.in_ok-block.block.now c.is_datagram-datagram.result there (sym c.is_datagram-datagram.ensures))) in
     let still : ports_of c.unlink_sent.new.ports ≡ ports_of ports = kept_ports _ _ _ _ c.unlink_sent.ensures.links ∙ kept_ports _ _ _ _ c.unlink_queued.ensures.links in
     let totals = totals_without c.self.inside.totals (ports_of ports) ms c.self.invariant.totals key (queued_of c.in_ok-block.block.now) (keys_apart old) (shown_at queued_of old key ∙ ap (option_map queued_of) there) in
-    record { order = order; totals = rw (c.remove_message.ensures, still, after) totals }
+    let names = kept_names _ _ _ _ c.unlink_sent.ensures.links c.self.inside.whole (kept_names _ _ _ _ c.unlink_queued.ensures.links c.self.inside.whole c.self.invariant.names) in
+    record { order = order; totals = rw (c.remove_message.ensures, still, after) totals; names = names }
 
 pub returns-clause-value : goal.returns-clause-value
 returns-clause-value c =

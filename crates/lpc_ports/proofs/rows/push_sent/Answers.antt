@@ -12,18 +12,18 @@ push_back-requires c = (lit< tt, c.requires.present)
 
 pub returns-in-Some-clause-senders : goal.returns-in-Some-clause-senders
 returns-in-Some-clause-senders c messages value stand distinct away is =
-    let fresh : PortRow = (record { port = c.in-Some.row.now.port; queued = c.in-Some.row.now.queued; sent = c.push_back.new.self; sent_count = c.in-Some.row.now.sent_count + 1; datagrams = c.plus-row.result }) in
+    let fresh : PortRow = (record { port = c.in-Some.row.now.port; queued = c.in-Some.row.now.queued; sent = c.push_back.new.self; sent_count = c.in-Some.row.now.sent_count + 1; datagrams = c.plus-row.result; paired = c.in-Some.row.now.paired; connected = c.in-Some.row.now.connected }) in
     push_stand of_sender_of with_of_sender sent_chain sender_of c.args.ports.now c.args.blocks.now c.push_back.new.slots c.args.sender c.args.key messages stand c.in-Some.row.now fresh (sym c.in-Some.ensures.value) value c.push_back.ensures.chain c.push_back.ensures.links distinct away is
 
 pub returns-in-Some-clause-queues : goal.returns-in-Some-clause-queues
 returns-in-Some-clause-queues c messages stand =
-    let fresh : PortRow = (record { port = c.in-Some.row.now.port; queued = c.in-Some.row.now.queued; sent = c.push_back.new.self; sent_count = c.in-Some.row.now.sent_count + 1; datagrams = c.plus-row.result }) in
+    let fresh : PortRow = (record { port = c.in-Some.row.now.port; queued = c.in-Some.row.now.queued; sent = c.push_back.new.self; sent_count = c.in-Some.row.now.sent_count + 1; datagrams = c.plus-row.result; paired = c.in-Some.row.now.paired; connected = c.in-Some.row.now.connected }) in
     across_stand in_queue_of with_in_queue queued_chain queue_of c.args.ports.now c.args.blocks.now c.push_back.new.slots c.args.sender c.args.key messages stand c.in-Some.row.now fresh with_of_sender _ (sym c.in-Some.ensures.value) refl (λ _ _. refl) c.push_back.ensures.links
 
 pub returns-in-Some-clause-links : goal.returns-in-Some-clause-links
 returns-in-Some-clause-links c =
-    let fresh : PortRow = (record { port = c.in-Some.row.now.port; queued = c.in-Some.row.now.queued; sent = c.push_back.new.self; sent_count = c.in-Some.row.now.sent_count + 1; datagrams = c.plus-row.result }) in
-    changes_links c.args.ports.now c.args.sender c.in-Some.row.now fresh with_of_sender _ c.args.blocks.now c.push_back.new.slots (sym c.in-Some.ensures.value) refl (λ _ _. refl) c.push_back.ensures.links
+    let fresh : PortRow = (record { port = c.in-Some.row.now.port; queued = c.in-Some.row.now.queued; sent = c.push_back.new.self; sent_count = c.in-Some.row.now.sent_count + 1; datagrams = c.plus-row.result; paired = c.in-Some.row.now.paired; connected = c.in-Some.row.now.connected }) in
+    changes_links c.args.ports.now c.args.sender c.in-Some.row.now fresh with_of_sender _ c.args.blocks.now c.push_back.new.slots (sym c.in-Some.ensures.value) refl refl refl (λ _ _. refl) c.push_back.ensures.links
 
 pub returns-in_default-clause-senders : goal.returns-in_default-clause-senders
 returns-in_default-clause-senders c messages value stand distinct away is =
@@ -31,7 +31,7 @@ returns-in_default-clause-senders c messages value stand distinct away is =
 
 pub returns-in-Some-clause-counts : goal.returns-in-Some-clause-counts
 returns-in-Some-clause-counts c messages value counted distinct away is =
-    let fresh : PortRow = (record { port = c.in-Some.row.now.port; queued = c.in-Some.row.now.queued; sent = c.push_back.new.self; sent_count = c.in-Some.row.now.sent_count + 1; datagrams = c.plus-row.result }) in
+    let fresh : PortRow = (record { port = c.in-Some.row.now.port; queued = c.in-Some.row.now.queued; sent = c.push_back.new.self; sent_count = c.in-Some.row.now.sent_count + 1; datagrams = c.plus-row.result; paired = c.in-Some.row.now.paired; connected = c.in-Some.row.now.connected }) in
     counted_push c.args.ports.now c.args.sender c.args.key messages counted c.in-Some.row.now fresh value (sym c.in-Some.ensures.value) refl is
 
 pub returns-in_default-clause-counts : goal.returns-in_default-clause-counts
@@ -42,7 +42,7 @@ plus-row-requires c = c.requires.few_datagrams c.in-Some.row.now (sym c.in-Some.
 
 pub returns-in-Some-clause-datagrams : goal.returns-in-Some-clause-datagrams
 returns-in-Some-clause-datagrams c messages value counted sent =
-    let fresh : PortRow = (record { port = c.in-Some.row.now.port; queued = c.in-Some.row.now.queued; sent = c.push_back.new.self; sent_count = c.in-Some.row.now.sent_count + 1; datagrams = c.plus-row.result }) in
+    let fresh : PortRow = (record { port = c.in-Some.row.now.port; queued = c.in-Some.row.now.queued; sent = c.push_back.new.self; sent_count = c.in-Some.row.now.sent_count + 1; datagrams = c.plus-row.result; paired = c.in-Some.row.now.paired; connected = c.in-Some.row.now.connected }) in
     datagrams_push c.args.ports.now c.args.sender c.args.key messages counted c.in-Some.row.now fresh value c.args.datagram (sym c.in-Some.ensures.value) c.plus-row.ensures sent
 
 pub returns-in_default-clause-datagrams : goal.returns-in_default-clause-datagrams

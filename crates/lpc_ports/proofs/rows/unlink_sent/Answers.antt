@@ -13,20 +13,20 @@ unlink-requires c =
 
 pub returns-in-Some-clause-senders : goal.returns-in-Some-clause-senders
 returns-in-Some-clause-senders c messages stand placed =
-    let fresh : PortRow = (record { port = c.in-Some.row.now.port; queued = c.in-Some.row.now.queued; sent = c.unlink.new.self; sent_count = c.in-Some.row.now.sent_count - 1; datagrams = c.minus-row.result }) in
+    let fresh : PortRow = (record { port = c.in-Some.row.now.port; queued = c.in-Some.row.now.queued; sent = c.unlink.new.self; sent_count = c.in-Some.row.now.sent_count - 1; datagrams = c.minus-row.result; paired = c.in-Some.row.now.paired; connected = c.in-Some.row.now.connected }) in
     unlink_stand of_sender_of with_of_sender sent_chain sender_of c.args.ports.now c.args.blocks.now c.unlink.new.slots c.args.sender c.args.key messages stand c.in-Some.row.now fresh (sym c.in-Some.ensures.value) c.unlink.ensures.chain c.unlink.ensures.links placed
 
 pub returns-in-Some-clause-queues : goal.returns-in-Some-clause-queues
 returns-in-Some-clause-queues c messages stand =
     let split = split_stand of_sender_of with_of_sender sent_chain sender_of c.args.ports.now c.args.blocks.now c.args.sender c.args.key c.in-Some.row.now c.requires.placed.0 (sym c.in-Some.ensures.value) c.requires.placed.1.0 c.requires.placed.2 in
-    let fresh : PortRow = (record { port = c.in-Some.row.now.port; queued = c.in-Some.row.now.queued; sent = c.unlink.new.self; sent_count = c.in-Some.row.now.sent_count - 1; datagrams = c.minus-row.result }) in
+    let fresh : PortRow = (record { port = c.in-Some.row.now.port; queued = c.in-Some.row.now.queued; sent = c.unlink.new.self; sent_count = c.in-Some.row.now.sent_count - 1; datagrams = c.minus-row.result; paired = c.in-Some.row.now.paired; connected = c.in-Some.row.now.connected }) in
     across_stand in_queue_of with_in_queue queued_chain queue_of c.args.ports.now c.args.blocks.now c.unlink.new.slots c.args.sender c.args.key messages stand c.in-Some.row.now fresh with_of_sender _ (sym c.in-Some.ensures.value) refl (λ _ _. refl) (c.unlink.ensures.links split.0 split.1 split.2)
 
 pub returns-in-Some-clause-links : goal.returns-in-Some-clause-links
 returns-in-Some-clause-links c =
     let split = split_stand of_sender_of with_of_sender sent_chain sender_of c.args.ports.now c.args.blocks.now c.args.sender c.args.key c.in-Some.row.now c.requires.placed.0 (sym c.in-Some.ensures.value) c.requires.placed.1.0 c.requires.placed.2 in
-    let fresh : PortRow = (record { port = c.in-Some.row.now.port; queued = c.in-Some.row.now.queued; sent = c.unlink.new.self; sent_count = c.in-Some.row.now.sent_count - 1; datagrams = c.minus-row.result }) in
-    changes_links c.args.ports.now c.args.sender c.in-Some.row.now fresh with_of_sender _ c.args.blocks.now c.unlink.new.slots (sym c.in-Some.ensures.value) refl (λ _ _. refl) (c.unlink.ensures.links split.0 split.1 split.2)
+    let fresh : PortRow = (record { port = c.in-Some.row.now.port; queued = c.in-Some.row.now.queued; sent = c.unlink.new.self; sent_count = c.in-Some.row.now.sent_count - 1; datagrams = c.minus-row.result; paired = c.in-Some.row.now.paired; connected = c.in-Some.row.now.connected }) in
+    changes_links c.args.ports.now c.args.sender c.in-Some.row.now fresh with_of_sender _ c.args.blocks.now c.unlink.new.slots (sym c.in-Some.ensures.value) refl refl refl (λ _ _. refl) (c.unlink.ensures.links split.0 split.1 split.2)
 
 pub returns-in_default-clause-senders : goal.returns-in_default-clause-senders
 returns-in_default-clause-senders c messages stand placed =
@@ -40,7 +40,7 @@ overflow_sub-row c =
 
 pub returns-in-Some-clause-counts : goal.returns-in-Some-clause-counts
 returns-in-Some-clause-counts c messages counted placed =
-    let fresh : PortRow = (record { port = c.in-Some.row.now.port; queued = c.in-Some.row.now.queued; sent = c.unlink.new.self; sent_count = c.in-Some.row.now.sent_count - 1; datagrams = c.minus-row.result }) in
+    let fresh : PortRow = (record { port = c.in-Some.row.now.port; queued = c.in-Some.row.now.queued; sent = c.unlink.new.self; sent_count = c.in-Some.row.now.sent_count - 1; datagrams = c.minus-row.result; paired = c.in-Some.row.now.paired; connected = c.in-Some.row.now.connected }) in
     counted_unlink c.args.ports.now c.args.sender c.args.key messages counted c.in-Some.row.now fresh (sym c.in-Some.ensures.value) refl placed
 
 pub returns-in_default-clause-counts : goal.returns-in_default-clause-counts
@@ -52,7 +52,7 @@ minus-row-requires c =
 
 pub returns-in-Some-clause-datagrams : goal.returns-in-Some-clause-datagrams
 returns-in-Some-clause-datagrams c messages counted placed =
-    let fresh : PortRow = (record { port = c.in-Some.row.now.port; queued = c.in-Some.row.now.queued; sent = c.unlink.new.self; sent_count = c.in-Some.row.now.sent_count - 1; datagrams = c.minus-row.result }) in
+    let fresh : PortRow = (record { port = c.in-Some.row.now.port; queued = c.in-Some.row.now.queued; sent = c.unlink.new.self; sent_count = c.in-Some.row.now.sent_count - 1; datagrams = c.minus-row.result; paired = c.in-Some.row.now.paired; connected = c.in-Some.row.now.connected }) in
     datagrams_unlink c.args.ports.now c.args.sender c.args.key messages counted c.in-Some.row.now fresh c.args.datagram (sym c.in-Some.ensures.value) c.minus-row.ensures placed
 
 pub returns-in_default-clause-datagrams : goal.returns-in_default-clause-datagrams

@@ -4,8 +4,8 @@ use Rattle.lpc_slots.specs.Table.{listed}
 use Rattle.lpc_ports.specs.Table.{is_paired_to}
 use Rattle.lpc_ports.specs.Layout.{port_of, ports_of}
 use Rattle.lpc_ports.proofs.Ordered.{length_shown, place_shown}
-use Rattle.lpc_ports.proofs.Ports.paired_to.Goals as goal
-use Rattle.lpc_ports.proofs.Ports.paired_to.Goals.{then-is_the, else-is_the}
+use Rattle.lpc_ports.proofs.Ports.search_paired.Goals as goal
+use Rattle.lpc_ports.proofs.Ports.search_paired.Goals.{then-is_the, else-is_the}
 
 pub overflow_add-paired : goal.overflow_add-paired
 overflow_add-paired c =

@@ -4,8 +4,8 @@ use Rattle.lpc_slots.specs.Table.{listed}
 use Rattle.lpc_ports.specs.Table.{is_connected_to}
 use Rattle.lpc_ports.specs.Layout.{port_of, ports_of}
 use Rattle.lpc_ports.proofs.Ordered.{length_shown, place_shown}
-use Rattle.lpc_ports.proofs.Ports.connected_to.Goals as goal
-use Rattle.lpc_ports.proofs.Ports.connected_to.Goals.{then-is_the, else-is_the}
+use Rattle.lpc_ports.proofs.Ports.search_connected.Goals as goal
+use Rattle.lpc_ports.proofs.Ports.search_connected.Goals.{then-is_the, else-is_the}
 
 pub overflow_add-connected : goal.overflow_add-connected
 overflow_add-connected c =
