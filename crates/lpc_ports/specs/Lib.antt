@@ -4,3 +4,4 @@ pub mod Layout
 pub mod Totals
 pub mod Names
 pub mod Kept
+pub mod Walk

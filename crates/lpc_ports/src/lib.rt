@@ -627,10 +627,16 @@ impl Ports {
     fn first_connect(&self, queue: Key) -> Option<Key>
         ensures { result ≡ first_connect_in self.now.messages queue }
     {
-        for place in 0..self.blocks.count() {
-            let (key, row) = self.blocks.row(place);
-            if row.is_connect_in(queue) {
-                return Some(key);
+        let mut next = self.ports.get(queue)?.queued.front();
+        while let Some(key) = next {
+            match self.blocks.get(key) {
+                Some(block) => {
+                    if block.message.is_connect() {
+                        return Some(key);
+                    }
+                    next = block.in_queue.after;
+                }
+                None => unreachable!(),
             }
         }
         None

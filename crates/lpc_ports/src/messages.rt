@@ -3,7 +3,6 @@
 ghost use Rattle.std.specs.Prelude.{◌≡◌, ◌<◌, ◌==◌, ◌&&◌, ◌||◌, slice_index};
 ghost use Rattle.lpc_base.specs.declared.limits.TheConstants.{MESSAGE_LIMIT};
 ghost use Rattle.lpc_message.specs.Layout.{half_at};
-ghost use Rattle.lpc_slots.specs.Table.{is_key};
 ghost use Rattle.lpc_ports.specs.Table.{asks, client_thread, is_of_type, tells_event};
 
 use arrayvec::ArrayVec;
@@ -100,16 +99,6 @@ pub struct Block {
     pub in_queue: Links,
     /// Its neighbours among the messages that were sent on one port.
     pub of_sender: Links,
-}
-
-impl Block {
-    /// It stands in this queue, and is a connection request.
-    pub(crate) fn is_connect_in(&self, queue: Key) -> bool
-        ensures { result
-            ≡ is_key self.now.queue queue && is_of_type CONNECTION_REQUEST self.now.message }
-    {
-        self.queue == queue && self.message.is_connect()
-    }
 }
 
 impl Linked<0> for Block {
