@@ -12,7 +12,7 @@ use Rattle.lpc_slots.proofs.Frames.{at_inserted, away_listed, distinct_listed, i
 use Rattle.lpc_slots.proofs.Same.{are_apart, at_first}
 use Rattle.lpc_ports.specs.declared.rows.PortRow.{PortRow}
 use Rattle.lpc_ports.specs.declared.messages.Block.{Block}
-use Rattle.lpc_ports.specs.Table.{QueuedMessage, is_connected_to, is_datagram_of, is_in, is_of_type, is_paired_to, row_at}
+use Rattle.lpc_ports.specs.Table.{QueuedMessage, is_asking, is_connected_to, is_datagram_of, is_in, is_of_type, is_own_of, is_paired_to, row_at}
 use Rattle.lpc_message.specs.declared.kind.TheConstants.{DATAGRAM}
 use Rattle.lpc_ports.specs.Layout.{ChangesLinks, IsPlaced, IsSentBefore, InOrder, is_open, port_of, ports_of, seen, QueuesStand, SendersStand, IsCounted, AreDatagrams, IsDatagramPlaced}
 use Rattle.lpc_ports.specs.Names.{AreNames}
@@ -212,6 +212,11 @@ count_none test (row ∷ messages) all = grind (arith, count_none test messages)
 pub no_datagram : (port : Key) (messages : List (Key × QueuedMessage)) → every (λ row. not (is_by sender_of port row)) messages ≡ true → count (is_datagram_of port) messages ≡ 0
 no_datagram port [] all = refl
 no_datagram port (row ∷ messages) all = grind (arith, no_datagram port messages)
+
+-- no message asks of a thread where none asks
+pub none_asks : (thread : ℕ) (messages : List (Key × QueuedMessage)) → count is_asking messages ≡ 0 → first (is_own_of thread) messages ≡ None
+none_asks thread [] none = refl
+none_asks thread (row ∷ messages) none = grind (arith, none_asks thread messages)
 
 -- room alone
 pub roomy : (ports : Table PortRow) (blocks : Table Block) (x y : ℕ) → InOrder ports blocks → InOrder (record ports { spare = x }) (record blocks { spare = y })

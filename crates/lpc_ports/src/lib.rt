@@ -646,6 +646,9 @@ impl Ports {
     fn first_own_of(&self, thread: u32) -> Option<Key>
         ensures { result ≡ first_own_of self.now.messages thread }
     {
+        if self.totals.asking == 0 {
+            return None;
+        }
         for place in 0..self.blocks.count() {
             let (key, row) = self.blocks.row(place);
             if row.message.is_own_of(thread) {
