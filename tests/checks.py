@@ -11,6 +11,7 @@
 - `tests/edge.py` passes a program that writes what each line tells, and one that keeps it back until more is read; it
   refuses those that go wrong where a read or a write fails. Where there is no C compiler this is left out.
 - `tests/states.py` passes the text of an example, and refuses texts in which a row or an entry is altered.
+- `tests/tables.py` finds what is false of a wrong body where a row names it as it stands, and nothing else.
 
 Each check that fails has a line, and the last line is `N passed, M failed`. The exit status is 0 where all passed, 1
 where not.
@@ -32,6 +33,7 @@ import edge
 import failing
 import program
 import states
+import tables
 
 ROOT = pathlib.Path(__file__).resolve().parent.parent
 # What `.ci/run` runs, in order. Who adds a part adds it here.
@@ -54,6 +56,32 @@ PARTS = [
 ]
 # More scripts than a thousand: that many a run has once stopped at.
 MANY = 1_050
+# What is false of a wrong body of these functions of `lpc_homes`, as a row may name it; what no row may; and the places
+# of some wrong bodies.
+CLAUSES = [
+    ("Parts::close_handle", "`parts`, `kept`"),
+    ("Parts::close_handle", "`kept`; the invariant of `Parts`"),
+    ("Parts::close_handle", "`part` that `close_handle` asks"),
+    ("Parts::close_handle", "`count` of `handles_to`"),
+    ("Parts::place_of", "the one clause"),
+]
+NO_CLAUSES = [
+    ("Parts::close_handle", "`part`"),
+    ("Parts::close_handle", "`parts` that `close_handle` asks"),
+    ("Parts::close_handle", "`parts` that `close_handle`"),
+    ("Parts::close_handle", "`parts`, `count`"),
+    ("Parts::close_handle", "`parts`; the invariant of `Counts`"),
+    ("Parts::close_handle", "the one clause"),
+    ("Parts::close_handle", "parts"),
+    ("Parts::close_handle", ""),
+    ("Parts::place_of", "`count` of `handles_of`"),
+    ("Counts::close_handle", "`parts`"),
+]
+PLACES = {
+    ("lpc_homes", "closed_handle_still_counts"): "Parts::close_handle",
+    ("lpc_closing", "port_closed_at_each_duplicate"): "has_one_handle",
+    ("lpc_residents", "sixty_fifth_connection_is_accepted"): "CONNECTION_LIMIT",
+}
 # A program that replays one script, whose transcript is its second word. The first says how well.
 STAND_IN = """
 import os, sys
@@ -426,9 +454,25 @@ def rows():
             yield f"a text that {how}", lambda: rows_altered(whole, pattern, other)
 
 
+def stands(place, cell):
+    """Whether what a row names as false of a wrong body of `lpc_homes` stands there."""
+    return not list(tables.wrong_with("lpc_homes", place, cell))
+
+
+def clauses():
+    """What a row of a wrong body names as false of it, where it stands there and where it doesn't; and the places."""
+    for place, cell in CLAUSES:
+        yield f"false of {place}: {cell}", lambda: same(stands(place, cell), True)
+    for place, cell in NO_CLAUSES:
+        yield f"false of {place}, which isn't there: {cell}", lambda: same(stands(place, cell), False)
+    found = tables.edits()
+    for edit, place in PLACES.items():
+        yield f"the place of {edit[1]}", lambda: same(tables.place_of(edit[0], found[edit]), place)
+
+
 def checks():
     """All checks: each with its name and what finds out what is wrong."""
-    for group in (gate_seconds, gate, suites, probes, edges, rows):
+    for group in (gate_seconds, gate, suites, probes, edges, rows, clauses):
         yield from group()
 
 

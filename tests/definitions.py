@@ -7,7 +7,7 @@ import re
 CRATES = pathlib.Path(__file__).resolve().parent.parent / "crates"
 SIGNATURE = re.compile(r"^(?:unfoldable|abbrev) pub (\w+) : (.*)$")
 FUNCTION = re.compile(r"\bfn (\w+)")
-CLAUSE = re.compile(r"^\s*ensures (\w+) \{")
+CLAUSE = re.compile(r"^\s*(ensures|requires)\*? ?(\w*) \{")
 OWNER = re.compile(r"^(?:impl(?:<.*?>)? (?:\w+(?:<.*?>)? for )?|pub trait )(\w+)")
 # A row that is looked for by the name that a handle has. It stands, as a law says, so this refuses nothing.
 STANDING_ROW = re.compile(r"found_or \((?:port_row|section_row|token_row|first \(is_born_(?:thread|process)) [^\n]*")
@@ -103,7 +103,13 @@ def camel(name):
 
 
 def contracts(crate):
-    """The clauses of each function of a crate by its name: `read`, and with its type `MemSource::read`."""
+    """The clauses that each function of a crate promises, by its name: `read`, and with its type `MemSource::read`."""
+    return {name: {it for word, it in found if word == "ensures" and it} for name, found in clauses(crate).items()}
+
+
+def clauses(crate):
+    """What each function of a crate promises and asks, by its name as above: each clause with its word, `ensures` or
+    `requires`, and its name, which is empty for one clause alone."""
     found = {}
     for file in sorted((CRATES / crate / "src").rglob("*.rt")):
         owner, names = "", []
@@ -119,5 +125,5 @@ def contracts(crate):
                     found.setdefault(name, set())
             clause = CLAUSE.match(line)
             for name in names if clause else []:
-                found[name].add(clause[1])
+                found[name].add(clause.groups())
     return found
