@@ -1,1 +1,5 @@
 pub mod Apart
+pub mod Keeping
+pub mod Leading
+pub mod Placing
+pub mod Walked

@@ -8,6 +8,9 @@ ghost use Rattle.lpc_base.specs.Rows.{count, without, has};
 ghost use Rattle.lpc_base.specs.declared.limits.TheConstants.{MESSAGE_LIMIT};
 ghost use Rattle.lpc_waits.specs.Table.{accepted_of, accepted_port, accepted_port_in, begun, first_thread, is_accepted, is_accepted_at, is_accepted_on, is_connect, is_connect_of, is_event, is_event_on, is_made_at, is_made_on, is_mark, is_of, is_offered, is_offered_to, is_offering, is_receive, is_receive_on, is_receiver_at, is_request, is_request_on, is_taker_on, is_unmarked_event, is_unreceived_event_in, is_unreceived_request_in, is_wait_at, message_of, offer_of, raised_by, raised_in, received, row_of, takes, with_accepted, with_message, with_offer, with_row};
 
+mod places;
+
+use crate::places::Places;
 use arrayvec::ArrayVec;
 use lpc_base::{OutOfMemory, held, reserve_rows};
 use lpc_slots::Key;
@@ -161,22 +164,29 @@ pub struct WaitRow {
 
 /// The waits of all threads, in the order of waiting. A thread has one at most.
 ///
-/// No call but `reserve` takes memory. This project's own.
+/// No call but `reserve` takes memory. The wait of a thread is found by the thread's number without a walk: contracts
+/// don't see the places to which the numbers lead. This project's own.
 #[derive(Drop)]
 pub struct Waits {
     rows: Vec<WaitRow>,
+    places: Places,
     made: u64,
 }
 
 impl Model for Waits {
-    ghost use Rattle.std.specs.Prelude.{◌≡◌, ◌-◌, true, vec_len, vec_capacity};
-    ghost use Rattle.lpc_waits.specs.Table.{WaitTable, are_apart};
+    ghost use Rattle.std.specs.Prelude.{◌-◌, min, vec_len, vec_capacity};
+    ghost use Rattle.lpc_waits.specs.Kept.{AreKept};
+    ghost use Rattle.lpc_waits.specs.Table.{WaitTable};
 
     ghost Value = { WaitTable };
 
-    ghost view = { λ s. record { rows = s.rows.items; spare = vec_capacity s.rows - vec_len s.rows; made = s.made } };
+    ghost view = { λ s. record {
+      rows = s.rows.items;
+      spare = min (vec_capacity s.rows - vec_len s.rows) s.places.spare;
+      made = s.made;
+    } };
 
-    ghost invariant = { λ s. are_apart s.rows.items ≡ true };
+    ghost invariant = { λ s. AreKept s.places.placed s.rows.items };
 }
 
 impl Waits {
@@ -186,6 +196,7 @@ impl Waits {
     {
         Waits {
             rows: Vec::new(alloc),
+            places: Places::new(alloc),
             made: 0,
         }
     }
@@ -202,7 +213,8 @@ impl Waits {
             self.new.spare ≤ grown_room self.old.spare more rows }
         ensures enough { more ≤ self.old.spare → self.new.spare ≡ self.old.spare }
     {
-        reserve_rows(&mut self.rows, more)
+        reserve_rows(&mut self.rows, more)?;
+        self.places.reserve(more)
     }
 
     /// Adds the wait of a thread behind the others. It has no message yet, offers nothing, and isn't accepted.
@@ -215,6 +227,7 @@ impl Waits {
         ensures table { self.new ≡ begun self.old tid wait }
     {
         self.made += 1;
+        self.places.add(tid, self.rows.len());
         self.rows.push_reserved(WaitRow {
             thread: tid,
             wait,
@@ -243,24 +256,17 @@ impl Waits {
         ensures value { option_copied result ≡ option_map (λ row. row.wait) (row_of self.now tid) }
         ensures one { count (is_of tid) self.now.rows ≤ 1 }
     {
-        for row in &self.rows {
-            if row.thread == tid {
-                return Some(&row.wait);
-            }
+        match self.row(tid) {
+            Some(row) => Some(&row.wait),
+            None => None,
         }
-        None
     }
 
     /// The port of a thread's connect that is accepted: None exactly where the thread doesn't wait with one.
     pub fn accepted_port(&self, tid: u32) -> Option<Key>
         ensures port { result ≡ accepted_port self.now tid }
     {
-        for row in &self.rows {
-            if row.thread == tid {
-                return accepted_port_in(row);
-            }
-        }
-        None
+        accepted_port_in(self.row(tid)?)
     }
 
     /// Ends the wait of a thread, and answers it: None exactly where the thread has none. Its room is spare then.
@@ -271,8 +277,8 @@ impl Waits {
             ≡ (if is_some result then self.old.spare + 1 else self.old.spare) }
         ensures made { self.new.made ≡ self.old.made }
     {
-        let index = self.position(tid)?;
-        let row = self.rows.remove(index);
+        let place = self.places.end(tid)?;
+        let row = self.rows.remove(place);
         Some(row.wait)
     }
 
@@ -281,8 +287,8 @@ impl Waits {
         requires waits { IsSome (row_of self.old tid) }
         ensures table { self.new ≡ with_row self.old tid received }
     {
-        let index = self.place(tid);
-        self.rows[index].wait.received = true;
+        let place = self.place(tid);
+        self.rows[place].wait.received = true;
     }
 
     /// The thread that takes a message which enters the queue of a port: None exactly where there is none.
@@ -421,12 +427,7 @@ impl Waits {
     pub fn raised(&self, tid: u32) -> Option<Raised>
         ensures raised { result ≡ raised_by self.now tid }
     {
-        for row in &self.rows {
-            if row.thread == tid {
-                return row.wait.kind.raised();
-            }
-        }
-        None
+        self.row(tid)?.wait.kind.raised()
     }
 
     /// The thread that waits with a connect on a queue that isn't accepted, received or not, the one that has waited
@@ -457,8 +458,8 @@ impl Waits {
         requires bound { length bytes.now ≤ MESSAGE_LIMIT }
         ensures table { self.new ≡ with_row self.old tid (with_message bytes.now) }
     {
-        let index = self.place(tid);
-        self.rows[index].message = held(bytes);
+        let place = self.place(tid);
+        self.rows[place].message = held(bytes);
     }
 
     /// How many threads of a process wait in a connect.
@@ -491,8 +492,8 @@ impl Waits {
         requires waits { IsSome (row_of self.old tid) }
         ensures table { self.new ≡ with_row self.old tid (with_offer offer) }
     {
-        let index = self.place(tid);
-        self.rows[index].offer = offer;
+        let place = self.place(tid);
+        self.rows[place].offer = offer;
     }
 
     /// How many waiting connects offer a part of the section and aren't accepted. What an accepted connect offered is
@@ -531,15 +532,19 @@ impl Waits {
         requires waits { IsSome (row_of self.old tid) }
         ensures table { self.new ≡ with_row self.old tid (with_accepted accepted) }
     {
-        let index = self.place(tid);
-        self.rows[index].accepted = accepted;
+        let place = self.place(tid);
+        self.rows[place].accepted = accepted;
     }
 
-    // Where the wait of a thread stands.
-    fn position(&self, tid: u32) -> Option<usize>
-        ensures { result ≡ position (is_of tid) self.now.rows }
+    // The row of a thread, if it waits.
+    fn row(&self, tid: u32) -> Option<&WaitRow>
+        ensures row { option_copied result ≡ row_of self.now tid }
+        ensures one { count (is_of tid) self.now.rows ≤ 1 }
     {
-        self.rows.iter().position(|row| row.thread == tid)
+        match self.places.place(tid) {
+            Some(place) => Some(&self.rows[place]),
+            None => None,
+        }
     }
 
     // Where the wait of a waiting thread stands.
@@ -547,8 +552,8 @@ impl Waits {
         requires { IsSome (row_of self.now tid) }
         ensures { Some result ≡ position (is_of tid) self.now.rows }
     {
-        match self.position(tid) {
-            Some(index) => index,
+        match self.places.place(tid) {
+            Some(place) => place,
             None => unreachable!(),
         }
     }
