@@ -1,4 +1,5 @@
 pub mod Apart
+pub mod Counting
 pub mod Keeping
 pub mod Leading
 pub mod Placing

@@ -94,6 +94,14 @@ impl WaitKind {
         self.raised().is_some()
     }
 
+    // How many waits for events a wait of this kind is: one or none.
+    fn event_count(self) -> usize
+        ensures count { result ≡ (if is_event self then 1 else 0) }
+        ensures most { result ≤ 1 }
+    {
+        usize::from(self.is_event())
+    }
+
     // The exception of whose event a wait of this kind is.
     fn raised(self) -> Option<Raised>
         ensures { result ≡ raised_in self }
@@ -165,17 +173,20 @@ pub struct WaitRow {
 /// The waits of all threads, in the order of waiting. A thread has one at most.
 ///
 /// No call but `reserve` takes memory. The wait of a thread is found by the thread's number without a walk: contracts
-/// don't see the places to which the numbers lead. This project's own.
+/// don't see the places to which the numbers lead, nor how many waits are of events and how many have an offer, which is
+/// kept so that none of them is looked for where there is none. This project's own.
 #[derive(Drop)]
 pub struct Waits {
     rows: Vec<WaitRow>,
     places: Places,
+    events: usize,
+    offering: usize,
     made: u64,
 }
 
 impl Model for Waits {
     ghost use Rattle.std.specs.Prelude.{◌-◌, min, vec_len, vec_capacity};
-    ghost use Rattle.lpc_waits.specs.Kept.{AreKept};
+    ghost use Rattle.lpc_waits.specs.Kept.{AreCounted};
     ghost use Rattle.lpc_waits.specs.Table.{WaitTable};
 
     ghost Value = { WaitTable };
@@ -186,7 +197,7 @@ impl Model for Waits {
       made = s.made;
     } };
 
-    ghost invariant = { λ s. AreKept s.places.placed s.rows.items };
+    ghost invariant = { λ s. AreCounted s.places.placed s.rows.items s.events s.offering };
 }
 
 impl Waits {
@@ -197,6 +208,8 @@ impl Waits {
         Waits {
             rows: Vec::new(alloc),
             places: Places::new(alloc),
+            events: 0,
+            offering: 0,
             made: 0,
         }
     }
@@ -228,6 +241,7 @@ impl Waits {
     {
         self.made += 1;
         self.places.add(tid, self.rows.len());
+        self.events += wait.kind.event_count();
         self.rows.push_reserved(WaitRow {
             thread: tid,
             wait,
@@ -279,6 +293,8 @@ impl Waits {
     {
         let place = self.places.end(tid)?;
         let row = self.rows.remove(place);
+        self.events -= row.wait.kind.event_count();
+        self.offering -= offer_count(row.offer);
         Some(row.wait)
     }
 
@@ -402,6 +418,9 @@ impl Waits {
     pub fn event_on(&self, port: Key, marks: &[u32]) -> Option<u32>
         ensures { result ≡ first_thread (is_event_on marks.now port) self.now }
     {
+        if self.events == 0 {
+            return None;
+        }
         for row in &self.rows {
             if row.wait.port == port && is_unmarked_event(row, marks) {
                 return Some(row.thread);
@@ -415,6 +434,9 @@ impl Waits {
     pub fn unreceived_event_in(&self, queue: Key, marks: &[u32]) -> Option<u32>
         ensures { result ≡ first_thread (is_unreceived_event_in marks.now queue) self.now }
     {
+        if self.events == 0 {
+            return None;
+        }
         for row in &self.rows {
             if row.wait.queue == queue && !row.wait.received && is_unmarked_event(row, marks) {
                 return Some(row.thread);
@@ -493,7 +515,9 @@ impl Waits {
         ensures table { self.new ≡ with_row self.old tid (with_offer offer) }
     {
         let place = self.place(tid);
+        let others = self.offering - offer_count(self.rows[place].offer);
         self.rows[place].offer = offer;
+        self.offering = others + offer_count(offer);
     }
 
     /// How many waiting connects offer a part of the section and aren't accepted. What an accepted connect offered is
@@ -501,6 +525,9 @@ impl Waits {
     pub fn offers(&self, section: Key) -> usize
         ensures { result ≡ count (is_offering section) self.now.rows }
     {
+        if self.offering == 0 {
+            return 0;
+        }
         self.rows
             .iter()
             .filter(|row| is_offering(row, section))
@@ -511,6 +538,9 @@ impl Waits {
     pub fn is_section_offered(&self, section: Key) -> bool
         ensures { result ≡ has (is_offering section) self.now.rows }
     {
+        if self.offering == 0 {
+            return false;
+        }
         for row in &self.rows {
             if is_offering(row, section) {
                 return true;
@@ -590,6 +620,14 @@ fn is_offered(row: &WaitRow) -> bool
     ensures { result ≡ is_offered row.now }
 {
     row.wait.kind.is_connect() && row.accepted.is_none()
+}
+
+// How many offers there are: one or none.
+fn offer_count(offer: Option<Offer>) -> usize
+    ensures count { result ≡ (if is_some offer then 1 else 0) }
+    ensures most { result ≤ 1 }
+{
+    usize::from(offer.is_some())
 }
 
 // The row is of a connect that isn't accepted and offers a part of the section.
