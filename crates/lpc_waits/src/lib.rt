@@ -1,12 +1,12 @@
 //! The waits of threads, in the order of waiting.
 #![tactic(auto)]
 
-ghost use Rattle.std.specs.Prelude.{◌≡◌, ◌+◌, ◌<◌, ◌-◌, ◌≤◌, ◌^◌, ◌++◌, ◌∷◌, [], length, OnOk, OnErr, Some, None, IsSome, option_copied, option_map, is_some, if◌then◌else◌};
+ghost use Rattle.std.specs.Prelude.{◌≡◌, ◌+◌, ◌<◌, ◌-◌, ◌≤◌, ◌^◌, ◌++◌, ◌∷◌, [], length, OnOk, OnErr, Some, None, IfSome, IsSome, option_copied, option_map, is_some, if◌then◌else◌};
 ghost use Rattle.std.specs.List.{position};
 ghost use Rattle.lpc_base.specs.Room.{grown_room};
 ghost use Rattle.lpc_base.specs.Rows.{count, without, has};
 ghost use Rattle.lpc_base.specs.declared.limits.TheConstants.{MESSAGE_LIMIT};
-ghost use Rattle.lpc_waits.specs.Table.{accepted_of, accepted_port, accepted_port_in, begun, first_thread, is_accepted, is_accepted_at, is_accepted_on, is_connect, is_connect_of, is_event, is_event_on, is_made_at, is_made_on, is_mark, is_of, is_offered, is_offered_to, is_offering, is_receive, is_receive_on, is_receiver_at, is_request, is_request_on, is_taker_on, is_unmarked_event, is_unreceived_event_in, is_unreceived_request_in, is_wait_at, message_of, offer_of, raised_by, raised_in, received, row_of, takes, with_accepted, with_message, with_offer, with_row};
+ghost use Rattle.lpc_waits.specs.Table.{accepted_of, accepted_port, accepted_port_in, begun, first_thread, is_accepted, is_accepted_at, is_accepted_on, is_connect, is_connect_of, is_event, is_event_on, is_made_at, is_made_on, is_mark, is_of, is_offered, is_offered_to, is_offering, is_receive, is_receive_on, is_receiver_at, is_request, is_request_on, is_taker_on, is_unreceived_event_in, is_unreceived_request_in, is_wait_at, message_of, offer_of, raised_by, raised_in, received, row_of, takes, with_accepted, with_message, with_offer, with_row};
 
 mod places;
 
@@ -421,9 +421,13 @@ impl Waits {
         if self.events == 0 {
             return None;
         }
+        let mut next = 0;
         for row in &self.rows {
-            if row.wait.port == port && is_unmarked_event(row, marks) {
-                return Some(row.thread);
+            if row.wait.port == port && row.wait.kind.is_event() {
+                match mark_place(marks, next, row.thread) {
+                    Some(place) => next = place + 1,
+                    None => return Some(row.thread),
+                }
             }
         }
         None
@@ -437,9 +441,13 @@ impl Waits {
         if self.events == 0 {
             return None;
         }
+        let mut next = 0;
         for row in &self.rows {
-            if row.wait.queue == queue && !row.wait.received && is_unmarked_event(row, marks) {
-                return Some(row.thread);
+            if row.wait.queue == queue && !row.wait.received && row.wait.kind.is_event() {
+                match mark_place(marks, next, row.thread) {
+                    Some(place) => next = place + 1,
+                    None => return Some(row.thread),
+                }
             }
         }
         None
@@ -589,23 +597,24 @@ impl Waits {
     }
 }
 
-// The thread is among the marked ones.
-fn is_mark(marks: &[u32], tid: u32) -> bool
-    ensures { result ≡ has (is_mark tid) marks.now }
+// Where the thread stands among the marked ones; None exactly where it isn't among them. It is looked for first where it
+// is expected: marks that were made in the order of waiting are passed over in step with the waits.
+fn mark_place(marks: &[u32], expected: usize, tid: u32) -> Option<usize>
+    ensures marked { is_some result ≡ has (is_mark tid) marks.now }
+    ensures within { IfSome result (λ place. place < length marks.now) }
 {
-    for mark in marks {
-        if *mark == tid {
-            return true;
-        }
+    if expected < marks.len() && marks[expected] == tid {
+        return Some(expected);
     }
-    false
+    first_mark(marks, tid)
 }
 
-// The row is of an event whose thread isn't among the marked ones.
-fn is_unmarked_event(row: &WaitRow, marks: &[u32]) -> bool
-    ensures { result ≡ is_unmarked_event marks.now row.now }
+// The first place of the thread among the marked ones.
+fn first_mark(marks: &[u32], tid: u32) -> Option<usize>
+    ensures place { result ≡ position (is_mark tid) marks.now }
+    ensures within { IfSome result (λ place. place < length marks.now) }
 {
-    row.wait.kind.is_event() && !is_mark(marks, row.thread)
+    marks.iter().position(|mark| *mark == tid)
 }
 
 // The row is of a connect that was accepted.
