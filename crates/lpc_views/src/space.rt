@@ -67,6 +67,13 @@ impl<P: Copy + Eq> Space<P> {
         reserve_rows(&mut self.views, more)
     }
 
+    /// How many further views there is room for.
+    pub fn spare(&self) -> usize
+        ensures { result ≡ self.now.spare }
+    {
+        self.views.capacity() - self.views.len()
+    }
+
     /// The views. Places go from 0 in the order of making.
     pub fn views(&self) -> &[View<P>]
         ensures views { result.now ≡ self.now.views }
