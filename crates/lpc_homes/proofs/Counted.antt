@@ -1,5 +1,5 @@
 -- The counts that are kept of handles, after each change of the parts.
-use Rattle.std.proofs.Common.{◌≡◌, ◌+◌, ◌*◌, ◌<◌, ◌≤◌, ◌||◌, ◌&&◌, ℕ, Bool, true, false, cond, not, length, map, List, [], ◌∷◌, ◌++◌, set, Option, Some, None, refl, sym, ap, subst, ◌∙◌, arith}
+use Rattle.std.proofs.Common.{◌≡◌, ◌+◌, ◌*◌, ◌≤◌, ◌||◌, ◌&&◌, ℕ, Bool, true, false, cond, not, length, map, List, [], ◌∷◌, ◌++◌, set, Option, Some, None, refl, sym, ap, ◌∙◌, arith}
 use Rattle.std.specs.Prelude.{◌==◌, nat_lt, option_map}
 use Rattle.std.specs.List.{position}
 use Rattle.std.proofs.lemmas.Bool.{eqb-true}
@@ -7,22 +7,20 @@ use Rattle.std.proofs.lemmas.Bool.Decides.{nat_tests}
 use Rattle.lpc_base.specs.Places.{is_in, least_handle}
 use Rattle.lpc_base.specs.Rows.{change, count, every, first, has, which, without_first}
 use Rattle.lpc_base.specs.declared.limits.TheConstants.{HANDLE_LIMIT}
-use Rattle.lpc_base.proofs.Differ.{own-rows, rest-differ, rest-none, set-change}
+use Rattle.lpc_base.proofs.Differ.{own-rows, rest-differ, rest-none}
 use Rattle.lpc_base.proofs.Least.{new_handles_are_least}
 use Rattle.lpc_base.proofs.RowMaps.{has-map, push-map}
-use Rattle.lpc_base.proofs.RowWords.{change-none, count-append, count-bound, every-change, every-changed, every-push, every-true, without_first-none}
+use Rattle.lpc_base.proofs.RowWords.{change-none, count-append, count-bound, every-change, every-changed, every-push, every-true}
 use Rattle.lpc_handles.specs.Handles as handles
 use Rattle.lpc_handles.specs.Handles.{Handles, has_value, is_above, is_below, values, with_row}
 use Rattle.lpc_handles.specs.declared.table.Row.{Row}
-use Rattle.lpc_homes.specs.Counts.{AreCounted, Counted, Gains, Loses, count_in, is_within, one_for}
+use Rattle.lpc_homes.specs.Counts.{AreCounted, Counted, Gains, Loses, is_within, one_for}
 use Rattle.lpc_homes.specs.Parts.{all_rows, are_single_parts, closed, handed, has_name_of, is_part, names_it, new_part, roomed}
 use Rattle.lpc_homes.specs.declared.object.Object.{Object}
 use Rattle.lpc_homes.specs.declared.parts.Part.{Part}
 use Rattle.lpc_homes.proofs.OnePart.{IsAt, roomed_part}
 use Rattle.lpc_numbers.specs.Numbered.{is_at, numbers}
 use Rattle.lpc_numbers.proofs.Lookups.{position-map}
-use Rattle.lpc_slots.specs.declared.Key.{Key}
-use Rattle.lpc_views.specs.Views.{Views}
 
 abbrev process : Part → ℕ
 process part = part.process
@@ -76,13 +74,7 @@ module _ (f : Part → Part) (number : (x : Part) → (f x).process ≡ x.proces
       by_rows x true = rows x
       by_rows x false = refl
 
--- other views in the part of a process, and other room for handles
-pub viewed_kept : (parts : List Part) (places : List ℕ) (counts : Counted) (pid index : ℕ) (part : Part) (new : Views Key) → are_single_parts parts ≡ true → IsAt parts pid index part → AreCounted parts places counts
-    → AreCounted (set parts index (record part { views = new })) places counts
-viewed_kept parts places counts pid index part new one at h =
-    rw (set-change process (λ p. record p { views = new }) parts index pid part one at.here at.own)
-    (change_kept (λ p. record p { views = new }) (λ p. refl) (λ p. refl) pid parts places counts h)
-
+-- other room for handles in the part of a process
 pub roomed_kept : (parts : List Part) (places : List ℕ) (counts : Counted) (pid index : ℕ) (part : Part) (new : Handles Object) → are_single_parts parts ≡ true → IsAt parts pid index part → new.rows ≡ part.handles.rows → AreCounted parts places counts
     → AreCounted (set parts index (record part { handles = new })) places counts
 roomed_kept parts places counts pid index part new one at rows h =
@@ -99,7 +91,7 @@ with-length : (v : ℕ) (rows : List (ℕ × Row Object)) → length (which (is_
 with-length v [] = omega arith
 with-length v (row ∷ rows) = grind (arith, nat_tests, with-length v rows)
 
-count-cons : (p : ℕ × Row Object → Bool) (x : ℕ × Row Object) (rows : List (ℕ × Row Object)) → count p (x ∷ rows) ≡ cond (p x) 1 0 + count p rows
+pub count-cons : {X : Type 0} (p : X → Bool) (x : X) (rows : List X) → count p (x ∷ rows) ≡ cond (p x) 1 0 + count p rows
 count-cons p x rows = grind arith
 
 length-append : (xs ys : List (ℕ × Row Object)) → length (xs ++ ys) ≡ length xs + length ys
@@ -115,11 +107,11 @@ length-more : (v : ℕ) (row : Row Object) (rows : List (ℕ × Row Object)) →
 length-more v row rows = omega (arith, length-append (which (is_below v) rows) ((v, row) ∷ which (is_above v) rows), with-length v rows)
 
 -- and with one less
-row-less : (p t : ℕ × Row Object → Bool) (rows : List (ℕ × Row Object)) (x : ℕ × Row Object) → first t rows ≡ Some x → count p (without_first t rows) + cond (p x) 1 0 ≡ count p rows
+pub row-less : {X : Type 0} (p t : X → Bool) (rows : List X) (x : X) → first t rows ≡ Some x → count p (without_first t rows) + cond (p x) 1 0 ≡ count p rows
 row-less p t [] x is = absurd (cc)
 row-less p t (y ∷ rows) x is = grind (arith, row-less p t rows x)
 
-length-less : (t : ℕ × Row Object → Bool) (rows : List (ℕ × Row Object)) → length (without_first t rows) ≤ length rows
+pub length-less : {X : Type 0} (t : X → Bool) (rows : List X) → length (without_first t rows) ≤ length rows
 length-less t [] = omega arith
 length-less t (y ∷ rows) = grind (arith, length-less t rows)
 
@@ -195,21 +187,6 @@ closed_kept parts places old new pid value part row one at h is loses = record {
         ap (λ (r : Row Object). count (names_it o) (without_first (has_value value) part.handles.rows) + one_for o r.object) own
         ∙ row-less (names_it o) (has_value value) part.handles.rows x some
 
--- none was there to close
-pub unclosed_kept : (parts : List Part) (places : List ℕ) (counts : Counted) (pid value : ℕ) (part : Part) → are_single_parts parts ≡ true → first (is_part pid) parts ≡ Some part
-    → AreCounted parts places counts → None ≡ handles.at part.handles.rows value → AreCounted (change (is_part pid) (closed value) parts) places counts
-unclosed_kept parts places counts pid value part one at h is = record {
-  placed = h.placed ∙ sym (numbers_same (closed value) (λ x. refl) pid parts);
-  within = closed_within value pid parts h.within;
-  counted = λ whole o.
-      let same : count (names_it o) (without_first (has_value value) part.handles.rows) ≡ count (names_it o) part.handles.rows = ap (count (names_it o)) (without_first-none (has_value value) part.handles.rows (none (first (has_value value) part.handles.rows) is)) in
-      omega (arith, h.counted whole o, count-changed (names_it o) (closed value) parts pid part one at, same);
-}
-  where
-    none : (r : Option (ℕ × Row Object)) → None ≡ option_map (λ x. x.1) r → r ≡ None
-    none None e = refl
-    none (Some x) e = absurd (cc)
-
 -- a part was added
 pub pushed_kept : (parts : List Part) (places : List ℕ) (counts : Counted) (pid : ℕ) → AreCounted parts places counts → AreCounted (parts ++ new_part pid ∷ []) (places ++ pid ∷ []) counts
 pushed_kept parts places counts pid h = record {
@@ -230,7 +207,7 @@ few_named p (x ∷ parts) all =
     let rest : every is_within parts ≡ true = grind arith in
     omega (arith, own, count-bound p x.handles.rows, count-append p x.handles.rows (all_rows parts), few_named p parts rest)
 
-has_counted : {X : Type 0} (p : X → Bool) (xs : List X) → has p xs ≡ nat_lt 0 (count p xs)
+pub has_counted : {X : Type 0} (p : X → Bool) (xs : List X) → has p xs ≡ nat_lt 0 (count p xs)
 has_counted p [] = refl
 has_counted p (x ∷ xs) = grind (arith, nat_tests, has_counted p xs)
 

@@ -1,5 +1,5 @@
 -- The counts of objects by look-ups: what a write, and what a removal, makes of them.
-use Rattle.std.proofs.Common.{◌≡◌, ◌+◌, ℕ, Bool, true, false, cond, List, [], ◌∷◌, Option, None, Some, refl, sym, ap, ◌∙◌, arith}
+use Rattle.std.proofs.Common.{◌≡◌, ◌+◌, ℕ, Bool, true, false, cond, List, [], ◌∷◌, Option, refl, sym, ap, ◌∙◌, arith}
 use Rattle.std.specs.Prelude.{Err, Ok, OnOk, Result, if◌then◌else◌, is_ok, unwrap_or}
 use Rattle.std.specs.Map.{lookup}
 use Rattle.lpc_base.proofs.Births.{birth-same}

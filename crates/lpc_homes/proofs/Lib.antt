@@ -2,4 +2,6 @@ pub mod Counted
 pub mod Keyed
 pub mod OnePart
 pub mod Named
-pub mod Walked
+pub mod Places
+pub mod Taken
+pub mod Viewed

@@ -1,9 +1,9 @@
 -- The part of a process: where it stands, and what a change of it leaves.
-use Rattle.std.proofs.Common.{◌≡◌, ◌+◌, ◌-◌, ◌<◌, ℕ, true, false, cond, refl, ap, sym, ◌∙◌, arith, List, [], ◌∷◌, ◌++◌, get_or, length, set, Option, Some, None}
-use Rattle.std.specs.Prelude.{is_some, ◌==◌, Bool, Result, Ok, Err, IfNone, IfOk, IfSome, OnOk, OnSome}
+use Rattle.std.proofs.Common.{◌≡◌, ◌+◌, ◌-◌, ℕ, true, false, cond, refl, ap, sym, ◌∙◌, arith, List, [], ◌∷◌, ◌++◌, get_or, length, set, Option, Some, None}
+use Rattle.std.specs.Prelude.{is_some, ◌==◌, Result, Ok, Err, IfNone, IfOk, IfSome, OnOk, OnSome}
 use Rattle.std.specs.List.{position}
 use Rattle.std.proofs.lemmas.Bool.Decides.{nat_tests}
-use Rattle.lpc_base.specs.Rows.{change, count, first, has, without, without_first}
+use Rattle.lpc_base.specs.Rows.{change, first, has, without, without_first}
 use Rattle.lpc_base.proofs.Differ.{IsRowAt, row-at, set-change}
 use Rattle.lpc_base.proofs.Positions.{none_first}
 use Rattle.lpc_base.proofs.RowMaps.{some-map}
@@ -12,7 +12,7 @@ use Rattle.lpc_handles.specs.Handles as handles
 use Rattle.lpc_handles.specs.Handles.{Handles, with_row}
 use Rattle.lpc_handles.specs.declared.table.Row.{Row}
 use Rattle.lpc_handles.specs.declared.table.TableFault.{TableFault}
-use Rattle.lpc_homes.specs.Parts.{are_single_parts, closed, dropped, emptied, goes_with, handed, is_part, mapped, roomed, spare_at, spare_in, unmapped, view_room_at, view_room_in, view_roomed}
+use Rattle.lpc_homes.specs.Parts.{are_single_parts, closed, emptied, handed, is_part, mapped, roomed, spare_at, spare_in, unmapped, view_room_at, view_room_in, view_roomed}
 use Rattle.lpc_homes.specs.declared.object.Object.{Object}
 use Rattle.lpc_homes.specs.declared.parts.Part.{Part}
 use Rattle.lpc_slots.specs.declared.Key.{Key}
@@ -139,11 +139,6 @@ mapped_part parts pid index part (Ok v) new one at rows spare =
     let same : new ≡ (mapped v part).views = λ i. record { views = rows i; spare = less i } in
     viewed_part parts pid index part (mapped v) new one at (λ p. refl) same refl
 
--- which took a place
-pub had_place : {A B : Type 0} (r : Result A B) (left had : ℕ) → OnOk r (left + 1 ≡ had) → OnOk r (0 < had)
-had_place (Err e) left had spare = tt
-had_place (Ok a) left had spare = omega (arith, spare)
-
 -- a view less in it
 pub unmapped_part : (parts : List Part) (pid index : ℕ) (part : Part) (r : Option (View Key)) (new : Views Key) → are_single_parts parts ≡ true → IsAt parts pid index part
     → IfSome r (λ v. new.views ≡ without (lies_at v.base) part.views.views) → OnSome r (new.spare ≡ part.views.spare + 1)
@@ -161,17 +156,6 @@ fewer_views address part (Some v) new found rows one =
     let same : length (without (lies_at v.base) part.views.views) ≡ length (without_first (holds address 1) part.views.views) = ap length (sym rows ∙ one) in
     omega (arith, less, same)
 
--- the parts stay where its views do
-pub unseen_part : (parts : List Part) (pid index : ℕ) (part : Part) (r : Option (View Key)) (new : Views Key) → are_single_parts parts ≡ true → IsAt parts pid index part → IfNone r (new ≡ part.views)
-    → IfNone r (set parts index (record part { views = new }) ≡ parts)
-unseen_part parts pid index part (Some v) new one at same = tt
-unseen_part parts pid index part None new one at same =
-    ap (λ (v : Views Key). set parts index (record part { views = v })) same ∙ set-change process (λ p. p) parts index pid part one at.here at.own ∙ change-same (is_part pid) parts
-  where
-    change-same : (test : Part → Bool) (ps : List Part) → change test (λ p. p) ps ≡ ps
-    change-same test [] = refl
-    change-same test (p ∷ ps) = grind (arith, change-same test ps)
-
 -- no view in it
 pub emptied_part : (parts : List Part) (pid index : ℕ) (part : Part) (new : Views Key) → are_single_parts parts ≡ true → IsAt parts pid index part
     → new.views ≡ [] → new.spare ≡ part.views.spare + length part.views.views
@@ -179,11 +163,3 @@ pub emptied_part : (parts : List Part) (pid index : ℕ) (part : Part) (new : Vi
 emptied_part parts pid index part new one at rows spare =
     let same : new ≡ (emptied part).views = λ i. record { views = rows i; spare = spare i } in
     viewed_part parts pid index part emptied new one at (λ p. refl) same refl
-
--- none that goes with a port
-pub dropped_part : (parts : List Part) (pid index : ℕ) (port : Key) (part : Part) (new : Views Key) → are_single_parts parts ≡ true → IsAt parts pid index part
-    → new.views ≡ without (goes_with port) part.views.views → new.spare ≡ part.views.spare + count (goes_with port) part.views.views
-    → set parts index (record part { views = new }) ≡ change (is_part pid) (dropped port) parts
-dropped_part parts pid index port part new one at rows spare =
-    let same : new ≡ (dropped port part).views = λ i. record { views = rows i; spare = spare i } in
-    viewed_part parts pid index part (dropped port) new one at (λ p. refl) same refl

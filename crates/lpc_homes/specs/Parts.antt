@@ -1,5 +1,5 @@
 -- The handles and views of each process: which part of the world they stand in.
-use Rattle.std.specs.Prelude.{ℕ, ◌+◌, ◌++◌, ◌-◌, ◌<◌, ◌==◌, Bool, false, List, [], ◌∷◌, length, Option, Some, None, if◌then◌else◌}
+use Rattle.std.specs.Prelude.{ℕ, zero, suc, ◌+◌, ◌++◌, ◌-◌, ◌<◌, ◌==◌, Bool, false, List, [], ◌∷◌, length, Option, Some, None, if◌then◌else◌}
 use Rattle.lpc_base.specs.Births.{same_birth}
 use Rattle.lpc_base.specs.Rows.{change, count, differ_by, each, first, has, without, without_first}
 use Rattle.lpc_base.specs.declared.limits.TheConstants.{HANDLE_LIMIT, VIEW_LIMIT}
@@ -16,6 +16,12 @@ use Rattle.lpc_views.specs.declared.view.View.{View}
 -- the part of a process
 abbrev pub is_part : ℕ → Part → Bool
 is_part pid part = part.process == pid
+
+-- the parts, of which the one at a place is changed
+abbrev pub change_at : ℕ → (Part → Part) → List Part → List Part
+change_at place f [] = []
+change_at zero f (part ∷ parts) = f part ∷ parts
+change_at (suc place) f (part ∷ parts) = part ∷ change_at place f parts
 
 -- no process has two parts
 abbrev pub are_single_parts : List Part → Bool

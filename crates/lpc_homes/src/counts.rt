@@ -1,4 +1,4 @@
-// How many handles name each object.
+// How many handles, or views, count for each object.
 ghost use Rattle.std.specs.Prelude.{◌≡◌, [], if◌then◌else◌, true, ℕ, IfSome};
 ghost use Rattle.lpc_homes.specs.Counts.{Gains, Loses, count_in};
 ghost use Rattle.lpc_homes.specs.Parts.{is_object};
@@ -9,10 +9,10 @@ use indexmap::IndexMap;
 use std::alloc::Global;
 use std::marker::Model;
 
-/// How many handles name each object, as long as each handle found room to be counted.
+/// How many handles name each object, or how many views count for it, as long as each found room to be counted.
 ///
-/// The kit's map promises no room for what comes in place of what was taken out. So a handle that finds none leaves the
-/// counts unfinished from then on, and nothing is answered from them.
+/// The kit's map promises no room for what comes in place of what was taken out. So a handle or view that finds none
+/// leaves the counts unfinished from then on, and nothing is answered from them.
 #[derive(Drop)]
 pub struct Counts {
     counts: IndexMap<Object, usize>,
@@ -29,7 +29,7 @@ impl Model for Counts {
 }
 
 impl Counts {
-    /// No object is named, and no handle is promised.
+    /// No object has a count, and none is promised.
     pub fn new(alloc: Global) -> Counts
         ensures whole { result.whole ≡ true }
         ensures none { result.entries ≡ [] }
@@ -41,20 +41,20 @@ impl Counts {
         }
     }
 
-    /// Promises so many further handles, and makes room to count each that is promised, where there is memory. Where it
-    /// has to grow, it makes room for as many objects as there are, if those are more.
+    /// Promises so many further handles, or views, and makes room to count each that is promised, where there is memory.
+    /// Where it has to grow, it makes room for as many objects as there are, if those are more.
     pub fn promise(&mut self, more: usize)
         ensures { self.new ≡ self.old }
     {
         self.promised = self.promised.saturating_add(more);
         let named = self.counts.len();
         if self.promised > self.counts.capacity() - named {
-            // A handle that finds no room later leaves the counts unfinished.
+            // What finds no room later leaves the counts unfinished.
             let _ = self.counts.reserve(self.promised.max(named));
         }
     }
 
-    /// One more handle names the object. It was promised, and takes no memory.
+    /// One more counts for the object. It was promised, and takes no memory.
     pub fn add(&mut self, object: Object)
         ensures { self.new.whole ≡ true → Gains object self.old self.new }
     {
@@ -65,7 +65,7 @@ impl Counts {
         }
     }
 
-    /// One handle less names the object, and its place is promised anew.
+    /// One less counts for the object, and its place is promised anew.
     pub fn take(&mut self, object: Object)
         ensures { self.new.whole ≡ true → Loses object self.old self.new }
     {
@@ -79,7 +79,7 @@ impl Counts {
         }
     }
 
-    /// How many handles name the object; None where not each was counted.
+    /// How many count for the object; None where not each was counted.
     pub fn of(&self, object: Object) -> Option<usize>
         ensures whole { IfSome result (λ n. self.now.whole ≡ true) }
         ensures count { IfSome result (λ n. n ≡ count_in self.now.entries object) }

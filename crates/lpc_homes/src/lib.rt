@@ -4,6 +4,7 @@
 mod counts;
 mod object;
 mod parts;
+mod view_counts;
 mod views;
 
 pub use object::Object;

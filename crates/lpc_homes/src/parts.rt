@@ -10,6 +10,7 @@ ghost use Rattle.lpc_base.specs.declared.limits.TheConstants.{HANDLE_LIMIT, LINE
 
 use crate::Object;
 use crate::counts::Counts;
+use crate::view_counts::ViewCounts;
 use lpc_base::{OutOfMemory, reserve_rows};
 use lpc_handles::{Table, TableFault};
 use lpc_numbers::Numbered;
@@ -31,18 +32,20 @@ pub struct Part {
 
 /// The parts of all processes, in the order in which they were made.
 ///
-/// A part never goes. A number leads to its part, and an object to the count of its handles, without a walk. Contracts
-/// see the parts, and how many more go in without memory; they don't see the map of places nor the counts that are kept.
+/// A part never goes. A number leads to its part, and an object to the counts of its handles and of its views, without a
+/// walk. Contracts see the parts, and how many more go in without memory; they don't see the map of places nor the counts
+/// that are kept.
 pub struct Parts {
     pub(crate) parts: Vec<Part>,
     places: Numbered<()>,
-    counts: Counts,
+    handle_counts: Counts,
+    pub(crate) view_counts: ViewCounts,
     alloc: Global,
 }
 
 impl Model for Parts {
     ghost use Rattle.std.specs.Prelude.{◌-◌, min, vec_len, vec_capacity};
-    ghost use Rattle.lpc_homes.specs.Counts.{AreCounted};
+    ghost use Rattle.lpc_homes.specs.Counts.{AreAllCounted};
     ghost use Rattle.lpc_homes.specs.Parts.{PartTable};
     ghost use Rattle.lpc_numbers.specs.Numbered.{numbers};
 
@@ -53,7 +56,7 @@ impl Model for Parts {
       room = min (vec_capacity s.parts - vec_len s.parts) s.places.room;
     } };
 
-    ghost invariant = { λ s. AreCounted s.parts.items (numbers s.places.entries) s.counts };
+    ghost invariant = { λ s. AreAllCounted s.parts.items (numbers s.places.entries) s.handle_counts s.view_counts };
 }
 
 // Written out, so that a proof about what holds the parts lets them go in one step, and not map by map.
@@ -62,7 +65,8 @@ impl Drop for Parts {
         let Parts {
             parts: _,
             places: _,
-            counts: _,
+            handle_counts: _,
+            view_counts: _,
             alloc: _,
         } = self;
     }
@@ -76,7 +80,8 @@ impl Parts {
         Parts {
             parts: Vec::new(alloc),
             places: Numbered::new(alloc),
-            counts: Counts::new(alloc),
+            handle_counts: Counts::new(alloc),
+            view_counts: ViewCounts::new(alloc),
             alloc,
         }
     }
@@ -154,7 +159,7 @@ impl Parts {
     {
         let place = self.place_of(pid);
         let value = self.parts[place].handles.add(object, access)?;
-        self.counts.add(object);
+        self.handle_counts.add(object);
         Ok(value)
     }
 
@@ -178,7 +183,7 @@ impl Parts {
         let before = self.parts[place].handles.spare();
         let made = self.parts[place].handles.reserve(more);
         // What the counts find no memory for is counted by a walk.
-        self.counts
+        self.handle_counts
             .promise(self.parts[place].handles.spare() - before);
         made
     }
@@ -192,7 +197,7 @@ impl Parts {
     {
         let place = self.place_of(pid);
         if let Some(row) = self.parts[place].handles.close(value) {
-            self.counts.take(row.object);
+            self.handle_counts.take(row.object);
         }
     }
 
@@ -202,7 +207,7 @@ impl Parts {
         ensures count { result ≡ count (names_it object) (all_rows self.now.items) }
         ensures bound { result ≤ HANDLE_LIMIT * length self.now.items }
     {
-        match self.counts.of(object) {
+        match self.handle_counts.of(object) {
             Some(count) => count,
             None => handles_in(&self.parts, object),
         }
@@ -220,7 +225,7 @@ impl Parts {
     pub fn names(&self, object: Object) -> bool
         ensures { result ≡ has (has_name_of object) self.now.items }
     {
-        match self.counts.of(object) {
+        match self.handle_counts.of(object) {
             Some(count) => count > 0,
             None => is_named(&self.parts, object),
         }

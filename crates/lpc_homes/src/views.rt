@@ -3,13 +3,14 @@ ghost use Rattle.std.specs.Prelude.{◌≡◌, ◌+◌, ◌*◌, ◌%◌, ◌<�
 ghost use Rattle.lpc_base.specs.Room.{grown_room};
 ghost use Rattle.lpc_base.specs.Rows.{count, has, without};
 ghost use Rattle.lpc_base.specs.declared.limits.TheConstants.{LINES_LIMIT, PAGE_SIZE, VIEW_LIMIT};
-ghost use Rattle.lpc_homes.specs.Parts.{HasFewViews, all_views, are_single_parts, dropped, dropping, emptying, goes_with, has_view_of, has_view_with, is_part, mapping, unmapping, view_room_at, view_rooming, views_at};
+ghost use Rattle.lpc_homes.specs.Parts.{HasFewViews, all_views, are_single_parts, change_at, dropped, dropping, emptying, goes_with, has_view_of, has_view_with, is_part, mapping, unmapping, view_room_at, view_rooming, views_at};
 ghost use Rattle.lpc_slots.specs.Table.{at as row_at};
 ghost use Rattle.lpc_views.specs.Mapping.{mapped, new_base};
 ghost use Rattle.lpc_views.specs.Parts.{is_mapped};
 ghost use Rattle.lpc_views.specs.Views.{is_placed, lies_at, shows, view_at};
 
-use crate::parts::Parts;
+use crate::Object;
+use crate::parts::{Part, Parts};
 use lpc_base::OutOfMemory;
 use lpc_sections::Section;
 use lpc_slots::{Key, Slots};
@@ -43,7 +44,12 @@ impl Parts {
         ensures kept { self.new.room ≡ self.old.room }
     {
         let place = self.place_of(pid);
-        self.parts[place].views.reserve(more)
+        let before = self.parts[place].views.spare();
+        let made = self.parts[place].views.reserve(more);
+        // What the counts find no memory for is counted by a walk.
+        self.view_counts
+            .promise(self.parts[place].views.spare() - before);
+        made
     }
 
     /// Maps a part of a section for a process, at the least free base.
@@ -75,9 +81,11 @@ impl Parts {
         ensures kept { self.new.room ≡ self.old.room }
     {
         let place = self.place_of(pid);
-        self.parts[place]
+        let view = self.parts[place]
             .views
-            .map(sections, section, offset, size, writable, owner)
+            .map(sections, section, offset, size, writable, owner)?;
+        self.view_counts.add(view, place);
+        Ok(view)
     }
 
     /// Adds a view of a process at the base that it gets. It takes no memory: there is room that `reserve_views` made.
@@ -93,6 +101,7 @@ impl Parts {
     {
         let place = self.place_of(pid);
         self.parts[place].views.add(view);
+        self.view_counts.add(view, place);
     }
 
     /// Takes the view of a process that holds an address away, and answers it; None exactly where none does, and then
@@ -109,7 +118,9 @@ impl Parts {
         ensures kept { self.new.room ≡ self.old.room }
     {
         let place = self.place_of(pid);
-        self.parts[place].views.unmap(address)
+        let view = self.parts[place].views.unmap(address)?;
+        self.view_counts.take(view);
+        Some(view)
     }
 
     /// Takes all views of a process away.
@@ -120,7 +131,9 @@ impl Parts {
         ensures kept { self.new.room ≡ self.old.room }
     {
         let place = self.place_of(pid);
-        self.parts[place].views.clear();
+        let views = &mut self.parts[place].views;
+        self.view_counts.take_all(views.views());
+        views.clear();
     }
 
     /// Takes all views of a process that go with a port away; the others keep their order.
@@ -131,17 +144,46 @@ impl Parts {
         ensures kept { self.new.room ≡ self.old.room }
     {
         let place = self.place_of(pid);
-        self.parts[place].views.drop_owned(owner);
+        self.drop_owned_at(place, owner);
     }
 
     /// Takes all views of all processes that go with a port away; the others keep their order.
+    ///
+    /// They mostly lie in one process, which is looked at first. The others are looked at only as long as the counts
+    /// tell of a view that is left.
     pub fn drop_owned_views(&mut self, owner: Key)
         ensures parts { self.new.items ≡ map (dropped owner) self.old.items }
         ensures kept { self.new.room ≡ self.old.room }
     {
-        for part in self.parts.iter_mut() {
-            part.views.drop_owned(owner);
+        self.drop_owned_at_home(owner);
+        for place in 0..self.items().len() {
+            if self.owned_count(owner) == Some(0) {
+                return;
+            }
+            self.drop_owned_at(place, owner);
         }
+    }
+
+    // Takes those away that the process has to which the last view was given that goes with the port.
+    fn drop_owned_at_home(&mut self, owner: Key)
+        ensures left { let all = map (dropped owner) in all self.new.items ≡ all self.old.items }
+        ensures kept { self.new.room ≡ self.old.room }
+    {
+        let home = self.view_counts.home_of(owner);
+        if home < self.items().len() {
+            self.drop_owned_at(home, owner);
+        }
+    }
+
+    // Takes all views that go with a port away from the process whose part stands at a place.
+    fn drop_owned_at(&mut self, place: usize, owner: Key)
+        requires { place < length self.old.items }
+        ensures parts { self.new.items ≡ change_at place (dropped owner) self.old.items }
+        ensures kept { self.new.room ≡ self.old.room }
+    {
+        let views = &mut self.parts[place].views;
+        self.view_counts.take_owned(views.views(), owner);
+        views.drop_owned(owner);
     }
 
     /// How many views of all processes show the section.
@@ -150,23 +192,20 @@ impl Parts {
         ensures count { result ≡ count (shows section) (all_views self.now.items) }
         ensures bound { result ≤ VIEW_LIMIT * length self.now.items }
     {
-        let mut shown = 0;
-        for part in &self.parts {
-            shown += part.views.count_of(section);
+        match self.shown_count(section) {
+            Some(count) => count,
+            None => views_in(&self.parts, section),
         }
-        shown
     }
 
     /// A view of some process shows the section.
     pub fn shows(&self, section: Key) -> bool
         ensures { result ≡ has (has_view_of section) self.now.items }
     {
-        for part in &self.parts {
-            if part.views.shows(section) {
-                return true;
-            }
+        match self.shown_count(section) {
+            Some(count) => count > 0,
+            None => is_shown(&self.parts, section),
         }
-        false
     }
 
     /// How many views of all processes go with the port.
@@ -175,22 +214,87 @@ impl Parts {
         ensures count { result ≡ count (goes_with owner) (all_views self.now.items) }
         ensures bound { result ≤ VIEW_LIMIT * length self.now.items }
     {
-        let mut owned = 0;
-        for part in &self.parts {
-            owned += part.views.owned(owner);
+        match self.owned_count(owner) {
+            Some(count) => count,
+            None => owned_in(&self.parts, owner),
         }
-        owned
     }
 
     /// A view of some process goes with the port.
     pub fn is_owner(&self, owner: Key) -> bool
         ensures { result ≡ has (has_view_with owner) self.now.items }
     {
-        for part in &self.parts {
-            if part.views.owns(owner) {
-                return true;
-            }
+        match self.owned_count(owner) {
+            Some(count) => count > 0,
+            None => is_owner_in(&self.parts, owner),
         }
-        false
     }
+
+    // How many views of all processes show the section; None where not each was counted.
+    fn shown_count(&self, section: Key) -> Option<usize>
+        ensures count { let views = all_views self.now.items in
+            IfSome result (λ n. n ≡ count (shows section) views) }
+        ensures bound { IfSome result (λ n. n ≤ VIEW_LIMIT * length self.now.items) }
+    {
+        self.view_counts.of(Object::Section(section))
+    }
+
+    // How many views of all processes go with the port; None where not each was counted.
+    fn owned_count(&self, owner: Key) -> Option<usize>
+        ensures count { let views = all_views self.now.items in
+            IfSome result (λ n. n ≡ count (goes_with owner) views) }
+        ensures bound { IfSome result (λ n. n ≤ VIEW_LIMIT * length self.now.items) }
+    {
+        self.view_counts.of(Object::Port(owner))
+    }
+}
+
+/// How many views of all processes show the section, one by one.
+fn views_in(parts: &[Part], section: Key) -> usize
+    requires few { length parts.now ≤ 16 * LINES_LIMIT }
+    ensures count { result ≡ count (shows section) (all_views parts.now) }
+    ensures bound { result ≤ VIEW_LIMIT * length parts.now }
+{
+    let mut shown = 0;
+    for part in parts {
+        shown += part.views.count_of(section);
+    }
+    shown
+}
+
+/// A view of some process shows the section, which a walk finds.
+fn is_shown(parts: &[Part], section: Key) -> bool
+    ensures { result ≡ has (has_view_of section) parts.now }
+{
+    for part in parts {
+        if part.views.shows(section) {
+            return true;
+        }
+    }
+    false
+}
+
+/// How many views of all processes go with the port, one by one.
+fn owned_in(parts: &[Part], owner: Key) -> usize
+    requires few { length parts.now ≤ 16 * LINES_LIMIT }
+    ensures count { result ≡ count (goes_with owner) (all_views parts.now) }
+    ensures bound { result ≤ VIEW_LIMIT * length parts.now }
+{
+    let mut owned = 0;
+    for part in parts {
+        owned += part.views.owned(owner);
+    }
+    owned
+}
+
+/// A view of some process goes with the port, which a walk finds.
+fn is_owner_in(parts: &[Part], owner: Key) -> bool
+    ensures { result ≡ has (has_view_with owner) parts.now }
+{
+    for part in parts {
+        if part.views.owns(owner) {
+            return true;
+        }
+    }
+    false
 }

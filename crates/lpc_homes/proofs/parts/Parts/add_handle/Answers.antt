@@ -1,7 +1,9 @@
 use Rattle.std.proofs.Common.{Ok, refl, true≢false, sym}
 use Rattle.lpc_numbers.specs.Numbered.{numbers}
+use Rattle.lpc_homes.specs.Parts.{handed}
 use Rattle.lpc_homes.proofs.Counted.{handed_kept}
 use Rattle.lpc_homes.proofs.OnePart.{handed_part, part_is}
+use Rattle.lpc_homes.proofs.Viewed.{unseen_kept}
 use Rattle.lpc_homes.proofs.parts.Parts.add_handle.Goals as goal
 
 pub add-requires : goal.add-requires
@@ -34,4 +36,7 @@ invariant_of-self-2 c =
     let at = part_is c.self.inside.parts.items c.args.pid c.place_of-place.result c.index_mut.result.now (rw (← c.self.view_is) at c.place_of-place.ensures) c.index_mut.ensures.value in
     let one = rw (← c.self.view_is) at c.requires.one in
     rw (handed_part c.self.inside.parts.items c.args.pid c.place_of-place.result c.index_mut.result.now (record { object = c.args.object; access = c.args.access }) (Ok c.in_ok-value.value) c.add.new.self one at c.in_ok-value.ensures.rows c.in_ok-value.ensures.spare)
-    (handed_kept c.self.inside.parts.items (numbers c.self.inside.places.entries) c.self.inside.counts c.add-2.new.self c.args.pid c.in_ok-value.value c.index_mut.result.now (record { object = c.args.object; access = c.args.access }) one at.is_first c.self.invariant c.in_ok-value.ensures.value (λ full. true≢false (sym (c.in_ok-value.ensures.quota.1 full))) c.add-2.ensures)
+    (record {
+      of_handles = handed_kept c.self.inside.parts.items (numbers c.self.inside.places.entries) c.self.inside.handle_counts c.add-2.new.self c.args.pid c.in_ok-value.value c.index_mut.result.now (record { object = c.args.object; access = c.args.access }) one at.is_first c.self.invariant.of_handles c.in_ok-value.ensures.value (λ full. true≢false (sym (c.in_ok-value.ensures.quota.1 full))) c.add-2.ensures;
+      of_views = unseen_kept (handed c.in_ok-value.value (record { object = c.args.object; access = c.args.access })) (λ p. refl) c.args.pid c.self.inside.parts.items c.self.inside.view_counts c.self.invariant.of_views;
+    })

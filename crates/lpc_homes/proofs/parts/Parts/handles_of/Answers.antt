@@ -1,4 +1,4 @@
-use Rattle.std.proofs.Common.{sym, ap, ◌∙◌}
+use Rattle.std.proofs.Common.{sym, ap}
 use Rattle.lpc_homes.specs.Parts.{rows_in}
 use Rattle.lpc_homes.proofs.OnePart.{part_is}
 use Rattle.lpc_homes.proofs.parts.Parts.handles_of.Goals as goal

@@ -1,9 +1,11 @@
-use Rattle.std.proofs.Common.{ap, sym, ◌∙◌}
+use Rattle.std.proofs.Common.{ap, ◌∙◌}
 use Rattle.lpc_base.specs.Rows.{has}
-use Rattle.lpc_homes.specs.Parts.{has_view_with}
-use Rattle.lpc_homes.proofs.Named.{passing_at}
+use Rattle.lpc_homes.specs.Parts.{goes_with, has_view_with}
+use Rattle.lpc_homes.proofs.Viewed.{seen_counted}
 use Rattle.lpc_homes.proofs.parts.Parts.is_owner.Goals as goal
 
-pub returns-then-owns : goal.returns-then-owns
-returns-then-owns c =
-    rw (← c.self.view_is) (passing_at (has_view_with c.args.owner) c.deref-part-items.result.now c.loop-part.part-index c.part-item.result c.loop-part-test.true c.part-item.is c.loop-part.invariant (sym c.owns.ensures ∙ c.if-owns.true) ∙ ap (has (has_view_with c.args.owner)) c.deref-part-items.ensures.value)
+pub returns-in-None : goal.returns-in-None
+returns-in-None c = rw (← c.self.view_is) (c.is_owner_in.ensures ∙ ap (has (has_view_with c.args.owner)) c.deref.ensures.value)
+
+pub returns-in-Some : goal.returns-in-Some
+returns-in-Some c = rw c.in-Some.ensures.count (seen_counted (goes_with c.args.owner) c.args.self.now.items)

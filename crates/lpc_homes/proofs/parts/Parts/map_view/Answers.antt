@@ -1,6 +1,8 @@
+use Rattle.std.proofs.Common.{Ok, arith, rules}
 use Rattle.lpc_numbers.specs.Numbered.{numbers}
-use Rattle.lpc_homes.proofs.Counted.{viewed_kept}
-use Rattle.lpc_homes.proofs.OnePart.{had_place, mapped_part, part_is}
+use Rattle.lpc_homes.proofs.OnePart.{mapped_part, part_is}
+use Rattle.lpc_homes.proofs.Viewed.{few_mapped, gained, one_more, views_kept}
+use Rattle.lpc_slots.specs.Table.{at as row_at}
 use Rattle.lpc_homes.proofs.parts.Parts.map_view.Goals as goal
 
 pub map-requires-clause-room : goal.map-requires-clause-room
@@ -8,22 +10,29 @@ map-requires-clause-room c =
     let at = part_is c.self.inside.parts.items c.args.pid c.place_of-place.result c.index_mut.result.now (rw (← c.self.view_is) at c.place_of-place.ensures) c.index_mut.ensures.value in
     rw (← c.self.view_is, at.is_first) at c.requires.room
 
+pub returns-in_err-view-clause-answer : goal.returns-in_err-view-clause-answer
+returns-in_err-view-clause-answer c =
+    let at = part_is c.self.inside.parts.items c.args.pid c.place_of-place.result c.index_mut.result.now (rw (← c.self.view_is) at c.place_of-place.ensures) c.index_mut.ensures.value in
+    rw (← c.self.view_is, at.is_first) (search rules)
+
 pub returns-clause-answer : goal.returns-clause-answer
 returns-clause-answer c =
     let at = part_is c.self.inside.parts.items c.args.pid c.place_of-place.result c.index_mut.result.now (rw (← c.self.view_is) at c.place_of-place.ensures) c.index_mut.ensures.value in
-    rw (← c.self.view_is, at.is_first) c.map.ensures.answer
+    rw (← c.self.view_is, at.is_first) c.in_ok-view.ensures.answer
 
 pub returns-clause-parts : goal.returns-clause-parts
 returns-clause-parts c =
     let at = part_is c.self.inside.parts.items c.args.pid c.place_of-place.result c.index_mut.result.now (rw (← c.self.view_is) at c.place_of-place.ensures) c.index_mut.ensures.value in
-    rw (← c.self.view_is) (mapped_part c.self.inside.parts.items c.args.pid c.place_of-place.result c.index_mut.result.now c.map.result c.map.new.self (rw (← c.self.view_is) at c.requires.one) at c.map.ensures.views c.map.ensures.spare)
+    rw (← c.self.view_is) (mapped_part c.self.inside.parts.items c.args.pid c.place_of-place.result c.index_mut.result.now (Ok c.in_ok-view.view) c.map.new.self (rw (← c.self.view_is) at c.requires.one) at c.in_ok-view.ensures.views c.in_ok-view.ensures.spare)
 
 pub returns-clause-place : goal.returns-clause-place
 returns-clause-place c =
     let at = part_is c.self.inside.parts.items c.args.pid c.place_of-place.result c.index_mut.result.now (rw (← c.self.view_is) at c.place_of-place.ensures) c.index_mut.ensures.value in
-    rw (← c.self.view_is, at.is_first) (had_place c.map.result c.map.new.self.spare c.index_mut.result.now.views.spare c.map.ensures.spare)
+    rw (← c.self.view_is, at.is_first) (omega (arith, c.in_ok-view.ensures.spare))
 
-pub invariant_of-self : goal.invariant_of-self
-invariant_of-self c =
+pub invariant_of-self-2 : goal.invariant_of-self-2
+invariant_of-self-2 c =
     let at = part_is c.self.inside.parts.items c.args.pid c.place_of-place.result c.index_mut.result.now (rw (← c.self.view_is) at c.place_of-place.ensures) c.index_mut.ensures.value in
-    viewed_kept c.self.inside.parts.items (numbers c.self.inside.places.entries) c.self.inside.counts c.args.pid c.place_of-place.result c.index_mut.result.now c.map.new.self (rw (← c.self.view_is) at c.requires.one) at c.self.invariant
+    views_kept c.self.inside.parts.items (numbers c.self.inside.places.entries) c.self.inside.handle_counts c.self.inside.view_counts c.add.new.self c.place_of-place.result c.index_mut.result.now c.map.new.self at.here c.self.invariant
+    (one_more c.index_mut.result.now.views c.map.new.self c.self.inside.view_counts c.add.new.self c.in_ok-view.view c.in_ok-view.ensures.views (few_mapped c.index_mut.result.now.views.views c.args.section c.args.offset c.args.size c.args.writable c.args.owner (row_at c.args.sections.now c.args.section) c.in_ok-view.view c.in_ok-view.ensures.answer))
+    (gained c.index_mut.result.now.views c.map.new.self c.self.inside.view_counts c.add.new.self c.in_ok-view.view c.in_ok-view.ensures.views c.add.ensures)

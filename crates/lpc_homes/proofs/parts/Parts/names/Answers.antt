@@ -9,5 +9,5 @@ returns-in-None c = rw (← c.self.view_is) (c.is_named.ensures ∙ ap (has (has
 
 pub returns-in-Some : goal.returns-in-Some
 returns-in-Some c =
-    rw (← c.self.view_is, c.in-Some.ensures.count, c.self.invariant.counted c.in-Some.ensures.whole c.args.object)
+    rw (← c.self.view_is, c.in-Some.ensures.count, c.self.invariant.of_handles.counted c.in-Some.ensures.whole c.args.object)
     (named_counted c.args.object c.self.inside.parts.items)

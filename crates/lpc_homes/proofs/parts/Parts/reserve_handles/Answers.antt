@@ -1,6 +1,9 @@
+use Rattle.std.proofs.Common.{refl}
 use Rattle.lpc_numbers.specs.Numbered.{numbers}
+use Rattle.lpc_homes.specs.Parts.{roomed}
 use Rattle.lpc_homes.proofs.Counted.{roomed_kept}
 use Rattle.lpc_homes.proofs.OnePart.{part_is, roomed_part}
+use Rattle.lpc_homes.proofs.Viewed.{unseen_kept}
 use Rattle.lpc_homes.proofs.parts.Parts.reserve_handles.Goals as goal
 
 pub returns-clause-parts : goal.returns-clause-parts
@@ -41,4 +44,10 @@ returns-clause-enough c =
 pub invariant_of-self : goal.invariant_of-self
 invariant_of-self c =
     let at = part_is c.self.inside.parts.items c.args.pid c.place_of-place.result c.index_mut.result.now (rw (← c.self.view_is) at c.place_of-place.ensures) c.index_mut.ensures.value in
-    rw c.promise.ensures (roomed_kept c.self.inside.parts.items (numbers c.self.inside.places.entries) c.self.inside.counts c.args.pid c.place_of-place.result c.index_mut.result.now c.reserve-made.new.self (rw (← c.self.view_is) at c.requires.one) at c.reserve-made.ensures.rows c.self.invariant)
+    let one = rw (← c.self.view_is) at c.requires.one in
+    rw c.promise.ensures (record {
+      of_handles = roomed_kept c.self.inside.parts.items (numbers c.self.inside.places.entries) c.self.inside.handle_counts c.args.pid c.place_of-place.result c.index_mut.result.now c.reserve-made.new.self one at c.reserve-made.ensures.rows c.self.invariant.of_handles;
+      of_views =
+          rw (roomed_part c.self.inside.parts.items c.args.pid c.place_of-place.result c.index_mut.result.now c.reserve-made.new.self one at c.reserve-made.ensures.rows).parts_are
+          (unseen_kept (roomed c.reserve-made.new.self.spare) (λ p. refl) c.args.pid c.self.inside.parts.items c.self.inside.view_counts c.self.invariant.of_views);
+    })

@@ -1,9 +1,12 @@
-use Rattle.std.proofs.Common.{ap, sym, ◌∙◌}
+use Rattle.std.proofs.Common.{ap, ◌∙◌}
 use Rattle.lpc_base.specs.Rows.{has}
 use Rattle.lpc_homes.specs.Parts.{has_view_of}
-use Rattle.lpc_homes.proofs.Named.{passing_at}
+use Rattle.lpc_views.specs.Views.{shows}
+use Rattle.lpc_homes.proofs.Viewed.{seen_counted}
 use Rattle.lpc_homes.proofs.parts.Parts.shows.Goals as goal
 
-pub returns-then-shows : goal.returns-then-shows
-returns-then-shows c =
-    rw (← c.self.view_is) (passing_at (has_view_of c.args.section) c.deref-part-items.result.now c.loop-part.part-index c.part-item.result c.loop-part-test.true c.part-item.is c.loop-part.invariant (sym c.shows.ensures ∙ c.if-shows.true) ∙ ap (has (has_view_of c.args.section)) c.deref-part-items.ensures.value)
+pub returns-in-None : goal.returns-in-None
+returns-in-None c = rw (← c.self.view_is) (c.is_shown.ensures ∙ ap (has (has_view_of c.args.section)) c.deref.ensures.value)
+
+pub returns-in-Some : goal.returns-in-Some
+returns-in-Some c = rw c.in-Some.ensures.count (seen_counted (shows c.args.section) c.args.self.now.items)
