@@ -1,15 +1,17 @@
 -- The ports that are told of exceptions, and the process that is to end next.
-use Rattle.std.proofs.Common.{◌≡◌, ◌+◌, ◌≤◌, ℕ, zero, suc, List, [], ◌∷◌, Bool, true, false, cond, set, None, Option, Some, option_map, refl, ap, sym, arith}
+use Rattle.std.proofs.Common.{◌≡◌, ◌+◌, ◌≤◌, ℕ, zero, suc, List, [], ◌∷◌, Bool, true, false, cond, set, None, Option, Some, option_map, refl, ap, sym, ◌∙◌, arith}
 use Rattle.std.specs.Prelude.{is_some, nat_lt, slice_get, option_to_list, ◌&&◌, ◌++◌, ◌||◌}
 use Rattle.std.proofs.lemmas.Bool.Decides.{nat_tests}
-use Rattle.lpc_base.specs.Rows.{count, every, has, passes, which}
+use Rattle.lpc_base.specs.declared.birth.Birth.{Birth}
+use Rattle.lpc_base.specs.Rows.{change, count, every, has, passes, which}
 use Rattle.lpc_base.proofs.RowMaps.{which-map}
 use Rattle.lpc_procs.specs.declared.rows.Counted.{Counted}
 use Rattle.lpc_procs.specs.declared.rows.Doomed.{Doomed}
 use Rattle.lpc_procs.specs.declared.rows.ProcessRow.{ProcessRow}
+use Rattle.lpc_procs.specs.declared.rows.Registration.{Registration}
 use Rattle.lpc_procs.specs.declared.rows.ThreadRow.{ThreadRow}
-use Rattle.lpc_procs.specs.Kept.{doomed_in, is_counted, is_doomed_row, lesser_doomed, process_rows}
-use Rattle.lpc_procs.specs.Procs.{doomed_as, is_doomed, least, lesser}
+use Rattle.lpc_procs.specs.Kept.{doomed_in, is_counted, is_doomed_row, is_watched, lesser_doomed, process_rows}
+use Rattle.lpc_procs.specs.Procs.{doomed_as, event_ports, excepted, has_event_port, is_doomed, is_of_birth, least, lesser}
 use Rattle.lpc_procs.proofs.Counts.{lives-counted}
 
 -- two optional values as a list
@@ -63,14 +65,19 @@ count-written p (z ∷ xs) zero x y here =
     grind (arith, is)
 count-written p (z ∷ xs) (suc i) x y here = grind (arith, count-written p xs i x y here)
 
--- a row that is to end is counted
-pub doomed-counts : (ps : List Counted) (i : ℕ) (p : Counted) → slice_get ps i ≡ Some p → cond (is_doomed_row p) 1 0 ≤ count is_doomed_row ps
-doomed-counts [] i p here = absurd (cc)
-doomed-counts (q ∷ ps) zero p here =
-    let same : q ≡ p = cc in
-    let is : is_doomed_row q ≡ is_doomed_row p = ap is_doomed_row same in
+-- a row that passes is counted
+pub one-counts : {X : Type 0} (p : X → Bool) (xs : List X) (i : ℕ) (x : X) → slice_get xs i ≡ Some x → cond (p x) 1 0 ≤ count p xs
+one-counts p [] i x here = absurd (cc)
+one-counts p (y ∷ xs) zero x here =
+    let same : y ≡ x = cc in
+    let is : p y ≡ p x = ap p same in
     grind (arith, is)
-doomed-counts (q ∷ ps) (suc i) p here = grind (arith, doomed-counts ps i p here)
+one-counts p (y ∷ xs) (suc i) x here = grind (arith, one-counts p xs i x here)
+
+-- a count of rows that change, but not in what is counted
+pub count-unseen : {X : Type 0} (p s : X → Bool) (f : X → X) → ((x : X) → p (f x) ≡ p x) → (xs : List X) → count p (change s f xs) ≡ count p xs
+count-unseen p s f same [] = refl
+count-unseen p s f same (x ∷ xs) = grind (arith, same x, count-unseen p s f same xs)
 
 -- where none is to end, none is the next
 pub none-doomed : (ps : List Counted) → count is_doomed_row ps ≡ 0 → next_doomed ps ≡ None
@@ -80,3 +87,33 @@ none-doomed (p ∷ ps) none = at (is_doomed_row p) refl (none-doomed ps)
     at : (b : Bool) → is_doomed_row p ≡ b → (count is_doomed_row ps ≡ 0 → next_doomed ps ≡ None) → next_doomed (p ∷ ps) ≡ None
     at true is rest = absurd (grind (arith, is, none))
     at false off rest = rw off (rest (grind (arith, off, none)))
+
+-- a process has an exception port once it was given one
+pub excepted-watched : (p : Counted) (r : Registration) → is_watched (record p { row = excepted r p.row }) ≡ true
+excepted-watched p r = by (is_some p.row.debug_port)
+  where
+    by : (b : Bool) → (b || true) ≡ true
+    by true = refl
+    by false = refl
+
+-- where no port is told of exceptions, none of a birth is
+unwatched : {X : Type 0} (one other : Option X) → (is_some one || is_some other) ≡ false → option_to_list one ++ option_to_list other ≡ []
+unwatched None None off = refl
+unwatched None (Some y) off = absurd (cc)
+unwatched (Some x) other off = absurd (cc)
+
+pub none-watched : (b : Birth) (ps : List Counted) → count is_watched ps ≡ 0 → has (has_event_port b) (process_rows ps) ≡ false
+none-watched b [] none = refl
+none-watched b (p ∷ ps) none =
+    let off : is_watched p ≡ false = grind arith in
+    let own : has_event_port b p.row ≡ false = ap (has (is_of_birth b)) (unwatched p.row.debug_port p.row.exception_port off) in
+    let rest : count is_watched ps ≡ 0 = grind (arith, off) in
+    grind (arith, own, none-watched b ps rest)
+
+pub none-told : (b : Birth) (ps : List Counted) → count is_watched ps ≡ 0 → count (is_of_birth b) (event_ports (process_rows ps)) ≡ 0
+none-told b [] none = refl
+none-told b (p ∷ ps) none =
+    let off : is_watched p ≡ false = grind arith in
+    let own = unwatched p.row.debug_port p.row.exception_port off in
+    let rest : count is_watched ps ≡ 0 = grind (arith, off) in
+    ap (λ rs. count (is_of_birth b) (rs ++ event_ports (process_rows ps))) own ∙ none-told b ps rest

@@ -8,17 +8,17 @@ use Rattle.std.proofs.lemmas.List.{length-append}
 use Rattle.lpc_base.specs.Births.{same_birth}
 use Rattle.lpc_base.specs.declared.birth.Birth.{Birth}
 use Rattle.lpc_base.specs.declared.limits.TheConstants.{REGISTRATION_LIMIT}
-use Rattle.lpc_base.specs.Rows.{change, count, every, first, has, without}
+use Rattle.lpc_base.specs.Rows.{change, count, every, first, has, when, without}
 use Rattle.lpc_base.proofs.Differ.{differ-change, differ-push, differ-without}
 use Rattle.lpc_base.proofs.RowMaps.{push-map, unseen-change, without-map}
-use Rattle.lpc_base.proofs.RowWords.{count-bound, count-push, count-without, every-change, every-more, every-push, every-true, every-without}
+use Rattle.lpc_base.proofs.RowWords.{count-append, count-bound, count-push, count-without, every-change, every-more, every-push, every-true, every-without}
 use Rattle.lpc_procs.specs.declared.rows.Counted.{Counted}
 use Rattle.lpc_procs.specs.declared.rows.ProcessRow.{ProcessRow}
 use Rattle.lpc_procs.specs.declared.rows.Registration.{Registration}
 use Rattle.lpc_procs.specs.declared.rows.ThreadRow.{ThreadRow}
 use Rattle.lpc_procs.specs.declared.rows.UsedThread.{UsedThread}
-use Rattle.lpc_procs.specs.Kept.{AreKept, IsStored, are_apart, counting, has_name, has_number, is_counted, is_doomed_row, is_limited, is_low, is_of_used, is_used_row, process_name, process_rows, thread_name}
-use Rattle.lpc_procs.specs.Procs.{HasRegistrationLeft, all_registrations, ended, is_life, is_of_birth, is_process, is_thread, is_thread_born, is_used_thread, lives_in, registering, unregistering}
+use Rattle.lpc_procs.specs.Kept.{AreKept, are_apart, counting, has_name, has_number, is_counted, is_limited, is_low, is_of_used, is_used_row, process_name, process_rows, thread_name}
+use Rattle.lpc_procs.specs.Procs.{HasRegistrationLeft, all_registrations, ended, has_registered, is_life, is_of_birth, is_process, is_thread, is_thread_born, is_used_thread, lives_in, live_registrations, registered_live, registering, unregistering}
 use Rattle.lpc_procs.proofs.Counts.{count-set, counts-ended, counts-less, counts-process, counts-set, counts-thread}
 use Rattle.lpc_procs.proofs.Few.{few, few_processes}
 use Rattle.lpc_procs.proofs.Keeping.{KeepsNumbers, changed_at, kept-at, kept-push, kept-without, row_is}
@@ -275,10 +275,9 @@ module _ (ps : List Counted) (ts : List ThreadRow) (ns : List ℕ) (us : List Us
   pub alive-few : alive ≤ 2147483648
   alive-few = omega (arith, kept.living, count-bound (λ (t : ThreadRow). t.live) ts, threads-few)
 
--- and few processes, so few that are to end
-pub dooms-few : (ps : List Counted) (ts : List ThreadRow) (ns : List ℕ) (us : List UsedThread) (pn tn : List (ℕ × Birth)) (alive registered dooms : ℕ) → IsStored ps ts ns us pn tn alive registered dooms → dooms < 4294967296
-dooms-few ps ts ns us pn tn alive registered dooms stored =
-    omega (arith, stored.doomed, count-bound is_doomed_row ps, few_processes 2147483648 ps stored.all.apart stored.all.processes_low)
+  -- and few processes, so few of one kind
+  pub processes-few : (p : Counted → Bool) (n : ℕ) → n ≡ count p ps → n < 4294967296
+  processes-few p n is = omega (arith, is, count-bound p ps, few_processes 2147483648 ps kept.apart kept.processes_low)
 
 -- a live thread is counted
 pub live-there : (ts : List ThreadRow) (i : ℕ) (row : ThreadRow) → slice_get ts i ≡ Some row → row.live ≡ true → (1 ≤ count (lives_in row.process) ts) × (1 ≤ count (λ t. t.live) ts)
@@ -309,3 +308,27 @@ registered-less row b limited =
     let had : many row ≤ 16 = grind (arith, nat_tests, limited) in
     let left : length (without (is_of_birth b) row.registered.items) ≤ 16 = omega (arith, had, without-fewer (is_of_birth b) row.registered.items) in
     grind (arith, nat_tests, left)
+
+-- where nothing is registered, no thread registered a port
+empty-has : {X : Type 0} (p : X → Bool) (xs : List X) → length xs ≡ 0 → has p xs ≡ false
+empty-has p [] none = refl
+empty-has p (x ∷ xs) none = absurd (omega (arith, none))
+
+empty-counts : {X : Type 0} (p : X → Bool) (xs : List X) (b : Bool) → length xs ≡ 0 → count p (when b xs) ≡ 0
+empty-counts p [] true none = refl
+empty-counts p [] false none = refl
+empty-counts p (x ∷ xs) b none = absurd (omega (arith, none))
+
+pub none-registered : (b : Birth) (ts : List ThreadRow) → all ts ≡ 0 → has (has_registered b) ts ≡ false
+none-registered b [] none = refl
+none-registered b (t ∷ ts) none =
+    let sum = length-append t.registered.items (all_registrations ts) in
+    let own = empty-has (is_of_birth b) t.registered.items (omega (arith, sum, none)) in
+    grind (arith, own, none-registered b ts (omega (arith, sum, none)))
+
+pub none-registered_to : (b : Birth) (ts : List ThreadRow) → all ts ≡ 0 → count (is_of_birth b) (live_registrations ts) ≡ 0
+none-registered_to b [] none = refl
+none-registered_to b (t ∷ ts) none =
+    let sum = length-append t.registered.items (all_registrations ts) in
+    let own = empty-counts (is_of_birth b) t.registered.items t.live (omega (arith, sum, none)) in
+    omega (arith, own, count-append (is_of_birth b) (registered_live t) (live_registrations ts), none-registered_to b ts (omega (arith, sum, none)))

@@ -1,5 +1,5 @@
 -- What the table keeps of its rows and numbers.
-use Rattle.std.specs.Prelude.{ℕ, ◌≡◌, ◌==◌, ◌&&◌, Bool, true, false, is_some, length, map, nat_le, nat_lt, List, Option, Some, None, if◌then◌else◌}
+use Rattle.std.specs.Prelude.{ℕ, ◌≡◌, ◌==◌, ◌&&◌, ◌||◌, Bool, true, false, is_some, length, map, nat_le, nat_lt, List, Option, Some, None, if◌then◌else◌}
 use Rattle.lpc_base.specs.declared.birth.Birth.{Birth}
 use Rattle.lpc_base.specs.Rows.{change, count, differ_by, every, first, has}
 use Rattle.lpc_base.specs.declared.limits.TheConstants.{REGISTRATION_LIMIT}
@@ -69,6 +69,10 @@ is_doomed_row p = is_some p.row.doom && is_peopled p
 abbrev pub doomed_in : Counted → Option Doomed
 doomed_in p = if is_doomed_row p then Some (doomed_as p.row) else None
 
+-- a port is told of the exceptions of a process
+abbrev pub is_watched : Counted → Bool
+is_watched p = is_some p.row.debug_port || is_some p.row.exception_port
+
 -- of two that are to end the one of the lesser number
 abbrev pub lesser_doomed : Option Doomed → Option Doomed → Option Doomed
 lesser_doomed None other = other
@@ -127,7 +131,8 @@ pub record AreKept (processes : List Counted) (threads : List ThreadRow) (number
   pub living : alive ≡ count (λ t. t.live) threads
   pub told : registered ≡ length (all_registrations threads)
 
--- What the table keeps: all that, and how many live processes are to end.
-pub record IsStored (processes : List Counted) (threads : List ThreadRow) (numbers : List ℕ) (used : List UsedThread) (process_names thread_names : List (ℕ × Birth)) (alive registered dooms : ℕ) : Type 0 where
+-- What the table keeps: all that, how many live processes are to end, and of how many a port is told of exceptions.
+pub record IsStored (processes : List Counted) (threads : List ThreadRow) (numbers : List ℕ) (used : List UsedThread) (process_names thread_names : List (ℕ × Birth)) (alive registered dooms watched : ℕ) : Type 0 where
   pub all : AreKept processes threads numbers used process_names thread_names alive registered
   pub doomed : dooms ≡ count is_doomed_row processes
+  pub watchers : watched ≡ count is_watched processes

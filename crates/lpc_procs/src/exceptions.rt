@@ -2,7 +2,7 @@
 ghost use Rattle.std.specs.Prelude.{◌≡◌, ◌*◌, ◌<◌, ◌≤◌, ◌^◌, if◌then◌else◌, length, option_map};
 ghost use Rattle.lpc_base.specs.Rows.{count, has, passes, which};
 ghost use Rattle.lpc_procs.specs.Kept as kept;
-ghost use Rattle.lpc_procs.specs.Kept.{is_doomed_row, process_rows};
+ghost use Rattle.lpc_procs.specs.Kept.{is_doomed_row, is_watched, process_rows};
 ghost use Rattle.lpc_procs.specs.Procs as procs;
 ghost use Rattle.lpc_procs.specs.Procs.{doomed_as, event_ports, event_ports_of, is_of_birth, least};
 
@@ -68,6 +68,27 @@ pub fn event_ports_to(rows: &[Counted], birth: Birth) -> usize
         named += count_of(&p.row, birth);
     }
     named
+}
+
+// A port is told of the process's exceptions.
+fn is_watched(p: &Counted) -> bool
+    ensures { result ≡ is_watched p.now }
+{
+    p.row.debug_port.is_some() || p.row.exception_port.is_some()
+}
+
+/// How many this process adds to those of whose exceptions a port is told: 1 or 0.
+pub fn watched_count(p: &Counted) -> usize
+    ensures { result ≡ (if is_watched p.now then 1 else 0) }
+{
+    usize::from(is_watched(p))
+}
+
+/// Of how many processes a port is told of the exceptions.
+pub fn watched(rows: &[Counted]) -> usize
+    ensures { result ≡ count is_watched rows.now }
+{
+    rows.iter().filter(|p| is_watched(p)).count()
 }
 
 /// The code with which a process is to end: the first stays.

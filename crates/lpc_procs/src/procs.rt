@@ -28,7 +28,7 @@ use std::marker::Model;
 /// A number is used once. It stays used when the row of its process or thread goes, so no number names two things in
 /// a run. Contracts see the rows in order of making, the used numbers, and the room; they don't see the maps by which a
 /// number leads to its row, nor the counts that are kept: of live threads, of those of each process, of registrations,
-/// and of live processes that are to end.
+/// of live processes that are to end, and of processes of whose exceptions a port is told.
 pub struct Procs {
     processes: Vec<Counted>,
     threads: Vec<ThreadRow>,
@@ -39,6 +39,7 @@ pub struct Procs {
     alive: usize,
     registered: usize,
     dooms: usize,
+    watched: usize,
 }
 
 impl Model for Procs {
@@ -58,7 +59,7 @@ impl Model for Procs {
       thread_room = min (vec_capacity s.threads - vec_len s.threads) (min s.thread_names.room s.used_threads.room);
     } };
 
-    ghost invariant = { λ s. IsStored s.processes.items s.threads.items (numbers s.used_processes.entries) (used_rows s.used_threads.entries) s.process_names.entries s.thread_names.entries s.alive s.registered s.dooms };
+    ghost invariant = { λ s. IsStored s.processes.items s.threads.items (numbers s.used_processes.entries) (used_rows s.used_threads.entries) s.process_names.entries s.thread_names.entries s.alive s.registered s.dooms s.watched };
 }
 
 // Written out, so that a proof about what holds these tables lets them go in one step, and not map by map.
@@ -74,6 +75,7 @@ impl Drop for Procs {
             alive: _,
             registered: _,
             dooms: _,
+            watched: _,
         } = self;
     }
 }
@@ -93,6 +95,7 @@ impl Procs {
             alive: 0,
             registered: 0,
             dooms: 0,
+            watched: 0,
         }
     }
 
@@ -279,7 +282,10 @@ impl Procs {
             self.new ≡ with_process self.old pid (debugged r) }
     {
         let place = self.process_place(pid);
-        self.processes[place].row.debug_port = Some(Registration { port, birth });
+        let process = &mut self.processes[place];
+        let others = self.watched - exceptions::watched_count(process);
+        process.row.debug_port = Some(Registration { port, birth });
+        self.watched = others + 1;
     }
 
     /// Gives a process, which has a row, its exception port, by its key and its birth.
@@ -289,7 +295,10 @@ impl Procs {
             self.new ≡ with_process self.old pid (excepted r) }
     {
         let place = self.process_place(pid);
-        self.processes[place].row.exception_port = Some(Registration { port, birth });
+        let process = &mut self.processes[place];
+        let others = self.watched - exceptions::watched_count(process);
+        process.row.exception_port = Some(Registration { port, birth });
+        self.watched = others + 1;
     }
 
     /// Takes its debug port and its exception port from a process, which has a row.
@@ -298,9 +307,11 @@ impl Procs {
         ensures table { self.new ≡ with_process self.old pid portless }
     {
         let place = self.process_place(pid);
-        let row = &mut self.processes[place].row;
-        row.debug_port = None;
-        row.exception_port = None;
+        let process = &mut self.processes[place];
+        let others = self.watched - exceptions::watched_count(process);
+        process.row.debug_port = None;
+        process.row.exception_port = None;
+        self.watched = others;
     }
 
     /// Notes the code with which a process, which has a row, is to end. Of several codes the first stays.
@@ -319,6 +330,9 @@ impl Procs {
     pub fn is_event_port(&self, birth: Birth) -> bool
         ensures told { result ≡ has (has_event_port birth) self.now.processes }
     {
+        if self.watched == 0 {
+            return false;
+        }
         exceptions::is_event_port(&self.processes, birth)
     }
 
@@ -327,6 +341,9 @@ impl Procs {
         ensures count { result ≡ count (is_of_birth birth) (event_ports self.now.processes) }
         ensures bound { result ≤ 2 * length self.now.processes }
     {
+        if self.watched == 0 {
+            return 0;
+        }
         exceptions::event_ports_to(&self.processes, birth)
     }
 
@@ -496,6 +513,9 @@ impl Procs {
     pub fn names(&self, birth: Birth) -> bool
         ensures named { result ≡ has (has_registered birth) self.now.threads }
     {
+        if self.registered == 0 {
+            return false;
+        }
         registrations::names(&self.threads, birth)
     }
 
@@ -504,6 +524,9 @@ impl Procs {
         ensures count { result ≡ count (is_of_birth birth) (live_registrations self.now.threads) }
         ensures bound { result ≤ REGISTRATION_LIMIT * length self.now.threads }
     {
+        if self.registered == 0 {
+            return 0;
+        }
         registrations::of_birth(&self.threads, birth)
     }
 
@@ -665,6 +688,7 @@ impl Procs {
         births::remove_processes(&mut self.processes, birth);
         self.process_names.remove_name(birth);
         self.dooms = exceptions::dooms(&self.processes);
+        self.watched = exceptions::watched(&self.processes);
     }
 
     /// Removes the rows of the threads that were made under the name, of which none is live. Their numbers stay used,

@@ -3,7 +3,7 @@ use Rattle.lpc_base.proofs.Differ.{set-change}
 use Rattle.lpc_base.proofs.RowWords.{change-none}
 use Rattle.lpc_procs.specs.declared.rows.Counted.{Counted}
 use Rattle.lpc_procs.specs.Kept.{counting, has_number, is_doomed_row}
-use Rattle.lpc_procs.proofs.Events.{count-written, doomed-counts}
+use Rattle.lpc_procs.proofs.Events.{count-written, one-counts}
 use Rattle.lpc_procs.proofs.Placed.{process-at, process-none}
 use Rattle.lpc_procs.proofs.lists.recount.Goals as goal
 
@@ -12,7 +12,7 @@ overflow_sub-others c =
     let rows = c.args.rows.now.items in
     let p = c.index_mut-process.result.now in
     let found = process-at c.args.pid rows c.args.names.now.entries c.in-Some.place p c.requires.named (sym c.place.ensures ∙ c.in-Some.is) c.index_mut-process.ensures.value in
-    omega (arith, c.requires.dooms, c.doomed_count.ensures.count, doomed-counts rows c.in-Some.place p found.here)
+    omega (arith, c.requires.dooms, c.doomed_count.ensures.count, one-counts is_doomed_row rows c.in-Some.place p found.here)
 
 pub overflow_add-result : goal.overflow_add-result
 overflow_add-result c =
@@ -31,7 +31,7 @@ returns-in-Some-clause-dooms c =
     let rows = c.args.rows.now.items in
     let p = c.index_mut-process.result.now in
     let found = process-at c.args.pid rows c.args.names.now.entries c.in-Some.place p c.requires.named (sym c.place.ensures ∙ c.in-Some.is) c.index_mut-process.ensures.value in
-    omega (arith, c.requires.dooms, c.doomed_count.ensures.count, c.doomed_count-in-Some.ensures.count, doomed-counts rows c.in-Some.place p found.here, count-written is_doomed_row rows c.in-Some.place p (counting c.args.live p) found.here)
+    omega (arith, c.requires.dooms, c.doomed_count.ensures.count, c.doomed_count-in-Some.ensures.count, one-counts is_doomed_row rows c.in-Some.place p found.here, count-written is_doomed_row rows c.in-Some.place p (counting c.args.live p) found.here)
 
 pub returns-in-None-clause-rows : goal.returns-in-None-clause-rows
 returns-in-None-clause-rows c =

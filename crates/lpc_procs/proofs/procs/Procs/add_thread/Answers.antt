@@ -2,12 +2,13 @@ use Rattle.std.proofs.Common.{◌+◌, rules, true, None, refl, ap, sym, ◌∙�
 use Rattle.lpc_base.proofs.RowMaps.{push-map}
 use Rattle.lpc_base.proofs.RowWords.{count-bound}
 use Rattle.lpc_procs.specs.declared.rows.ThreadRow.{ThreadRow}
-use Rattle.lpc_procs.specs.Kept.{thread_name, used_rows}
+use Rattle.lpc_procs.specs.Kept.{counting, has_number, is_doomed_row, is_watched, thread_name, used_rows}
 use Rattle.lpc_numbers.specs.Numbered.{numbers}
 use Rattle.lpc_procs.specs.Procs.{is_thread, lives_in}
+use Rattle.lpc_procs.proofs.Events.{count-unseen}
 use Rattle.lpc_procs.proofs.Keeping.{unused-absent}
 use Rattle.lpc_procs.proofs.Placed.{names-new, used-has}
-use Rattle.lpc_procs.proofs.Stored.{alive-few, dooms-few, kept-thread, rows-counting, threads-few}
+use Rattle.lpc_procs.proofs.Stored.{alive-few, kept-thread, processes-few, rows-counting, threads-few}
 use Rattle.lpc_procs.proofs.procs.Procs.add_thread.Goals as goal
 
 pub overflow_add-live : goal.overflow_add-live
@@ -29,7 +30,7 @@ pub overflow_add-self : goal.overflow_add-self
 overflow_add-self c = omega (arith, alive-few c.self.inside.processes.items c.self.inside.threads.items (numbers c.self.inside.used_processes.entries) (used_rows c.self.inside.used_threads.entries) c.self.inside.process_names.entries c.self.inside.thread_names.entries c.self.inside.alive c.self.inside.registered c.self.invariant.all)
 
 pub recount-self-inside-requires-clause-few : goal.recount-self-inside-requires-clause-few
-recount-self-inside-requires-clause-few c = dooms-few c.self.inside.processes.items c.self.inside.threads.items (numbers c.self.inside.used_processes.entries) (used_rows c.self.inside.used_threads.entries) c.self.inside.process_names.entries c.self.inside.thread_names.entries c.self.inside.alive c.self.inside.registered c.self.inside.dooms c.self.invariant
+recount-self-inside-requires-clause-few c = processes-few c.self.inside.processes.items c.self.inside.threads.items (numbers c.self.inside.used_processes.entries) (used_rows c.self.inside.used_threads.entries) c.self.inside.process_names.entries c.self.inside.thread_names.entries c.self.inside.alive c.self.inside.registered c.self.invariant.all is_doomed_row c.self.inside.dooms c.self.invariant.doomed
 
 pub invariant_of-self : goal.invariant_of-self
 invariant_of-self c =
@@ -40,6 +41,7 @@ invariant_of-self c =
     record {
       all = rw (c.recount-self-inside.ensures.rows, c.push_reserved.ensures.items, c.add.ensures.entries, c.add-2.ensures.entries, push-map) (kept-thread c.self.inside.processes.items c.self.inside.threads.items (numbers c.self.inside.used_processes.entries) (used_rows c.self.inside.used_threads.entries) c.self.inside.process_names.entries c.self.inside.thread_names.entries c.self.inside.alive c.self.inside.registered c.self.invariant.all t refl (search rules) c.requires.number.below new home (c.live_count-live.result + 1) (ap (λ n. n + 1) counted));
       doomed = c.recount-self-inside.ensures.dooms;
+      watchers = rw (c.recount-self-inside.ensures.rows) (c.self.invariant.watchers ∙ sym (count-unseen is_watched (has_number c.args.pid) (counting (c.live_count-live.result + 1)) (λ p. refl) c.self.inside.processes.items));
     }
 
 pub returns : goal.returns

@@ -1,11 +1,12 @@
 use Rattle.std.proofs.Common.{◌≡◌, ◌-◌, true, false, rules, refl, sym, arith, ◌∙◌}
 use Rattle.std.proofs.lemmas.Option.{same_Some}
-use Rattle.lpc_procs.specs.Kept.{used_rows}
+use Rattle.lpc_procs.specs.Kept.{counting, has_number, is_doomed_row, is_watched, used_rows}
 use Rattle.lpc_numbers.specs.Numbered.{numbers}
 use Rattle.lpc_procs.specs.Procs.{ended}
+use Rattle.lpc_procs.proofs.Events.{count-unseen}
 use Rattle.lpc_procs.proofs.Keeping.{changed_at, row_is}
 use Rattle.lpc_procs.proofs.Placed.{ended-again}
-use Rattle.lpc_procs.proofs.Stored.{dooms-few, kept-ended, live-there, rows-counting}
+use Rattle.lpc_procs.proofs.Stored.{kept-ended, live-there, processes-few, rows-counting}
 use Rattle.lpc_procs.proofs.procs.Procs.end_thread.Goals as goal
 
 pub returns-then-not-row : goal.returns-then-not-row
@@ -34,7 +35,7 @@ overflow_sub-self c =
     omega (arith, c.self.invariant.all.living, (live-there ts c.place-place.result row found.here lives).1)
 
 pub recount-self-inside-requires-clause-few : goal.recount-self-inside-requires-clause-few
-recount-self-inside-requires-clause-few c = dooms-few c.self.inside.processes.items c.self.inside.threads.items (numbers c.self.inside.used_processes.entries) (used_rows c.self.inside.used_threads.entries) c.self.inside.process_names.entries c.self.inside.thread_names.entries c.self.inside.alive c.self.inside.registered c.self.inside.dooms c.self.invariant
+recount-self-inside-requires-clause-few c = processes-few c.self.inside.processes.items c.self.inside.threads.items (numbers c.self.inside.used_processes.entries) (used_rows c.self.inside.used_threads.entries) c.self.inside.process_names.entries c.self.inside.thread_names.entries c.self.inside.alive c.self.inside.registered c.self.invariant.all is_doomed_row c.self.inside.dooms c.self.invariant.doomed
 
 pub invariant_of-self : goal.invariant_of-self
 invariant_of-self c =
@@ -50,6 +51,7 @@ invariant_of-self c =
     record {
       all = rw (c.recount-self-inside.ensures.rows, same) (kept-ended c.self.inside.processes.items c.self.inside.threads.items (numbers c.self.inside.used_processes.entries) (used_rows c.self.inside.used_threads.entries) c.self.inside.process_names.entries c.self.inside.thread_names.entries c.self.inside.alive c.self.inside.registered c.self.invariant.all c.place-place.result c.args.tid row is c.index-row.ensures lives (c.live_count-live.result - 1) (c.self.inside.alive - 1) (omega (arith, counted, some.0)) (omega (arith, c.self.invariant.all.living, some.1)));
       doomed = c.recount-self-inside.ensures.dooms;
+      watchers = rw (c.recount-self-inside.ensures.rows) (c.self.invariant.watchers ∙ sym (count-unseen is_watched (has_number row.process) (counting (c.live_count-live.result - 1)) (λ p. refl) c.self.inside.processes.items));
     }
 
 pub returns : goal.returns

@@ -10,6 +10,7 @@ invariant_of-self c =
     record {
       all = rw (c.remove_processes.ensures.rows, c.remove_name.ensures.entries) (kept-processes_left c.self.inside.processes.items c.self.inside.threads.items (numbers c.self.inside.used_processes.entries) (used_rows c.self.inside.used_threads.entries) c.self.inside.process_names.entries c.self.inside.thread_names.entries c.self.inside.alive c.self.inside.registered c.self.invariant.all c.args.birth);
       doomed = rw (c.deref.ensures.value) at c.dooms-self-inside.ensures;
+      watchers = rw (c.deref-2.ensures.value) at c.watched-self-inside.ensures;
     }
 
 pub returns-clause-table : goal.returns-clause-table

@@ -27,6 +27,7 @@ invariant_of-self c =
       all = rw row (kept-set c.self.inside.processes.items c.self.inside.threads.items (numbers c.self.inside.used_processes.entries) (used_rows c.self.inside.used_threads.entries) c.self.inside.process_names.entries c.self.inside.thread_names.entries c.self.inside.alive c.self.inside.registered c.self.invariant.all c.place-place.result c.args.tid c.index_mut.result.now is c.index_mut.ensures.value (registering r) (record { number = λ t. refl; process = λ t. refl }) (λ t. refl) refl
           (λ h. registered-more c.index_mut.result.now r left) (c.self.inside.registered + 1) (registers-one c.self.inside.registered c.index_mut.result.now r));
       doomed = c.self.invariant.doomed;
+      watchers = c.self.invariant.watchers;
     }
 
 pub returns : goal.returns

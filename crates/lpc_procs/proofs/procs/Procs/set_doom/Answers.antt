@@ -1,10 +1,11 @@
-use Rattle.std.proofs.Common.{refl, sym, arith}
-use Rattle.lpc_procs.specs.Kept.{is_doomed_row, used_rows}
+use Rattle.std.proofs.Common.{refl, sym, ◌∙◌, arith}
+use Rattle.lpc_procs.specs.Kept.{is_doomed_row, is_watched, used_rows}
 use Rattle.lpc_numbers.specs.Numbered.{numbers}
 use Rattle.lpc_procs.specs.Procs.{doomed}
-use Rattle.lpc_procs.proofs.Events.{count-written, doomed-counts}
+use Rattle.lpc_procs.proofs.Counts.{count-set}
+use Rattle.lpc_procs.proofs.Events.{count-written, one-counts}
 use Rattle.lpc_procs.proofs.ProcessRows.{kept-row, process_is, row-changed, with_row}
-use Rattle.lpc_procs.proofs.Stored.{dooms-few}
+use Rattle.lpc_procs.proofs.Stored.{processes-few}
 use Rattle.lpc_procs.proofs.procs.Procs.set_doom.Goals as goal
 
 pub overflow_sub-others : goal.overflow_sub-others
@@ -13,11 +14,11 @@ overflow_sub-others c =
     let ps = c.self.inside.processes.items in
     let p = c.index_mut-process.result.now in
     let found = process_is ps c.process_place-place.result c.args.pid p is c.index_mut-process.ensures.value in
-    omega (arith, c.self.invariant.doomed, c.doomed_count.ensures.count, doomed-counts ps c.process_place-place.result p found.here)
+    omega (arith, c.self.invariant.doomed, c.doomed_count.ensures.count, one-counts is_doomed_row ps c.process_place-place.result p found.here)
 
 pub overflow_add-self : goal.overflow_add-self
 overflow_add-self c =
-    let few = dooms-few c.self.inside.processes.items c.self.inside.threads.items (numbers c.self.inside.used_processes.entries) (used_rows c.self.inside.used_threads.entries) c.self.inside.process_names.entries c.self.inside.thread_names.entries c.self.inside.alive c.self.inside.registered c.self.inside.dooms c.self.invariant in
+    let few = processes-few c.self.inside.processes.items c.self.inside.threads.items (numbers c.self.inside.used_processes.entries) (used_rows c.self.inside.used_threads.entries) c.self.inside.process_names.entries c.self.inside.thread_names.entries c.self.inside.alive c.self.inside.registered c.self.invariant.all is_doomed_row c.self.inside.dooms c.self.invariant.doomed in
     let last = c.doomed_count-2.ensures.most in
     omega (arith, few, last)
 
@@ -30,7 +31,8 @@ invariant_of-self c =
     let written = count-written is_doomed_row ps c.process_place-place.result p (with_row (doomed c.args.code) p) found.here in
     record {
       all = rw (c.first_code.ensures) (kept-row (doomed c.args.code) c.self.inside.processes.items c.process_place-place.result c.args.pid c.index_mut-process.result.now is c.index_mut-process.ensures.value c.self.inside.threads.items (numbers c.self.inside.used_processes.entries) (used_rows c.self.inside.used_threads.entries) c.self.inside.process_names.entries c.self.inside.thread_names.entries c.self.inside.alive c.self.inside.registered c.self.invariant.all (record { number = λ p. refl; birth = λ p. refl }));
-      doomed = rw (c.first_code.ensures) (omega (arith, c.self.invariant.doomed, written, c.doomed_count-2.ensures.count, doomed-counts ps c.process_place-place.result p found.here, c.doomed_count.ensures.count));
+      doomed = rw (c.first_code.ensures) (omega (arith, c.self.invariant.doomed, written, c.doomed_count-2.ensures.count, one-counts is_doomed_row ps c.process_place-place.result p found.here, c.doomed_count.ensures.count));
+      watchers = c.self.invariant.watchers ∙ sym (count-set is_watched ps c.process_place-place.result p _ found.here refl);
     }
 
 pub returns : goal.returns

@@ -32,6 +32,7 @@ invariant_of-self c =
       all = rw shown (kept-set c.self.inside.processes.items c.self.inside.threads.items (numbers c.self.inside.used_processes.entries) (used_rows c.self.inside.used_threads.entries) c.self.inside.process_names.entries c.self.inside.thread_names.entries c.self.inside.alive c.self.inside.registered c.self.invariant.all c.place-place.result c.args.tid row is c.index_mut-row.ensures.value (unregistering c.args.birth) (record { number = λ t. refl; process = λ t. refl }) (λ t. refl) refl
           (registered-less row c.args.birth) (c.self.inside.registered - (c.len-before.result - c.len.result)) (omega (arith, c.len-before.ensures.value, left, fewer, had, c.self.invariant.all.told)));
       doomed = c.self.invariant.doomed;
+      watchers = c.self.invariant.watchers;
     }
 
 pub returns : goal.returns
