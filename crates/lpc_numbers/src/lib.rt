@@ -1,6 +1,8 @@
-//! Values under numbers that differ, found by their number without a search.
+//! Values under numbers that differ, found by their number without a search; and births, found by the birth too.
 #![tactic(auto)]
 
+mod named;
 mod numbered;
 
+pub use named::Named;
 pub use numbered::Numbered;

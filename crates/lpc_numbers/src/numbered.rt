@@ -80,6 +80,20 @@ impl<V: Copy> Numbered<V> {
         }
     }
 
+    /// How many numbers there are.
+    pub fn len(&self) -> usize
+        ensures { result ≡ length self.now.entries }
+    {
+        self.map.len()
+    }
+
+    /// How many further numbers go in without memory.
+    pub fn room(&self) -> usize
+        ensures { result ≡ self.now.room }
+    {
+        self.room
+    }
+
     /// Where a number stands in the order in which they came.
     pub fn place(&self, number: u32) -> Option<usize>
         ensures { result ≡ position (is_at number) self.now.entries }

@@ -1,11 +1,11 @@
 -- The counts of live threads that stand beside the processes: what keeps them, and what they tell.
-use Rattle.std.proofs.Common.{◌≡◌, ◌<◌, ◌≤◌, ℕ, length, zero, suc, List, [], ◌∷◌, ◌++◌, Bool, true, false, get_or, set, refl, ap, sym, ◌∙◌, arith}
+use Rattle.std.proofs.Common.{◌≡◌, ◌<◌, ◌≤◌, ℕ, length, zero, suc, List, [], ◌∷◌, ◌++◌, Bool, true, false, get_or, set, refl, ap, sym, subst, ◌∙◌, arith}
 use Rattle.std.specs.Prelude.{Some, option_map, slice_get, nat_lt, ◌==◌, ◌&&◌}
 use Rattle.std.proofs.lemmas.Bool.Decides.{nat_tests}
 use Rattle.lpc_base.specs.declared.birth.Birth.{Birth}
 use Rattle.lpc_base.specs.Rows.{count, every, first, has, without}
 use Rattle.lpc_base.proofs.RowMaps.{count-map, every-change_to, unseen-change, without-map}
-use Rattle.lpc_base.proofs.RowWords.{count-push, count-without, every-more, every-push}
+use Rattle.lpc_base.proofs.RowWords.{count-bound, count-push, count-without, every-more, every-push}
 use Rattle.lpc_procs.specs.declared.rows.Counted.{Counted}
 use Rattle.lpc_procs.specs.declared.rows.ProcessRow.{ProcessRow}
 use Rattle.lpc_procs.specs.declared.rows.ThreadRow.{ThreadRow}
@@ -128,3 +128,7 @@ lives-of-one ts b (p ∷ ps) few counts = at (has_name b p) refl (λ fewer. live
         let found : lives_in_first (first (has_name b) (p ∷ ps)) ≡ p.live = rw is refl in
         (λ i. count (λ (t : ThreadRow). its is none t i) ts) ∙ sym counted ∙ sym found
     at false off rest = rw off (rest (grind (arith, off, few)))
+
+pub lives-of-one-bound : (ts : List ThreadRow) (b : Birth) (ps : List Counted) → count (is_process_born b) (process_rows ps) ≤ 1 → every (is_counted ts) ps ≡ true → lives_in_first (first (has_name b) ps) ≤ length ts
+lives-of-one-bound ts b ps one counts =
+    subst (λ (n : ℕ). n ≤ length ts) (lives-of-one ts b ps one counts) (count-bound (λ (t : ThreadRow). t.live && has (λ p. is_process_born b p && is_process t.process p) (process_rows ps)) ts)

@@ -1,20 +1,21 @@
 -- Rows that are found at the place of their number.
-use Rattle.std.proofs.Common.{◌≡◌, ℕ, zero, suc, List, [], ◌∷◌, Bool, true, false, map, get_or, Some, None, option_map, is_some, refl, ap, sym, subst, ◌∙◌, arith}
+use Rattle.std.proofs.Common.{◌≡◌, ◌≤◌, ℕ, zero, suc, List, [], ◌∷◌, Bool, true, false, map, get_or, Some, None, option_map, is_some, refl, ap, sym, subst, ◌∙◌, arith}
 use Rattle.std.specs.List.{position}
 use Rattle.std.specs.Prelude.{slice_get, if◌then◌else◌, ◌==◌}
 use Rattle.std.proofs.lemmas.Bool.Decides.{nat_tests}
 use Rattle.lpc_base.specs.declared.birth.Birth.{Birth}
 use Rattle.lpc_base.specs.Rows.{change, count, every, first, has}
 use Rattle.lpc_base.proofs.Differ.{IsRowAt, rest-differ, rest-none, row-at}
-use Rattle.lpc_base.proofs.Positions.{none_first}
-use Rattle.lpc_base.proofs.RowMaps.{first-map, has-map}
-use Rattle.lpc_base.proofs.RowWords.{change-none, every-true, has_none-more}
+use Rattle.lpc_base.proofs.Positions.{first_at, none_first, read_at}
+use Rattle.lpc_base.proofs.RowMaps.{count-map, first-map, has-map}
+use Rattle.lpc_base.proofs.RowWords.{change-none, count-none, every-true, has_none-more, none-counted}
 use Rattle.lpc_procs.specs.declared.rows.Counted.{Counted}
 use Rattle.lpc_procs.specs.declared.rows.ThreadRow.{ThreadRow}
 use Rattle.lpc_procs.specs.Callers.{caller_of}
-use Rattle.lpc_procs.specs.Kept.{are_single, has_number, is_counted, process_name, process_rows, thread_name, used_rows}
+use Rattle.lpc_procs.specs.Kept.{are_single, has_name, has_number, is_counted, life_of_first, process_name, process_rows, thread_name, used_rows}
+use Rattle.lpc_numbers.specs.Named.{is_named, number_named}
 use Rattle.lpc_numbers.specs.Numbered.{is_at, numbers, value_at}
-use Rattle.lpc_procs.specs.Procs.{ended, is_live_thread, is_process, is_thread, is_used_thread, lives_in, used_process}
+use Rattle.lpc_procs.specs.Procs.{ended, is_life, is_live_thread, is_process, is_process_born, is_thread, is_thread_born, is_used_thread, lives_in, used_process}
 use Rattle.lpc_numbers.proofs.Lookups.{position-map}
 
 none-has : {X : Type 0} (p : X → Bool) (xs : List X) → has p xs ≡ false → first p xs ≡ None
@@ -40,6 +41,54 @@ process-first pid ps = first-map (λ (p : Counted). p.row) (λ p. true) (has_num
 -- no row has the name of a number that was not used
 pub names-new : {X : Type 0} (name : X → ℕ × Birth) (p : X → Bool) (n : ℕ) → ((x : X) → is_at n (name x) ≡ p x) → (xs : List X) (es : List (ℕ × Birth)) → es ≡ map name xs → has p xs ≡ false → has (is_at n) es ≡ false
 names-new name p n same xs es named none = ap (has (is_at n)) named ∙ has-map name (λ x. true) p (is_at n) (λ x _. same x) xs (every-true xs) ∙ none
+
+-- Names
+pub process-named : (b : Birth) (ps : List Counted) (pn : List (ℕ × Birth)) → pn ≡ map process_name ps → number_named pn b ≡ option_map (λ p. p.number) (first (is_process_born b) (process_rows ps))
+process-named b ps pn named = ap (λ es. number_named es b) named ∙ by ps
+  where
+    by : (qs : List Counted) → number_named (map process_name qs) b ≡ option_map (λ p. p.number) (first (is_process_born b) (process_rows qs))
+    by [] = refl
+    by (q ∷ qs) = grind (arith, by qs)
+
+-- what stands at the place where the first that passes was found
+first-there : {X : Type 0} (test : X → Bool) (xs : List X) (i : ℕ) (x : X) → position test xs ≡ Some i → x ≡ get_or xs i x → first test xs ≡ Some x
+first-there test xs i x is read =
+    let found = first_at test xs i is in
+    found.is_first ∙ ap Some (sym (read_at xs i found.element x found.here).1 ∙ sym read)
+
+pub process-named-at : (b : Birth) (ps : List Counted) (pn : List (ℕ × Birth)) (i : ℕ) (p : Counted) → pn ≡ map process_name ps → position (is_named b) pn ≡ Some i → p ≡ get_or ps i p → first (has_name b) ps ≡ Some p
+process-named-at b ps pn i p named is read =
+    first-there (has_name b) ps i p (sym (position-map process_name (is_named b) (has_name b) (λ q. refl) ps) ∙ sym (ap (position (is_named b)) named) ∙ is) read
+
+pub process-named-none : (b : Birth) (ps : List Counted) (pn : List (ℕ × Birth)) → pn ≡ map process_name ps → position (is_named b) pn ≡ None → first (has_name b) ps ≡ None
+process-named-none b ps pn named none =
+    none_first (has_name b) ps (sym (position-map process_name (is_named b) (has_name b) (λ q. refl) ps) ∙ sym (ap (position (is_named b)) named) ∙ none)
+
+pub thread-named-at : (b : Birth) (ts : List ThreadRow) (tn : List (ℕ × Birth)) (i : ℕ) (t : ThreadRow) → tn ≡ map thread_name ts → position (is_named b) tn ≡ Some i → t ≡ get_or ts i t → first (is_thread_born b) ts ≡ Some t
+thread-named-at b ts tn i t named is read =
+    first-there (is_thread_born b) ts i t (sym (position-map thread_name (is_named b) (is_thread_born b) (λ x. refl) ts) ∙ sym (ap (position (is_named b)) named) ∙ is) read
+
+pub thread-named-none : (b : Birth) (ts : List ThreadRow) (tn : List (ℕ × Birth)) → tn ≡ map thread_name ts → position (is_named b) tn ≡ None → first (is_thread_born b) ts ≡ None
+thread-named-none b ts tn named none =
+    none_first (is_thread_born b) ts (sym (position-map thread_name (is_named b) (is_thread_born b) (λ x. refl) ts) ∙ sym (ap (position (is_named b)) named) ∙ none)
+
+-- where one thread at most has the name, its lives are those of the first
+one-life : (b : Birth) (ts : List ThreadRow) → count (is_thread_born b) ts ≤ 1 → count (is_life b) ts ≡ life_of_first (first (is_thread_born b) ts)
+one-life b [] few = refl
+one-life b (t ∷ ts) few = at (is_thread_born b t) refl (one-life b ts)
+  where
+    at : (c : Bool) → is_thread_born b t ≡ c → (count (is_thread_born b) ts ≤ 1 → count (is_life b) ts ≡ life_of_first (first (is_thread_born b) ts)) → count (is_life b) (t ∷ ts) ≡ life_of_first (first (is_thread_born b) (t ∷ ts))
+    at true is rest =
+        let fewer : count (is_thread_born b) ts ≤ 0 = grind (arith, is, few) in
+        let none = count-none (is_life b) ts (has_none-more (is_thread_born b) (is_life b) (λ x off. grind (arith, off)) ts (none-counted (is_thread_born b) ts fewer)) in
+        grind (arith, is, none)
+    at false off rest =
+        let later = rest (grind (arith, off, few)) in
+        grind (arith, off, later)
+
+pub life-of-one : (b : Birth) (ts : List ThreadRow) (tn : List (ℕ × Birth)) → tn ≡ map thread_name ts → count (is_named b) tn ≤ 1 → count (is_life b) ts ≡ life_of_first (first (is_thread_born b) ts)
+life-of-one b ts tn named few =
+    one-life b ts (subst (λ (n : ℕ). n ≤ 1) (ap (count (is_named b)) named ∙ count-map thread_name (λ t. true) (is_thread_born b) (is_named b) (λ t _. refl) ts (every-true ts)) few)
 
 -- Used numbers
 pub numbers-has : {V : Type 0} (n : ℕ) (es : List (ℕ × V)) → has (λ m. m == n) (numbers es) ≡ has (is_at n) es

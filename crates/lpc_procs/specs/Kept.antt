@@ -54,6 +54,11 @@ abbrev pub lives_in_first : Option Counted → ℕ
 lives_in_first None = 0
 lives_in_first (Some p) = p.live
 
+-- how many live threads a thread that was found is
+abbrev pub life_of_first : Option ThreadRow → ℕ
+life_of_first None = 0
+life_of_first (Some t) = if t.live then 1 else 0
+
 -- a process with this count beside it
 abbrev pub counting : ℕ → Counted → Counted
 counting live p = record p { live = live }

@@ -1,9 +1,9 @@
 // What is found and taken away by the name that a process or thread was made under.
-ghost use Rattle.std.specs.Prelude.{◌≡◌, ◌≤◌, option_map, vec_len, vec_capacity};
+ghost use Rattle.std.specs.Prelude.{◌≡◌, ◌≤◌, if◌then◌else◌, vec_len, vec_capacity};
 ghost use Rattle.lpc_base.specs.Births.{same_birth};
-ghost use Rattle.lpc_base.specs.Rows.{count, first, without};
-ghost use Rattle.lpc_procs.specs.Kept.{has_name, is_peopled, is_peopled_child, lives_in_first, process_rows};
-ghost use Rattle.lpc_procs.specs.Procs.{born_thread, is_life, is_made_by, is_process_born, is_thread_born};
+ghost use Rattle.lpc_base.specs.Rows.{count, without};
+ghost use Rattle.lpc_procs.specs.Kept.{has_name, is_peopled, is_peopled_child};
+ghost use Rattle.lpc_procs.specs.Procs.{born_thread, is_life, is_made_by, is_thread_born};
 
 use crate::rows::Counted;
 use crate::{BornThread, ProcessRow, ThreadRow};
@@ -42,33 +42,22 @@ pub fn children(rows: &[Counted], pid: u32) -> usize
         .count()
 }
 
-/// The number of the first process of the name.
-pub fn process(rows: &[Counted], birth: Birth) -> Option<u32>
-    ensures { result
-        ≡ option_map (λ p. p.number) (first (is_process_born birth) (process_rows rows.now)) }
+/// The thread as it is told to who knows its name.
+pub fn born_thread(t: &ThreadRow) -> BornThread
+    ensures { result ≡ born_thread t.now }
 {
-    for p in rows {
-        if is_name(p.row.birth, birth) {
-            return Some(p.row.number);
-        }
+    BornThread {
+        number: t.number,
+        process: t.process,
+        live: t.live,
     }
-    None
 }
 
-/// The first thread of the name.
-pub fn thread(threads: &[ThreadRow], birth: Birth) -> Option<BornThread>
-    ensures { result ≡ option_map born_thread (first (is_thread_born birth) threads.now) }
+/// How many live threads the thread is: 1 or 0.
+pub fn life_count(t: &ThreadRow) -> usize
+    ensures { result ≡ (if t.now.live then 1 else 0) }
 {
-    for t in threads {
-        if is_name(t.birth, birth) {
-            return Some(BornThread {
-                number: t.number,
-                process: t.process,
-                live: t.live,
-            });
-        }
-    }
-    None
+    usize::from(t.live)
 }
 
 /// How many live threads have the name.
@@ -79,18 +68,6 @@ pub fn lives_of_thread(threads: &[ThreadRow], birth: Birth) -> usize
         .iter()
         .filter(|t| t.live && is_name(t.birth, birth))
         .count()
-}
-
-/// How many live threads the first process of the name has, as its count tells.
-pub fn lives_of_process(rows: &[Counted], birth: Birth) -> usize
-    ensures { result ≡ lives_in_first (first (has_name birth) rows.now) }
-{
-    for p in rows {
-        if is_name(p.row.birth, birth) {
-            return p.live;
-        }
-    }
-    0
 }
 
 /// Takes away the processes of the name.

@@ -10,7 +10,7 @@ use crate::rows::Counted;
 use crate::{Caller, ThreadRow, exceptions};
 use lpc_base::Birth;
 use lpc_message::ClientId;
-use lpc_numbers::Numbered;
+use lpc_numbers::Named;
 
 /// How many live threads are of the process.
 pub fn live_in(threads: &[ThreadRow], pid: u32) -> usize
@@ -64,13 +64,7 @@ pub fn first_live(threads: &[ThreadRow], pid: u32) -> Option<u32>
 /// Writes the count of live threads beside the process of the number, where it has a row. The names stand under the
 /// numbers of the rows, in their order. So many live processes are to end, fewer than
 /// 2^32, and the result is how many are then.
-pub fn recount(
-    rows: &mut Vec<Counted>,
-    names: &Numbered<Birth>,
-    pid: u32,
-    live: usize,
-    dooms: usize,
-) -> usize
+pub fn recount(rows: &mut Vec<Counted>, names: &Named, pid: u32, live: usize, dooms: usize) -> usize
     requires named { names.now.entries ≡ map process_name rows.old.items }
     requires apart { are_apart rows.old.items ≡ true }
     requires dooms { dooms ≡ count is_doomed_row rows.old.items }

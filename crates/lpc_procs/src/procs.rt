@@ -5,8 +5,9 @@ ghost use Rattle.lpc_base.specs.Room.{grown_room};
 ghost use Rattle.lpc_base.specs.Rows.{count, first, has};
 ghost use Rattle.lpc_base.specs.declared.limits.TheConstants.{REGISTRATION_LIMIT};
 ghost use Rattle.lpc_procs.specs.Callers.{caller_of};
+ghost use Rattle.lpc_procs.specs.Kept.{life_of_first};
 ghost use Rattle.lpc_procs.specs.Procs as procs;
-ghost use Rattle.lpc_procs.specs.Procs.{HasIdentifierLeft, HasOrdinalLeft, HasRegistrationLeft, IsNumber, acting, all_registrations, birth_of, debugged, doomed, ended, event_ports, excepted, first_process, first_thread, first_untold, has_event_port, has_registered, is_life, is_live_child, is_live_client, is_live_thread, is_of_birth, is_process, is_process_born, is_thread, least_doomed, live_registrations, lives_by, lives_in, most_rows, nothing, past_birth, past_identifier, portless, process_at, process_life, registering, registration, thread_at, thread_born, thread_life, unregistering, used_process, with_process, with_room, with_thread, without_process_born, without_thread_born};
+ghost use Rattle.lpc_procs.specs.Procs.{HasIdentifierLeft, HasOrdinalLeft, HasRegistrationLeft, IsNumber, acting, all_registrations, birth_of, debugged, doomed, ended, event_ports, excepted, first_process, first_thread, first_untold, has_event_port, has_registered, is_life, is_live_child, is_live_client, is_live_thread, is_of_birth, is_process, is_process_born, is_thread, is_thread_born, least_doomed, live_registrations, lives_by, lives_in, most_rows, nothing, past_birth, past_identifier, portless, process_at, process_life, registering, registration, thread_at, thread_born, thread_life, unregistering, used_process, with_process, with_room, with_thread, without_process_born, without_thread_born};
 
 use crate::rows::Counted;
 use crate::{
@@ -16,7 +17,7 @@ use crate::{
 use arrayvec::ArrayVec;
 use lpc_base::{Birth, OutOfMemory, reserve_rows};
 use lpc_message::ClientId;
-use lpc_numbers::Numbered;
+use lpc_numbers::{Named, Numbered};
 use lpc_sid::Token;
 use lpc_slots::Key;
 use lpc_tokens::Impersonation;
@@ -27,13 +28,13 @@ use std::marker::Model;
 ///
 /// A number is used once. It stays used when the row of its process or thread goes, so no number names two things in
 /// a run. Contracts see the rows in order of making, the used numbers, and the room; they don't see the maps by which a
-/// number leads to its row, nor the counts that are kept: of live threads, of those of each process, of registrations,
-/// of live processes that are to end, and of processes of whose exceptions a port is told.
+/// number or a name leads to its row, nor the counts that are kept: of live threads, of those of each process, of
+/// registrations, of live processes that are to end, and of processes of whose exceptions a port is told.
 pub struct Procs {
     processes: Vec<Counted>,
     threads: Vec<ThreadRow>,
-    process_names: Numbered<Birth>,
-    thread_names: Numbered<Birth>,
+    process_names: Named,
+    thread_names: Named,
     used_processes: Numbered<()>,
     used_threads: Numbered<u32>,
     alive: usize,
@@ -88,8 +89,8 @@ impl Procs {
         Procs {
             processes: Vec::new(alloc),
             threads: Vec::new(alloc),
-            process_names: Numbered::new(alloc),
-            thread_names: Numbered::new(alloc),
+            process_names: Named::new(alloc),
+            thread_names: Named::new(alloc),
             used_processes: Numbered::new(alloc),
             used_threads: Numbered::new(alloc),
             alive: 0,
@@ -556,14 +557,17 @@ impl Procs {
     pub fn process_born(&self, birth: Birth) -> Option<u32>
         ensures number { result ≡ first_process (is_process_born birth) self.now }
     {
-        births::process(&self.processes, birth)
+        self.process_names.number_named(birth)
     }
 
     /// The first thread that was made under the name, live or ended: None exactly where there is none.
     pub fn thread_born(&self, birth: Birth) -> Option<BornThread>
         ensures thread { result ≡ thread_born self.now birth }
     {
-        births::thread(&self.threads, birth)
+        match self.thread_names.place_named(birth) {
+            Some(place) => Some(births::born_thread(&self.threads[place])),
+            None => None,
+        }
     }
 
     /// The name of the process at a place, and whether it is live. Places go from 0 in the order of making.
@@ -612,6 +616,9 @@ impl Procs {
         ensures count { result ≡ count (is_life birth) self.now.threads }
         ensures bound { result ≤ length self.now.threads }
     {
+        if self.thread_names.is_single() {
+            return self.life_of_first(birth);
+        }
         births::lives_of_thread(&self.threads, birth)
     }
 
@@ -621,7 +628,10 @@ impl Procs {
         ensures count { result ≡ count (lives_by self.now birth) self.now.threads }
         ensures bound { result ≤ length self.now.threads }
     {
-        births::lives_of_process(&self.processes, birth)
+        match self.process_names.place_named(birth) {
+            Some(place) => self.processes[place].live,
+            None => 0,
+        }
     }
 
     /// The process that made a process that has a row, none where a directive did.
@@ -703,6 +713,16 @@ impl Procs {
         births::remove_threads(&mut self.threads, birth);
         self.thread_names.remove_name(birth);
         self.registered = registrations::total(&self.threads);
+    }
+
+    // How many live threads the first thread of the name is: 1 or 0.
+    fn life_of_first(&self, birth: Birth) -> usize
+        ensures { result ≡ life_of_first (first (is_thread_born birth) self.now.threads) }
+    {
+        match self.thread_names.place_named(birth) {
+            Some(place) => births::life_count(&self.threads[place]),
+            None => 0,
+        }
     }
 
     // Where the row of a process that is present stands.

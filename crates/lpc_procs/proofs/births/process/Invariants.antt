@@ -1,8 +1,0 @@
-use Rattle.std.proofs.Common.{◌≡◌, drop}
-use Rattle.lpc_base.specs.Rows.{first}
-use Rattle.lpc_procs.specs.Kept.{process_rows}
-use Rattle.lpc_procs.specs.Procs.{is_process_born}
-use Rattle.lpc_procs.proofs.births.process.Given as goal
-
-abbrev pub invariant-loop-p : goal.invariant-loop-p
-invariant-loop-p l = first (is_process_born l.birth) (process_rows (drop l.p-index l.rows)) ≡ first (is_process_born l.birth) (process_rows l.rows)
