@@ -1,10 +1,10 @@
 -- The ports that are told of processes' exceptions: the tables have those of the definitions, and what each change of ports
 -- leaves of their names.
-use Rattle.std.proofs.Common.{◌≡◌, ◌+◌, ◌≤◌, ◌*◌, ◌∙◌, ℕ, List, [], ◌∷◌, ◌++◌, Bool, true, false, length, map, Option, Some, None, option_map, option_to_list, refl, ap, sym, arith}
+use Rattle.std.proofs.Common.{◌≡◌, ◌∙◌, List, [], ◌∷◌, ◌++◌, true, false, map, Option, Some, None, option_map, option_to_list, refl, ap, sym, arith}
 use Rattle.std.proofs.lemmas.List.{map-append}
 use Rattle.lpc_base.specs.declared.birth.Birth.{Birth}
 use Rattle.lpc_base.specs.Rows.{count, each, every, has}
-use Rattle.lpc_base.proofs.RowWords.{count-append, every-more}
+use Rattle.lpc_base.proofs.RowWords.{every-more}
 use Rattle.lpc_model.specs.Found as found
 use Rattle.lpc_model.specs.Found.{same_birth}
 use Rattle.lpc_model.proofs.Steps.Rows.{has-append}

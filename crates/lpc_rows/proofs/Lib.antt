@@ -60,3 +60,6 @@ pub mod NamedTokens
 pub mod Secured
 pub mod Tokens
 pub mod TokenFrees
+pub mod Claims
+pub mod Suspected
+pub mod Suspecting

@@ -1,9 +1,9 @@
 -- Marked events: what each change of threads, waits and marks leaves of the marks, and that each finds its place.
-use Rattle.std.proofs.Common.{◌≡◌, ◌+◌, ◌<◌, ◌≤◌, ◌∙◌, ℕ, List, [], ◌∷◌, ◌++◌, Bool, true, false, cond, length, map, refl, sym, subst, arith}
+use Rattle.std.proofs.Common.{◌≡◌, ◌+◌, ◌<◌, ◌≤◌, ℕ, List, [], ◌∷◌, ◌++◌, Bool, true, false, length, refl, sym, subst, arith}
 use Rattle.std.specs.Prelude.{◌==◌, not}
 use Rattle.std.proofs.lemmas.Bool.{eqb-true}
 use Rattle.std.proofs.lemmas.Bool.Decides.{nat_tests}
-use Rattle.std.proofs.lemmas.List.{length-map, length_push}
+use Rattle.std.proofs.lemmas.List.{length_push}
 use Rattle.lpc_base.specs.Rows.{change, count, every, has, without, without_first}
 use Rattle.lpc_base.proofs.RowWords.{count-fewer, count-has, count-left, count-none, count-push, every-more, every-push, every-without, has_none-push}
 use Rattle.lpc_ports.specs.Table.{QueuedMessage, is_own_of}

@@ -1,15 +1,14 @@
 -- What is found of events, of their marks, of the ports that are told of exceptions, and of processes that are to end: the
 -- tables find what the definitions find.
-use Rattle.std.proofs.Common.{◌≡◌, ◌≤◌, ◌∙◌, ℕ, List, [], ◌∷◌, ◌++◌, Bool, true, false, cond, map, Option, Some, None, option_map, option_to_list, IfNone, IfSome, refl, ap, sym, subst, arith}
+use Rattle.std.proofs.Common.{◌≡◌, ◌∙◌, ℕ, List, [], ◌∷◌, ◌++◌, Bool, true, false, cond, map, Option, Some, None, option_map, option_to_list, IfNone, IfSome, refl, ap, sym, subst, arith}
 use Rattle.std.specs.Prelude.{◌==◌, ◌&&◌, drop, nat_lt, not, is_some, option_and_then, slice_get}
 use Rattle.std.proofs.lemmas.Bool.{and_parts, eqb-true}
 use Rattle.std.proofs.lemmas.Bool.Decides.{nat_tests}
 use Rattle.lpc_base.specs.declared.birth.Birth.{Birth}
-use Rattle.lpc_base.specs.Rows.{count, every, first, has, which}
+use Rattle.lpc_base.specs.Rows.{every, first, has, which}
 use Rattle.lpc_base.proofs.Births.{birth-same}
 use Rattle.lpc_base.proofs.RowMaps.{every-first, first-map, mapped-twice, which-map}
-use Rattle.lpc_base.proofs.RowWords.{count-has, count-none, every-true, first-passes, has_none-more, none-counted}
-use Rattle.lpc_model.specs.Basics as basics
+use Rattle.lpc_base.proofs.RowWords.{count-has, count-none, every-true, has_none-more}
 use Rattle.lpc_model.specs.Close.{is_event_on, is_queued_event}
 use Rattle.lpc_model.specs.Found as found
 use Rattle.lpc_model.specs.Found.{is_event, is_live_thread, is_mark, is_process, is_table, wait_of, waits_as}
@@ -29,9 +28,6 @@ use Rattle.lpc_slots.specs.declared.Key.{Key}
 use Rattle.lpc_waits.specs.Table as waits
 use Rattle.lpc_waits.specs.Table.{row_of}
 use Rattle.lpc_waits.specs.declared.Accepted.{Accepted}
-use Rattle.lpc_waits.specs.declared.Chance.{Chance}
-use Rattle.lpc_waits.specs.declared.Chance.TheVariants as chance
-use Rattle.lpc_waits.specs.declared.Raised.{Raised}
 use Rattle.lpc_waits.specs.declared.WaitKind.{WaitKind}
 use Rattle.lpc_waits.specs.declared.WaitKind.TheVariants as wait
 use Rattle.lpc_waits.specs.declared.WaitRow.{WaitRow}
@@ -41,9 +37,8 @@ use Rattle.lpc_rows.specs.Lawful.{AreLawful, has_named_hearers, is_of, is_under_
 use Rattle.lpc_rows.specs.Names.{name_of, stands}
 use Rattle.lpc_rows.specs.Raised.{doomed_as}
 use Rattle.lpc_rows.specs.Ready.{waiter}
-use Rattle.lpc_rows.specs.Shown.{Births, Tables, all_pass, birth_of, births_of, object_stands, shown_chance, shown_kind, shown_offer, shown_process, shown_raised, shown_thread, shown_wait, wait_refs}
+use Rattle.lpc_rows.specs.Shown.{Births, Tables, all_pass, birth_of, births_of, object_stands, shown_kind, shown_offer, shown_process, shown_raised, shown_thread, shown_wait, wait_refs}
 use Rattle.lpc_homes.specs.declared.object.Object.{Object}
-use Rattle.lpc_rows.proofs.Changes as changes
 use Rattle.lpc_rows.proofs.Connecting.{IsMet, met}
 use Rattle.lpc_rows.proofs.Finds.{live_process}
 use Rattle.lpc_rows.proofs.Follows as follows

@@ -1,10 +1,10 @@
 -- The ports that are told of a process's exceptions, the code with which it is to end, and marks: what each change of them
 -- leaves of the tables, and what is found of them.
-use Rattle.std.proofs.Common.{◌≡◌, ◌+◌, ◌<◌, ◌≤◌, ◌∙◌, ℕ, List, [], ◌∷◌, ◌++◌, Bool, true, false, length, map, Option, Some, None, option_map, option_to_list, refl, ap, sym, subst, arith}
+use Rattle.std.proofs.Common.{◌≡◌, ◌<◌, ◌≤◌, ◌∙◌, ℕ, List, [], ◌∷◌, ◌++◌, true, false, length, Option, Some, None, option_map, option_to_list, refl, ap, sym, subst, arith}
 use Rattle.std.specs.Prelude.{◌==◌, ◌&&◌}
 use Rattle.std.proofs.lemmas.List.{length-map}
 use Rattle.lpc_base.specs.declared.birth.Birth.{Birth}
-use Rattle.lpc_base.specs.Rows.{change, count, every, first, has}
+use Rattle.lpc_base.specs.Rows.{change, count, every, has}
 use Rattle.lpc_base.proofs.Births.{birth-self}
 use Rattle.lpc_base.proofs.RowMaps.{change-map, count-map, has-map}
 use Rattle.lpc_base.proofs.RowWords.{count-none, every-change, every-true, has_none-more, none-counted}
@@ -29,7 +29,7 @@ use Rattle.lpc_rows.specs.Kept.{has_queued, is_alive, is_pending, owed_by, rows_
 use Rattle.lpc_rows.specs.Lawful as lawful
 use Rattle.lpc_rows.specs.Lawful.{AreBornIn, AreLawful, has_named_hearers, is_living, is_quiet, is_under_name}
 use Rattle.lpc_rows.specs.Names.{name_of, stands}
-use Rattle.lpc_rows.specs.Shown.{Births, Tables, birth_of, births_of, shown_by, shown_message, shown_process, shown_thread, shown_wait, with_mark, with_places}
+use Rattle.lpc_rows.specs.Shown.{Births, Tables, birth_of, births_of, shown_message, shown_process, shown_thread, shown_wait, with_mark, with_places}
 use Rattle.lpc_rows.proofs.Born as born
 use Rattle.lpc_rows.proofs.Changes as changes
 use Rattle.lpc_rows.proofs.Drawn as drawn

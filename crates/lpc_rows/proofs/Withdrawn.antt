@@ -1,5 +1,5 @@
 -- A thread's own messages leave their queues: the tables' new rows are the step of those that stood, and stay lawful.
-use Rattle.std.proofs.Common.{◌≡◌, ℕ, List, [], ◌∷◌, Bool, true, false, ◌||◌, refl, ap, arith}
+use Rattle.std.proofs.Common.{◌≡◌, ℕ, List, [], ◌∷◌, Bool, true, false, refl, ap, arith}
 use Rattle.lpc_base.specs.declared.birth.Birth.{Birth}
 use Rattle.lpc_base.specs.Rows.{count, has, without}
 use Rattle.lpc_base.proofs.RowMaps.{without-map}
@@ -16,7 +16,7 @@ use Rattle.lpc_rows.proofs.Marked as marked
 use Rattle.lpc_rows.proofs.Changes as changes
 use Rattle.lpc_rows.proofs.Drawn as drawn
 use Rattle.lpc_rows.proofs.Lawful as lawful
-use Rattle.lpc_rows.proofs.Readings.{count-shown, has-shown}
+use Rattle.lpc_rows.proofs.Readings.{count-shown}
 use Rattle.lpc_rows.proofs.Rooms as rooms
 
 none_left : {X : Type 0} (p : X → Bool) (xs : List X) → has p (without p xs) ≡ false

@@ -4,7 +4,7 @@ use Rattle.lpc_base.specs.declared.birth.Birth.{Birth}
 use Rattle.lpc_base.specs.declared.limits.TheConstants.{HANDLE_LIMIT, VIEW_LIMIT}
 use Rattle.lpc_base.specs.declared.port_kind.PortKind.{PortKind}
 use Rattle.lpc_base.specs.declared.status.Status.{Status}
-use Rattle.lpc_base.specs.Rows.{change, every, first, has, passes, without}
+use Rattle.lpc_base.specs.Rows.{change, every, first, has, passes}
 use Rattle.lpc_base.specs.Views.{least_base, passes_section, view_size}
 use Rattle.lpc_handles.specs.declared.table.Row.{Row}
 use Rattle.lpc_model.specs.Basics.{Basic, basic, left_by, AddsHandle, AddsSection, AddsToken, Enters, Joins, Makes, Unmaps, Writes}

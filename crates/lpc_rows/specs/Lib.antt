@@ -15,3 +15,4 @@ pub mod Bound
 pub mod Joined
 pub mod Clauses
 pub mod Closing
+pub mod Suspects
