@@ -1,2 +1,3 @@
 pub mod Lent
 pub mod Lends
+pub mod Suspected

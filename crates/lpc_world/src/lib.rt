@@ -2,7 +2,9 @@
 #![tactic(auto)]
 
 mod marks;
+mod suspects;
 mod world;
 
 pub use lpc_homes::Object;
+pub use suspects::Suspect;
 pub use world::World;

@@ -5,7 +5,7 @@
 // Each call that adds a row or draws a number asks for the spare room, and that fewer than 16 rows and numbers were
 // made for each call so far, with those that are owed: each open client port owes the message that tells that it is
 // closed, each registration the one that tells of its thread's end, and each waiting event what it takes to go on.
-ghost use Rattle.std.specs.Prelude.{◌≡◌, ◌∷◌, ◌++◌, ◌+◌, ◌<◌, ◌≤◌, ◌==◌, ◌↔◌, ◌||◌, [], None, Some, true, false, IfSome, IfNone, IfOk, IsErr, OnOk, OnErr, is_some, length};
+ghost use Rattle.std.specs.Prelude.{◌≡◌, ◌∷◌, ◌++◌, ◌+◌, ◌<◌, ◌≤◌, ◌==◌, ◌↔◌, ◌||◌, [], None, Some, true, false, IfSome, IfNone, IfOk, IsErr, OnOk, OnErr, is_some, length, option_map};
 ghost use Rattle.lpc_base.specs.Room.{grown_room};
 ghost use Rattle.lpc_base.specs.Rows.{has};
 ghost use Rattle.lpc_model.specs.World.{no_rows};
@@ -41,6 +41,7 @@ mod tokens;
 mod views;
 
 use crate::marks::Marks;
+use crate::suspects::Suspects;
 use lpc_base::{Birth, OutOfMemory, PortKind};
 use lpc_handles::TableFault;
 use lpc_homes::{Object, Parts};
@@ -70,6 +71,7 @@ pub struct World {
     tokens: Slots<TokenRow>,
     token_names: TokenNames,
     marks: Marks,
+    suspects: Suspects,
     calls: u32,
     made: u32,
     loose: bool,
@@ -78,14 +80,14 @@ pub struct World {
 
 impl Model for World {
     ghost use Rattle.lpc_rows.specs.Kept.{Kept, kept_by};
-    ghost use Rattle.lpc_rows.specs.Lawful.{AreLawful};
+    ghost use Rattle.lpc_rows.specs.Suspects.{IsWatched};
     ghost use Rattle.lpc_rows.specs.Shown.{tables_of};
 
     ghost Value = { Kept };
 
     ghost view = { λ w. kept_by (tables_of w.procs w.parts.items w.ports w.waits w.names w.sections w.tokens w.token_names w.marks) w.parts.room w.calls w.made w.loose };
 
-    ghost invariant = { λ w. AreLawful (tables_of w.procs w.parts.items w.ports w.waits w.names w.sections w.tokens w.token_names w.marks) w.calls w.made };
+    ghost invariant = { λ w. IsWatched (tables_of w.procs w.parts.items w.ports w.waits w.names w.sections w.tokens w.token_names w.marks) w.calls w.made w.suspects };
 }
 
 // Written out, so that a proof about what holds a world lets it go in one step, and not table by table.
@@ -101,6 +103,7 @@ impl Drop for World {
             tokens: _,
             token_names: _,
             marks: _,
+            suspects: _,
             calls: _,
             made: _,
             loose: _,
@@ -131,6 +134,7 @@ impl World {
             tokens: Slots::new(alloc),
             token_names: TokenNames::new(alloc),
             marks: Marks::new(alloc),
+            suspects: Suspects::none(),
             calls: 0,
             made: 0,
             loose: false,
@@ -282,6 +286,7 @@ impl World {
         self.made += 1;
         let port = self.ports.add(kind, birth, connection);
         self.ports.set_creator(port, creator);
+        self.suspects.add(port);
         port
     }
 
@@ -327,7 +332,9 @@ impl World {
     {
         let message = self.ports.first(queue, false)?;
         self.loose = true;
-        Some(self.ports.pull(message))
+        let pulled = self.ports.pull(message);
+        self.suspects.add(pulled.sender);
+        Some(pulled)
     }
 
     /// The thread's own messages leave their queues: the request or connection request with which it waits, where it
@@ -340,7 +347,8 @@ impl World {
         ensures capacity { self.new.capacity ≡ self.old.capacity }
     {
         self.loose = true;
-        self.ports.withdraw(tid);
+        let went = self.ports.withdraw(tid);
+        self.suspects.add_any_if(went);
     }
 
     /// A live thread that doesn't wait begins to wait for something but an event, and what it waits for doesn't stand
@@ -438,7 +446,9 @@ impl World {
     {
         self.loose = true;
         self.marks.remove(tid);
-        self.waits.end(tid)
+        let ended = self.waits.end(tid);
+        self.suspects.add_some(port_of(&ended));
+        ended
     }
 
     /// The request or connect of a thread to a queue is received, where it waits there. Its message stands in no queue
@@ -625,5 +635,15 @@ impl World {
     {
         let places = self.waits.connects_of(pid) + more as usize;
         self.parts.reserve_handles(pid, places)
+    }
+}
+
+// The port on which a wait was made, where there was one.
+fn port_of(wait: &Option<Wait>) -> Option<Key>
+    ensures { result ≡ option_map (λ w. w.port) wait.now }
+{
+    match wait {
+        Some(wait) => Some(wait.port),
+        None => None,
     }
 }

@@ -3,13 +3,14 @@ ghost use Rattle.std.specs.Prelude.{◌≡◌, ◌+◌, ◌*◌, ◌≤◌, true
 ghost use Rattle.lpc_base.specs.Rows.{count, has};
 ghost use Rattle.lpc_base.specs.declared.limits.TheConstants.{VIEW_LIMIT};
 ghost use Rattle.lpc_model.specs.Basics.{Cuts, DropsHandle, Empties, Unbinds};
-ghost use Rattle.lpc_model.specs.Found.{all_registrations, all_views, event_ports, handle_count, holders, is_owned_by, is_table, pointer_count, same_birth};
+ghost use Rattle.lpc_model.specs.Found.{all_registrations, all_views, event_ports, handle_at, handle_count, holders, is_owned_by, is_table, pointer_count, same_birth};
 ghost use Rattle.lpc_model.specs.declared.entry.ObjectKind.TheVariants as kind;
 ghost use Rattle.lpc_rows.specs.Closing.{HasMutualPairs};
 ghost use Rattle.lpc_rows.specs.Capacity.{but_names};
 ghost use Rattle.lpc_rows.specs.Held.{has_handles};
 ghost use Rattle.lpc_rows.specs.Kept.{IsStep, Roomy, owed_rows};
-ghost use Rattle.lpc_rows.specs.Names.{stands};
+ghost use Rattle.lpc_rows.specs.Names.{some_stands, stands};
+ghost use Rattle.lpc_rows.specs.Suspects.{NamesPort};
 ghost use Rattle.lpc_rows.specs.Shown.{object_stands};
 ghost use Rattle.lpc_rows.specs.Clauses.{after, birth_at, name_at};
 
@@ -38,7 +39,8 @@ impl World {
         ensures capacity { self.new.capacity ≡ self.old.capacity }
     {
         self.loose = true;
-        self.ports.empty(port);
+        let went = self.ports.empty(port);
+        self.suspects.add_any_if(went);
     }
 
     /// A port and its other end are cut off from each other.
@@ -49,8 +51,11 @@ impl World {
         ensures loose { self.new.loose ≡ true }
         ensures capacity { self.new.capacity ≡ self.old.capacity }
     {
+        let other = self.port(port).pair;
         self.loose = true;
         self.ports.cut(port);
+        self.suspects.add(port);
+        self.suspects.add_some(other);
     }
 
     /// The handle of a process with a value goes. No row is made, and with the last handle of a client port the message
@@ -66,8 +71,20 @@ impl World {
         ensures room { Roomy self.old.room self.new.room }
         ensures capacity { self.new.capacity ≡ self.old.capacity }
     {
+        let port = self.port_of_handle(pid, value);
         self.loose = true;
         self.parts.close_handle(pid, value);
+        self.suspects.add_some(port);
+    }
+
+    /// The port that a handle of a process names: None where it names none, and where there is no such handle.
+    fn port_of_handle(&self, pid: u32, value: u32) -> Option<Key>
+        requires { has (is_table pid) self.now.rows.handles ≡ true }
+        ensures stands { some_stands self.now.births.ports result ≡ true }
+        ensures names { let handle = handle_at self.now.rows pid value in
+            NamesPort self.now.births.ports handle result }
+    {
+        self.handle(pid, value)?.object.port()
     }
 
     /// A handle names an object.

@@ -7,7 +7,7 @@ ghost use Rattle.lpc_rows.specs.Ready.{waiter};
 ghost use Rattle.lpc_rows.specs.Shown.{object_stands};
 ghost use Rattle.lpc_rows.specs.Clauses.{finished};
 
-use crate::world::World;
+use crate::world::{World, port_of};
 use lpc_homes::Object;
 
 impl World {
@@ -35,7 +35,8 @@ impl World {
             Ok(value) => {
                 self.loose = true;
                 self.marks.remove(tid);
-                self.waits.end(tid);
+                let ended = self.waits.end(tid);
+                self.suspects.add_some(port_of(&ended));
                 value
             }
             Err(_) => unreachable!(),

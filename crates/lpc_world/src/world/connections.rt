@@ -26,8 +26,12 @@ impl World {
         ensures loose { self.new.loose ≡ true }
         ensures capacity { self.new.capacity ≡ self.old.capacity }
     {
+        let clients = self.port(client).pair;
+        let servers = self.port(server).pair;
         self.loose = true;
         self.ports.join(client, server, context);
+        self.suspects.add_some(clients);
+        self.suspects.add_some(servers);
     }
 
     /// The connection of a port is completed, or isn't any more.
@@ -91,6 +95,8 @@ impl World {
     {
         let message = self.ports.first(queue, true)?;
         self.loose = true;
-        Some(self.ports.pull(message))
+        let pulled = self.ports.pull(message);
+        self.suspects.add(pulled.sender);
+        Some(pulled)
     }
 }

@@ -56,6 +56,7 @@ impl World {
     {
         self.loose = true;
         self.procs.unregister(tid, birth);
+        self.suspects.add_any();
     }
 
     /// A live thread ends, which doesn't wait.
@@ -67,7 +68,9 @@ impl World {
         ensures capacity { self.new.capacity ≡ self.old.capacity }
     {
         self.loose = true;
+        let registered = self.procs.registrations() > 0;
         self.procs.end_thread(tid);
+        self.suspects.add_any_if(registered);
     }
 
     /// The client port of a thread's accepted connect: None exactly where the thread doesn't wait with one.

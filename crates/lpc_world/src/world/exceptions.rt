@@ -116,6 +116,7 @@ impl World {
         let birth = self.port(port).birth;
         self.loose = true;
         self.procs.set_debug_port(pid, port, birth);
+        self.suspects.add_any();
     }
 
     /// A process gets its exception port.
@@ -130,6 +131,7 @@ impl World {
         let birth = self.port(port).birth;
         self.loose = true;
         self.procs.set_exception_port(pid, port, birth);
+        self.suspects.add_any();
     }
 
     /// A process lets both ports go.
@@ -141,6 +143,7 @@ impl World {
     {
         self.loose = true;
         self.procs.let_go(pid);
+        self.suspects.add_any();
     }
 
     // Processes that are to end.

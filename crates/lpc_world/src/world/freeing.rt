@@ -2,12 +2,16 @@
 ghost use Rattle.std.specs.Prelude.{◌≡◌, ◌+◌, ◌≤◌, true, false};
 ghost use Rattle.lpc_model.specs.Basics.{Frees};
 ghost use Rattle.lpc_model.specs.Found.{port_name, process_name, thread_name};
+ghost use Rattle.lpc_model.specs.Linked.{HasHeldPorts};
+ghost use Rattle.lpc_model.specs.Sweep.{is_unheld};
+ghost use Rattle.lpc_world.specs.declared.suspects.Suspect.TheVariants.{Nobody};
 ghost use Rattle.lpc_rows.specs.Held as held;
 ghost use Rattle.lpc_rows.specs.Held.{has_holders};
 ghost use Rattle.lpc_rows.specs.Kept.{GainsNoLives, Roomy, owed_rows};
 ghost use Rattle.lpc_rows.specs.Names.{KeepsOthers, stands};
 ghost use Rattle.lpc_rows.specs.Clauses.{after, birth_at};
 
+use crate::suspects::{Suspect, Suspects};
 use crate::world::World;
 use lpc_base::Birth;
 use lpc_homes::Object;
@@ -68,8 +72,33 @@ impl World {
         self.loose
     }
 
-    /// Nothing is to be swept any more, until a row goes again that may have named an object.
+    /// A port stands at the key.
+    pub fn port_stands(&self, port: Key) -> bool
+        ensures { result ≡ stands self.now.births.ports port }
+    {
+        self.ports.get(port).is_some()
+    }
+
+    /// A port that may have lost the last row that counted for it, or nobody, and then some row counts for each port.
+    pub fn suspect(&self) -> Suspect
+        ensures nobody { result ≡ Nobody → HasHeldPorts self.now.rows }
+    {
+        self.suspects.first()
+    }
+
+    /// A port is no longer suspected for which some row counts, or which doesn't stand any more.
+    pub fn clear_suspect(&mut self, port: Key)
+        requires held { stands self.old.births.ports port ≡ true
+            → is_unheld self.old.rows (port_name (birth_at self.old port)) ≡ false }
+        ensures { self.new ≡ self.old }
+    {
+        self.suspects.remove(port);
+    }
+
+    /// Nothing is to be swept any more, until a row goes again that may have named an object. Some row counts for each
+    /// port.
     pub fn set_still(&mut self)
+        requires held { HasHeldPorts self.old.rows }
         ensures rows { self.new.rows ≡ self.old.rows }
         ensures births { self.new.births ≡ self.old.births }
         ensures calls { self.new.calls ≡ self.old.calls }
@@ -79,6 +108,7 @@ impl World {
         ensures capacity { self.new.capacity ≡ self.old.capacity }
     {
         self.loose = false;
+        self.suspects = Suspects::none();
     }
 
     /// The row of a thread that has ended goes.
@@ -117,6 +147,7 @@ impl World {
     {
         self.loose = true;
         self.procs.free_process_born(birth);
+        self.suspects.add_any();
     }
 
     /// A port that no row names goes. Its room is spare then.
@@ -137,7 +168,12 @@ impl World {
         ensures capacity { self.new.capacity ≡ self.old.capacity }
         ensures lives { GainsNoLives self.old self.new }
     {
+        let row = self.port(port);
+        let other = row.pair;
+        let connection = row.connection;
         self.loose = true;
         self.ports.free(port);
+        self.suspects.add_some(other);
+        self.suspects.add_some(connection);
     }
 }

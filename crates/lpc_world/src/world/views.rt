@@ -153,6 +153,7 @@ impl World {
         ensures capacity { self.new.capacity ≡ self.old.capacity }
     {
         self.loose = true;
+        self.suspects.add_any();
         self.parts.unmap_view(pid, address)
     }
 
@@ -165,6 +166,7 @@ impl World {
     {
         self.loose = true;
         self.parts.drop_views(pid);
+        self.suspects.add_any();
     }
 
     /// All views that go with a port go, of whatever process they are.
@@ -177,6 +179,7 @@ impl World {
     {
         self.loose = true;
         self.parts.drop_owned_views(port);
+        self.suspects.add(port);
     }
 
     /// The view of a process that holds an address; None exactly where none does.

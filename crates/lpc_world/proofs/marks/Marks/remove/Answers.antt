@@ -1,5 +1,4 @@
 use Rattle.std.proofs.Common.{ℕ, List, ap, sym, ◌∙◌, is_some, vec_capacity}
-use Rattle.lpc_base.specs.Rows.{without}
 use Rattle.lpc_base.proofs.Differ.{differ-without, remove-without, row-at}
 use Rattle.lpc_base.proofs.Positions.{none_first}
 use Rattle.lpc_base.proofs.RowWords.{without-none}

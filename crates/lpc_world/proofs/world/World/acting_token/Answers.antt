@@ -24,18 +24,18 @@ unreachable-requires c =
 pub token-requires : goal.token-requires
 token-requires c =
     let w : World = rows_by (tables_of c.self.inside.procs c.self.inside.parts.items c.self.inside.ports c.self.inside.waits c.self.inside.names c.self.inside.sections c.self.inside.tokens c.self.inside.token_names c.self.inside.marks) in
-    let it = is_called w c.args.tid c.in-Some.row c.self.invariant.lawful.housed c.self.invariant.drawn.threads_single (live-called c.args.tid c.self.inside.procs.threads ∙ sym c.live_row.ensures.row ∙ c.in-Some.is) in
-    record { present = sym (steps.process_same (tables_of c.self.inside.procs c.self.inside.parts.items c.self.inside.ports c.self.inside.waits c.self.inside.names c.self.inside.sections c.self.inside.tokens c.self.inside.token_names c.self.inside.marks) c.self.inside.calls c.self.inside.made c.self.invariant c.in-Some.row.process) ∙ it.process }
+    let it = is_called w c.args.tid c.in-Some.row c.self.invariant.kept.lawful.housed c.self.invariant.kept.drawn.threads_single (live-called c.args.tid c.self.inside.procs.threads ∙ sym c.live_row.ensures.row ∙ c.in-Some.is) in
+    record { present = sym (steps.process_same (tables_of c.self.inside.procs c.self.inside.parts.items c.self.inside.ports c.self.inside.waits c.self.inside.names c.self.inside.sections c.self.inside.tokens c.self.inside.token_names c.self.inside.marks) c.self.inside.calls c.self.inside.made c.self.invariant.kept c.in-Some.row.process) ∙ it.process }
 
 pub own-requires : goal.own-requires
-own-requires c = record { present = enrolling.stands_live (tables_of c.self.inside.procs c.self.inside.parts.items c.self.inside.ports c.self.inside.waits c.self.inside.names c.self.inside.sections c.self.inside.tokens c.self.inside.token_names c.self.inside.marks) c.self.inside.calls c.self.inside.made c.self.invariant c.args.tid (rw (← c.self.view_is) at c.requires) }
+own-requires c = record { present = enrolling.stands_live (tables_of c.self.inside.procs c.self.inside.parts.items c.self.inside.ports c.self.inside.waits c.self.inside.names c.self.inside.sections c.self.inside.tokens c.self.inside.token_names c.self.inside.marks) c.self.inside.calls c.self.inside.made c.self.invariant.kept c.args.tid (rw (← c.self.view_is) at c.requires) }
 
 pub returns-clause-token : goal.returns-clause-token
 returns-clause-token c =
     let w : World = rows_by (tables_of c.self.inside.procs c.self.inside.parts.items c.self.inside.ports c.self.inside.waits c.self.inside.names c.self.inside.sections c.self.inside.tokens c.self.inside.token_names c.self.inside.marks) in
-    let it = is_called w c.args.tid c.in-Some.row c.self.invariant.lawful.housed c.self.invariant.drawn.threads_single (live-called c.args.tid c.self.inside.procs.threads ∙ sym c.live_row.ensures.row ∙ c.in-Some.is) in
+    let it = is_called w c.args.tid c.in-Some.row c.self.invariant.kept.lawful.housed c.self.invariant.kept.drawn.threads_single (live-called c.args.tid c.self.inside.procs.threads ∙ sym c.live_row.ensures.row ∙ c.in-Some.is) in
     let token = sym (token_is (tables_of c.self.inside.procs c.self.inside.parts.items c.self.inside.ports c.self.inside.waits c.self.inside.names c.self.inside.sections c.self.inside.tokens c.self.inside.token_names c.self.inside.marks) c.in-Some.row.process c.token.result.now c.token.ensures.token) ∙ ap (λ (k : Caller). token_of w k.process) it.row in
-    let own = sym (own_is (tables_of c.self.inside.procs c.self.inside.parts.items c.self.inside.ports c.self.inside.waits c.self.inside.names c.self.inside.sections c.self.inside.tokens c.self.inside.token_names c.self.inside.marks) c.self.inside.calls c.self.inside.made c.self.invariant c.args.tid _ (rw (← c.self.view_is) at c.requires) c.own.ensures.own) in
+    let own = sym (own_is (tables_of c.self.inside.procs c.self.inside.parts.items c.self.inside.ports c.self.inside.waits c.self.inside.names c.self.inside.sections c.self.inside.tokens c.self.inside.token_names c.self.inside.marks) c.self.inside.calls c.self.inside.made c.self.invariant.kept c.args.tid _ (rw (← c.self.view_is) at c.requires) c.own.ensures.own) in
     rw (← c.self.view_is) (c.effective_token.ensures ∙ (λ i. effective (token i) (own i)))
 
 pub returns-clause-thread : goal.returns-clause-thread

@@ -1,4 +1,4 @@
-use Rattle.std.proofs.Common.{ap, sym, ◌∙◌, arith, length, map}
+use Rattle.std.proofs.Common.{ap, sym, ◌∙◌, arith}
 use Rattle.std.proofs.lemmas.List.{length-map}
 use Rattle.lpc_base.specs.Rows.{count}
 use Rattle.lpc_procs.specs.Procs.{event_ports, is_of_birth}
@@ -15,6 +15,6 @@ returns-clause-number c =
 
 pub returns-clause-few : goal.returns-clause-few
 returns-clause-few c =
-    let rows = c.self.invariant.lawful.rows in
+    let rows = c.self.invariant.kept.lawful.rows in
     let long = length-map c.self.inside.procs.processes shown_process in
     rw (← c.self.view_is) (omega (arith, rows, long, c.event_ports_to.ensures.bound))

@@ -1,4 +1,3 @@
-use Rattle.std.proofs.Common.{arith}
 use Rattle.lpc_rows.specs.Shown.{birth_of}
 use Rattle.lpc_rows.proofs.Raising.{event-quiet, event-pends, no-connect}
 use Rattle.lpc_world.proofs.world.World.events_add.Goals as goal

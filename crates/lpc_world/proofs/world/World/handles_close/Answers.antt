@@ -4,19 +4,28 @@ use Rattle.lpc_rows.specs.Shown.{tables_of}
 use Rattle.lpc_rows.proofs.Dropped as dropped
 use Rattle.lpc_rows.proofs.Tables as tables
 use Rattle.lpc_rows.proofs.Capacities as capacities
+use Rattle.lpc_rows.proofs.Suspected as suspected
+use Rattle.lpc_rows.specs.Kept.{rows_by}
+use Rattle.lpc_rows.specs.Shown.{births_of}
+use Rattle.std.proofs.Common.{refl}
+use Rattle.lpc_model.specs.Found.{handle_at}
 use Rattle.lpc_world.proofs.world.World.handles_close.Goals as goal
 
 pub close_handle-requires-clause-one : goal.close_handle-requires-clause-one
-close_handle-requires-clause-one c = tables.single (tables_of c.self.inside.procs c.self.inside.parts.items c.self.inside.ports c.self.inside.waits c.self.inside.names c.self.inside.sections c.self.inside.tokens c.self.inside.token_names c.self.inside.marks) c.self.inside.calls c.self.inside.made c.self.invariant
+close_handle-requires-clause-one c = tables.single (tables_of c.self.inside.procs c.self.inside.parts.items c.self.inside.ports c.self.inside.waits c.self.inside.names c.self.inside.sections c.self.inside.tokens c.self.inside.token_names c.self.inside.marks) c.self.inside.calls c.self.inside.made c.self.invariant.kept
 
 pub close_handle-requires-clause-part : goal.close_handle-requires-clause-part
-close_handle-requires-clause-part c = sym (tables.has_table (tables_of c.self.inside.procs c.self.inside.parts.items c.self.inside.ports c.self.inside.waits c.self.inside.names c.self.inside.sections c.self.inside.tokens c.self.inside.token_names c.self.inside.marks) c.self.inside.calls c.self.inside.made c.self.invariant c.args.pid) ∙ (rw (← c.self.view_is) at c.requires.table)
+close_handle-requires-clause-part c = sym (tables.has_table (tables_of c.self.inside.procs c.self.inside.parts.items c.self.inside.ports c.self.inside.waits c.self.inside.names c.self.inside.sections c.self.inside.tokens c.self.inside.token_names c.self.inside.marks) c.self.inside.calls c.self.inside.made c.self.invariant.kept c.args.pid) ∙ (rw (← c.self.view_is) at c.requires.table)
 
 pub invariant_of-self : goal.invariant_of-self
-invariant_of-self c = rw c.close_handle.ensures.parts (dropped.dropped_lawful (tables_of c.self.inside.procs c.self.inside.parts.items c.self.inside.ports c.self.inside.waits c.self.inside.names c.self.inside.sections c.self.inside.tokens c.self.inside.token_names c.self.inside.marks) c.self.inside.calls c.self.inside.made c.self.invariant c.args.pid c.args.value)
+invariant_of-self c = record {
+  kept =
+      rw c.close_handle.ensures.parts (dropped.dropped_lawful (tables_of c.self.inside.procs c.self.inside.parts.items c.self.inside.ports c.self.inside.waits c.self.inside.names c.self.inside.sections c.self.inside.tokens c.self.inside.token_names c.self.inside.marks) c.self.inside.calls c.self.inside.made c.self.invariant.kept c.args.pid c.args.value);
+  watched = let names = rw (← c.self.view_is) at c.port_of_handle-port.ensures.names in let stood = rw (← c.self.view_is) at c.port_of_handle-port.ensures.stands in rw (c.close_handle.ensures.parts, c.add_some.ensures) (suspected.closed-to (rows_by (tables_of c.self.inside.procs c.self.inside.parts.items c.self.inside.ports c.self.inside.waits c.self.inside.names c.self.inside.sections c.self.inside.tokens c.self.inside.token_names c.self.inside.marks)) (births_of (tables_of c.self.inside.procs c.self.inside.parts.items c.self.inside.ports c.self.inside.waits c.self.inside.names c.self.inside.sections c.self.inside.tokens c.self.inside.token_names c.self.inside.marks)).ports c.self.inside.suspects c.self.invariant.watched _ c.args.pid c.args.value (handle_at (rows_by (tables_of c.self.inside.procs c.self.inside.parts.items c.self.inside.ports c.self.inside.waits c.self.inside.names c.self.inside.sections c.self.inside.tokens c.self.inside.token_names c.self.inside.marks)) c.args.pid c.args.value) c.port_of_handle-port.result c.self.invariant.kept.lawful.tables_single refl names stood (dropped.drops (tables_of c.self.inside.procs c.self.inside.parts.items c.self.inside.ports c.self.inside.waits c.self.inside.names c.self.inside.sections c.self.inside.tokens c.self.inside.token_names c.self.inside.marks) c.self.inside.calls c.self.inside.made c.self.invariant.kept c.args.pid c.args.value));
+}
 
 pub returns-clause-rows : goal.returns-clause-rows
-returns-clause-rows c = rw (← c.self.view_is, c.close_handle.ensures.parts) (dropped.drops (tables_of c.self.inside.procs c.self.inside.parts.items c.self.inside.ports c.self.inside.waits c.self.inside.names c.self.inside.sections c.self.inside.tokens c.self.inside.token_names c.self.inside.marks) c.self.inside.calls c.self.inside.made c.self.invariant c.args.pid c.args.value)
+returns-clause-rows c = rw (← c.self.view_is, c.close_handle.ensures.parts) (dropped.drops (tables_of c.self.inside.procs c.self.inside.parts.items c.self.inside.ports c.self.inside.waits c.self.inside.names c.self.inside.sections c.self.inside.tokens c.self.inside.token_names c.self.inside.marks) c.self.inside.calls c.self.inside.made c.self.invariant.kept c.args.pid c.args.value)
 
 pub returns-clause-room : goal.returns-clause-room
 returns-clause-room c =

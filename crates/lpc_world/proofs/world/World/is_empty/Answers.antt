@@ -13,10 +13,10 @@ pub returns-in-Some : goal.returns-in-Some
 returns-in-Some c =
     let there = rw (← c.self.view_is) at c.requires in
     let first_is = sym c.first.ensures ∙ c.in-Some.is in
-    rw (← c.self.view_is) (sym (ap is_none (follows.first_queued (tables_of c.self.inside.procs c.self.inside.parts.items c.self.inside.ports c.self.inside.waits c.self.inside.names c.self.inside.sections c.self.inside.tokens c.self.inside.token_names c.self.inside.marks) c.self.invariant.named c.args.queue there) ∙ readings.none_as (shown_message (birth_of (births_of (tables_of c.self.inside.procs c.self.inside.parts.items c.self.inside.ports c.self.inside.waits c.self.inside.names c.self.inside.sections c.self.inside.tokens c.self.inside.token_names c.self.inside.marks)))) (λ (r : Key × QueuedMessage). r.0) (first (ports.is_in c.args.queue) c.self.inside.ports.messages) ∙ ap is_none first_is))
+    rw (← c.self.view_is) (sym (ap is_none (follows.first_queued (tables_of c.self.inside.procs c.self.inside.parts.items c.self.inside.ports c.self.inside.waits c.self.inside.names c.self.inside.sections c.self.inside.tokens c.self.inside.token_names c.self.inside.marks) c.self.invariant.kept.named c.args.queue there) ∙ readings.none_as (shown_message (birth_of (births_of (tables_of c.self.inside.procs c.self.inside.parts.items c.self.inside.ports c.self.inside.waits c.self.inside.names c.self.inside.sections c.self.inside.tokens c.self.inside.token_names c.self.inside.marks)))) (λ (r : Key × QueuedMessage). r.0) (first (ports.is_in c.args.queue) c.self.inside.ports.messages) ∙ ap is_none first_is))
 
 pub returns-in-None : goal.returns-in-None
 returns-in-None c =
     let there = rw (← c.self.view_is) at c.requires in
     let first_is = sym c.first.ensures ∙ c.in-None.is in
-    rw (← c.self.view_is) (sym (ap is_none (follows.first_queued (tables_of c.self.inside.procs c.self.inside.parts.items c.self.inside.ports c.self.inside.waits c.self.inside.names c.self.inside.sections c.self.inside.tokens c.self.inside.token_names c.self.inside.marks) c.self.invariant.named c.args.queue there) ∙ readings.none_as (shown_message (birth_of (births_of (tables_of c.self.inside.procs c.self.inside.parts.items c.self.inside.ports c.self.inside.waits c.self.inside.names c.self.inside.sections c.self.inside.tokens c.self.inside.token_names c.self.inside.marks)))) (λ (r : Key × QueuedMessage). r.0) (first (ports.is_in c.args.queue) c.self.inside.ports.messages) ∙ ap is_none first_is))
+    rw (← c.self.view_is) (sym (ap is_none (follows.first_queued (tables_of c.self.inside.procs c.self.inside.parts.items c.self.inside.ports c.self.inside.waits c.self.inside.names c.self.inside.sections c.self.inside.tokens c.self.inside.token_names c.self.inside.marks) c.self.invariant.kept.named c.args.queue there) ∙ readings.none_as (shown_message (birth_of (births_of (tables_of c.self.inside.procs c.self.inside.parts.items c.self.inside.ports c.self.inside.waits c.self.inside.names c.self.inside.sections c.self.inside.tokens c.self.inside.token_names c.self.inside.marks)))) (λ (r : Key × QueuedMessage). r.0) (first (ports.is_in c.args.queue) c.self.inside.ports.messages) ∙ ap is_none first_is))

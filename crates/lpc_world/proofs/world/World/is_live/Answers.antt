@@ -14,8 +14,8 @@ returns-clause-live c =
 
 pub returns-clause-process : goal.returns-clause-process
 returns-clause-process c =
-    λ yes. rw (← c.self.view_is) (finds.live_process (rows_by (tables_of c.self.inside.procs c.self.inside.parts.items c.self.inside.ports c.self.inside.waits c.self.inside.names c.self.inside.sections c.self.inside.tokens c.self.inside.token_names c.self.inside.marks)) c.args.pid c.self.invariant.lawful.housed (sym (c.is_live.ensures.live ∙ sym (readings.has-shown shown_thread (procs.lives_in c.args.pid) (found.lives_in c.args.pid) (λ t. refl) c.self.inside.procs.threads)) ∙ yes)).0
+    λ yes. rw (← c.self.view_is) (finds.live_process (rows_by (tables_of c.self.inside.procs c.self.inside.parts.items c.self.inside.ports c.self.inside.waits c.self.inside.names c.self.inside.sections c.self.inside.tokens c.self.inside.token_names c.self.inside.marks)) c.args.pid c.self.invariant.kept.lawful.housed (sym (c.is_live.ensures.live ∙ sym (readings.has-shown shown_thread (procs.lives_in c.args.pid) (found.lives_in c.args.pid) (λ t. refl) c.self.inside.procs.threads)) ∙ yes)).0
 
 pub returns-clause-table : goal.returns-clause-table
 returns-clause-table c =
-    λ yes. rw (← c.self.view_is) (finds.live_process (rows_by (tables_of c.self.inside.procs c.self.inside.parts.items c.self.inside.ports c.self.inside.waits c.self.inside.names c.self.inside.sections c.self.inside.tokens c.self.inside.token_names c.self.inside.marks)) c.args.pid c.self.invariant.lawful.housed (sym (c.is_live.ensures.live ∙ sym (readings.has-shown shown_thread (procs.lives_in c.args.pid) (found.lives_in c.args.pid) (λ t. refl) c.self.inside.procs.threads)) ∙ yes)).1
+    λ yes. rw (← c.self.view_is) (finds.live_process (rows_by (tables_of c.self.inside.procs c.self.inside.parts.items c.self.inside.ports c.self.inside.waits c.self.inside.names c.self.inside.sections c.self.inside.tokens c.self.inside.token_names c.self.inside.marks)) c.args.pid c.self.invariant.kept.lawful.housed (sym (c.is_live.ensures.live ∙ sym (readings.has-shown shown_thread (procs.lives_in c.args.pid) (found.lives_in c.args.pid) (λ t. refl) c.self.inside.procs.threads)) ∙ yes)).1

@@ -8,12 +8,12 @@ use Rattle.lpc_world.proofs.world.World.is_named_by_row.Goals as goal
 use Rattle.lpc_world.proofs.world.World.is_named_by_row.Goals.{then-names, else-names, then-is_named, else-is_named}
 
 pub is_named-requires : goal.is_named-requires
-is_named-requires c = unheld.has_row (tables_of c.self.inside.procs c.self.inside.parts.items c.self.inside.ports c.self.inside.waits c.self.inside.names c.self.inside.sections c.self.inside.tokens c.self.inside.token_names c.self.inside.marks) c.self.invariant.named c.args.port (rw (← c.self.view_is) at c.requires)
+is_named-requires c = unheld.has_row (tables_of c.self.inside.procs c.self.inside.parts.items c.self.inside.ports c.self.inside.waits c.self.inside.names c.self.inside.sections c.self.inside.tokens c.self.inside.token_names c.self.inside.marks) c.self.invariant.kept.named c.args.port (rw (← c.self.view_is) at c.requires)
 
 pub returns-then-is_named-2 : goal.returns-then-is_named-2
 returns-then-is_named-2 c =
     let there = rw (← c.self.view_is) at c.requires in
-    let held = unheld.held_is (tables_of c.self.inside.procs c.self.inside.parts.items c.self.inside.ports c.self.inside.waits c.self.inside.names c.self.inside.sections c.self.inside.tokens c.self.inside.token_names c.self.inside.marks) c.self.invariant.named c.args.port there in
+    let held = unheld.held_is (tables_of c.self.inside.procs c.self.inside.parts.items c.self.inside.ports c.self.inside.waits c.self.inside.names c.self.inside.sections c.self.inside.tokens c.self.inside.token_names c.self.inside.marks) c.self.invariant.kept.named c.args.port there in
     let by_handle : c.names.result ≡ has (has_name_of (object.Port c.args.port)) c.self.inside.parts.items = c.names.ensures in
     rw (← c.self.view_is, held)
     (elim c.if-is_named.branch [
@@ -27,7 +27,7 @@ returns-then-is_named-2 c =
 pub returns-else-is_named-2 : goal.returns-else-is_named-2
 returns-else-is_named-2 c =
     let there = rw (← c.self.view_is) at c.requires in
-    let held = unheld.held_is (tables_of c.self.inside.procs c.self.inside.parts.items c.self.inside.ports c.self.inside.waits c.self.inside.names c.self.inside.sections c.self.inside.tokens c.self.inside.token_names c.self.inside.marks) c.self.invariant.named c.args.port there in
+    let held = unheld.held_is (tables_of c.self.inside.procs c.self.inside.parts.items c.self.inside.ports c.self.inside.waits c.self.inside.names c.self.inside.sections c.self.inside.tokens c.self.inside.token_names c.self.inside.marks) c.self.invariant.kept.named c.args.port there in
     let by_handle : c.names.result ≡ has (has_name_of (object.Port c.args.port)) c.self.inside.parts.items = c.names.ensures in
     rw (← c.self.view_is, held)
     (elim c.if-is_named.branch [

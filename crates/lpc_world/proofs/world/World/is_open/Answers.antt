@@ -1,7 +1,4 @@
 use Rattle.std.proofs.Common.{sym, ◌∙◌}
-use Rattle.lpc_base.specs.Rows.{has}
-use Rattle.lpc_homes.specs.Parts.{has_name_of}
-use Rattle.lpc_homes.specs.declared.object.Object.TheVariants as object
 use Rattle.lpc_rows.specs.Shown.{tables_of}
 use Rattle.lpc_rows.proofs.Readings as readings
 use Rattle.lpc_world.proofs.world.World.is_open.Goals as goal
@@ -9,4 +6,4 @@ use Rattle.lpc_world.proofs.world.World.is_open.Goals as goal
 pub returns : goal.returns
 returns c =
     let there = rw (← c.self.view_is) at c.requires in
-    rw (← c.self.view_is) (c.names.ensures ∙ sym (readings.open_is (tables_of c.self.inside.procs c.self.inside.parts.items c.self.inside.ports c.self.inside.waits c.self.inside.names c.self.inside.sections c.self.inside.tokens c.self.inside.token_names c.self.inside.marks) c.self.invariant.named c.args.port there))
+    rw (← c.self.view_is) (c.names.ensures ∙ sym (readings.open_is (tables_of c.self.inside.procs c.self.inside.parts.items c.self.inside.ports c.self.inside.waits c.self.inside.names c.self.inside.sections c.self.inside.tokens c.self.inside.token_names c.self.inside.marks) c.self.invariant.kept.named c.args.port there))

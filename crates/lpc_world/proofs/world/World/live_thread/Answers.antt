@@ -39,9 +39,9 @@ returns-clause-row c = rw (← c.self.view_is, c.live_row.ensures.row) (sym (liv
 pub returns-clause-table : goal.returns-clause-table
 returns-clause-table c =
     let w : World = rows_by (tables_of c.self.inside.procs c.self.inside.parts.items c.self.inside.ports c.self.inside.waits c.self.inside.names c.self.inside.sections c.self.inside.tokens c.self.inside.token_names c.self.inside.marks) in
-    rw (← c.self.view_is) (has_table w c.args.tid c.live_row.result c.self.invariant.lawful.housed (live-called c.args.tid c.self.inside.procs.threads ∙ sym c.live_row.ensures.row))
+    rw (← c.self.view_is) (has_table w c.args.tid c.live_row.result c.self.invariant.kept.lawful.housed (live-called c.args.tid c.self.inside.procs.threads ∙ sym c.live_row.ensures.row))
 
 pub returns-clause-process : goal.returns-clause-process
 returns-clause-process c =
     let w : World = rows_by (tables_of c.self.inside.procs c.self.inside.parts.items c.self.inside.ports c.self.inside.waits c.self.inside.names c.self.inside.sections c.self.inside.tokens c.self.inside.token_names c.self.inside.marks) in
-    rw (← c.self.view_is) (has_process w c.args.tid c.live_row.result c.self.invariant.lawful.housed (live-called c.args.tid c.self.inside.procs.threads ∙ sym c.live_row.ensures.row))
+    rw (← c.self.view_is) (has_process w c.args.tid c.live_row.result c.self.invariant.kept.lawful.housed (live-called c.args.tid c.self.inside.procs.threads ∙ sym c.live_row.ensures.row))

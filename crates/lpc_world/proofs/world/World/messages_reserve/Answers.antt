@@ -9,7 +9,11 @@ use Rattle.lpc_rows.proofs.Steps as steps
 use Rattle.lpc_world.proofs.world.World.messages_reserve.Goals as goal
 
 pub invariant_of-self : goal.invariant_of-self
-invariant_of-self c = rw c.reserve.ensures.kept (steps.roomed_ports (tables_of c.self.inside.procs c.self.inside.parts.items c.self.inside.ports c.self.inside.waits c.self.inside.names c.self.inside.sections c.self.inside.tokens c.self.inside.token_names c.self.inside.marks) c.self.inside.calls c.self.inside.made c.self.invariant c.reserve.new.self.port_room c.reserve.new.self.message_room c.reserve.ensures.message_room)
+invariant_of-self c = record {
+  kept =
+      rw c.reserve.ensures.kept (steps.roomed_ports (tables_of c.self.inside.procs c.self.inside.parts.items c.self.inside.ports c.self.inside.waits c.self.inside.names c.self.inside.sections c.self.inside.tokens c.self.inside.token_names c.self.inside.marks) c.self.inside.calls c.self.inside.made c.self.invariant.kept c.reserve.new.self.port_room c.reserve.new.self.message_room c.reserve.ensures.message_room);
+  watched = rw (c.reserve.ensures.kept) (c.self.invariant.watched);
+}
 
 pub returns-clause-same : goal.returns-clause-same
 returns-clause-same c = rw (← c.self.view_is, c.reserve.ensures.kept) (record { rows = refl; births = refl; calls = refl; made = refl; loose = refl })
@@ -28,7 +32,7 @@ returns-clause-messages c =
 pub returns-clause-wanting : goal.returns-clause-wanting
 returns-clause-wanting c =
     let owed = rw (← c.self.view_is) at c.owed_messages.ensures.owed in
-    rw (← c.self.view_is) (on_err_weaker c.reserve.result (λ (less : 0 ≤ c.self.inside.ports.port_room → c.self.inside.ports.message_room < c.owed_messages.result + c.args.more). let less_still = less (omega arith) in omega (arith, less_still, owed, c.self.invariant.lawful.messages_fit)) c.reserve.ensures.wanting)
+    rw (← c.self.view_is) (on_err_weaker c.reserve.result (λ (less : 0 ≤ c.self.inside.ports.port_room → c.self.inside.ports.message_room < c.owed_messages.result + c.args.more). let less_still = less (omega arith) in omega (arith, less_still, owed, c.self.invariant.kept.lawful.messages_fit)) c.reserve.ensures.wanting)
 
 pub returns-clause-most : goal.returns-clause-most
 returns-clause-most c =
@@ -42,5 +46,5 @@ returns-clause-enough c =
     let there = rw (← c.self.view_is) at some in
     let owed = rw (← c.self.view_is) at c.owed_messages.ensures.owed in
     let ports = c.reserve.ensures.enough_ports (omega arith) in
-    let messages = c.reserve.ensures.enough_messages (omega (arith, there, owed, c.self.invariant.lawful.messages_fit)) in
+    let messages = c.reserve.ensures.enough_messages (omega (arith, there, owed, c.self.invariant.kept.lawful.messages_fit)) in
     rw (← c.self.view_is, c.reserve.ensures.kept, ports, messages) refl

@@ -4,14 +4,14 @@ use Rattle.lpc_rows.proofs.Bound as bound
 use Rattle.lpc_world.proofs.world.World.names_add_link.Goals as goal
 
 pub returns-clause-bound : goal.returns-clause-bound
-returns-clause-bound c = rw (← c.self.view_is) (bound.link_clause (tables_of c.self.inside.procs c.self.inside.parts.items c.self.inside.ports c.self.inside.waits c.self.inside.names c.self.inside.sections c.self.inside.tokens c.self.inside.token_names c.self.inside.marks) c.self.invariant.named c.add_link.new.self c.args.path.now c.args.target.now c.add_link.result c.add_link.ensures.bound)
+returns-clause-bound c = rw (← c.self.view_is) (bound.link_clause (tables_of c.self.inside.procs c.self.inside.parts.items c.self.inside.ports c.self.inside.waits c.self.inside.names c.self.inside.sections c.self.inside.tokens c.self.inside.token_names c.self.inside.marks) c.self.invariant.kept.named c.add_link.new.self c.args.path.now c.args.target.now c.add_link.result c.add_link.ensures.bound)
 
 pub returns-clause-refused : goal.returns-clause-refused
-returns-clause-refused c = rw (← c.self.view_is) (bound.refused_link_clause (tables_of c.self.inside.procs c.self.inside.parts.items c.self.inside.ports c.self.inside.waits c.self.inside.names c.self.inside.sections c.self.inside.tokens c.self.inside.token_names c.self.inside.marks) c.self.invariant.named c.add_link.new.self c.args.path.now c.args.target.now c.add_link.result c.add_link.ensures.refused)
+returns-clause-refused c = rw (← c.self.view_is) (bound.refused_link_clause (tables_of c.self.inside.procs c.self.inside.parts.items c.self.inside.ports c.self.inside.waits c.self.inside.names c.self.inside.sections c.self.inside.tokens c.self.inside.token_names c.self.inside.marks) c.self.invariant.kept.named c.add_link.new.self c.args.path.now c.args.target.now c.add_link.result c.add_link.ensures.refused)
 
 pub returns-clause-kept : goal.returns-clause-kept
 returns-clause-kept c =
     λ err.
     let there = rw (← c.self.view_is) at err in
-    let same = bound.kept_link_clause (tables_of c.self.inside.procs c.self.inside.parts.items c.self.inside.ports c.self.inside.waits c.self.inside.names c.self.inside.sections c.self.inside.tokens c.self.inside.token_names c.self.inside.marks) c.self.invariant.named c.add_link.new.self c.args.path.now c.args.target.now c.add_link.result c.add_link.ensures.bound c.add_link.ensures.refused c.add_link.ensures.left there in
+    let same = bound.kept_link_clause (tables_of c.self.inside.procs c.self.inside.parts.items c.self.inside.ports c.self.inside.waits c.self.inside.names c.self.inside.sections c.self.inside.tokens c.self.inside.token_names c.self.inside.marks) c.self.invariant.kept.named c.add_link.new.self c.args.path.now c.args.target.now c.add_link.result c.add_link.ensures.bound c.add_link.ensures.refused c.add_link.ensures.left there in
     rw (← c.self.view_is, same) refl

@@ -8,7 +8,11 @@ pub add-requires-clause-new : goal.add-requires-clause-new
 add-requires-clause-new c = named.none_named (tables_of c.self.inside.procs c.self.inside.parts.items c.self.inside.ports c.self.inside.waits c.self.inside.names c.self.inside.sections c.self.inside.tokens c.self.inside.token_names c.self.inside.marks) c.args.name.now (rw (← c.self.view_is) at c.requires.new)
 
 pub invariant_of-self : goal.invariant_of-self
-invariant_of-self c = named.named_lawful (tables_of c.self.inside.procs c.self.inside.parts.items c.self.inside.ports c.self.inside.waits c.self.inside.names c.self.inside.sections c.self.inside.tokens c.self.inside.token_names c.self.inside.marks) c.self.inside.calls c.self.inside.made c.add.new.self c.self.invariant
+invariant_of-self c = record {
+  kept =
+      named.named_lawful (tables_of c.self.inside.procs c.self.inside.parts.items c.self.inside.ports c.self.inside.waits c.self.inside.names c.self.inside.sections c.self.inside.tokens c.self.inside.token_names c.self.inside.marks) c.self.inside.calls c.self.inside.made c.add.new.self c.self.invariant.kept;
+  watched = c.self.invariant.watched;
+}
 
 pub returns-clause-rows : goal.returns-clause-rows
 returns-clause-rows c = rw (← c.self.view_is, c.add.ensures.rows, push-map shown_token_name c.self.inside.token_names.rows (record { name = c.args.name.now; token = c.args.token })) refl

@@ -14,4 +14,4 @@ returns-clause-owed c =
 pub returns-clause-few : goal.returns-clause-few
 returns-clause-few c =
     let threads = length-map c.self.inside.procs.threads shown_thread in
-    rw (← c.self.view_is) (omega (arith, threads, c.alive.ensures.bound, c.self.invariant.lawful.rows, c.saturating_sub.ensures))
+    rw (← c.self.view_is) (omega (arith, threads, c.alive.ensures.bound, c.self.invariant.kept.lawful.rows, c.saturating_sub.ensures))

@@ -10,7 +10,7 @@ pub returns-clause-views : goal.returns-clause-views
 returns-clause-views c = rw (← c.self.view_is) (ap (map (shown_space (birth_of (births_of (tables_of c.self.inside.procs c.self.inside.parts.items c.self.inside.ports c.self.inside.waits c.self.inside.names c.self.inside.sections c.self.inside.tokens c.self.inside.token_names c.self.inside.marks))))) (sym c.items.ensures.items))
 
 pub returns-clause-handles_stand : goal.returns-clause-handles_stand
-returns-clause-handles_stand c = rw (← c.self.view_is) (ap (every (all_pass part_refs (object_stands (births_of (tables_of c.self.inside.procs c.self.inside.parts.items c.self.inside.ports c.self.inside.waits c.self.inside.names c.self.inside.sections c.self.inside.tokens c.self.inside.token_names c.self.inside.marks))))) c.items.ensures.items ∙ c.self.invariant.named.refs.in_handles)
+returns-clause-handles_stand c = rw (← c.self.view_is) (ap (every (all_pass part_refs (object_stands (births_of (tables_of c.self.inside.procs c.self.inside.parts.items c.self.inside.ports c.self.inside.waits c.self.inside.names c.self.inside.sections c.self.inside.tokens c.self.inside.token_names c.self.inside.marks))))) c.items.ensures.items ∙ c.self.invariant.kept.named.refs.in_handles)
 
 pub returns-clause-views_stand : goal.returns-clause-views_stand
-returns-clause-views_stand c = rw (← c.self.view_is) (ap (every (all_pass space_refs (object_stands (births_of (tables_of c.self.inside.procs c.self.inside.parts.items c.self.inside.ports c.self.inside.waits c.self.inside.names c.self.inside.sections c.self.inside.tokens c.self.inside.token_names c.self.inside.marks))))) c.items.ensures.items ∙ c.self.invariant.named.refs.in_views)
+returns-clause-views_stand c = rw (← c.self.view_is) (ap (every (all_pass space_refs (object_stands (births_of (tables_of c.self.inside.procs c.self.inside.parts.items c.self.inside.ports c.self.inside.waits c.self.inside.names c.self.inside.sections c.self.inside.tokens c.self.inside.token_names c.self.inside.marks))))) c.items.ensures.items ∙ c.self.invariant.kept.named.refs.in_views)

@@ -13,51 +13,56 @@ use Rattle.std.proofs.Common.{◌∙◌, length}
 use Rattle.lpc_ports.specs.Table.{PortTable}
 use Rattle.lpc_ports.specs.Table as ports
 use Rattle.lpc_rows.proofs.Capacities as capacities
+use Rattle.lpc_rows.proofs.Suspected as suspected
+use Rattle.lpc_rows.proofs.Suspecting as suspecting
 use Rattle.lpc_world.proofs.world.World.ports_pull.Goals as goal
 
 pub returns-in_err-message-clause-message : goal.returns-in_err-message-clause-message
 returns-in_err-message-clause-message c =
     let there = rw (← c.self.view_is) at c.requires in
-    rw (← c.self.view_is, steps.none_queued (tables_of c.self.inside.procs c.self.inside.parts.items c.self.inside.ports c.self.inside.waits c.self.inside.names c.self.inside.sections c.self.inside.tokens c.self.inside.token_names c.self.inside.marks) c.self.inside.calls c.self.inside.made c.self.invariant c.args.queue there (sym c.in_err-message.ensures)) (search rules)
+    rw (← c.self.view_is, steps.none_queued (tables_of c.self.inside.procs c.self.inside.parts.items c.self.inside.ports c.self.inside.waits c.self.inside.names c.self.inside.sections c.self.inside.tokens c.self.inside.token_names c.self.inside.marks) c.self.inside.calls c.self.inside.made c.self.invariant.kept c.args.queue there (sym c.in_err-message.ensures)) (search rules)
 
-pub pull-requires : goal.pull-requires
-pull-requires c = record { stands = steps.some_message (tables_of c.self.inside.procs c.self.inside.parts.items c.self.inside.ports c.self.inside.waits c.self.inside.names c.self.inside.sections c.self.inside.tokens c.self.inside.token_names c.self.inside.marks) c.self.inside.calls c.self.inside.made c.self.invariant c.args.queue c.in_ok-message.message (sym c.in_ok-message.ensures) }
+pub pull-pulled-requires : goal.pull-pulled-requires
+pull-pulled-requires c = record { stands = steps.some_message (tables_of c.self.inside.procs c.self.inside.parts.items c.self.inside.ports c.self.inside.waits c.self.inside.names c.self.inside.sections c.self.inside.tokens c.self.inside.token_names c.self.inside.marks) c.self.inside.calls c.self.inside.made c.self.invariant.kept c.args.queue c.in_ok-message.message (sym c.in_ok-message.ensures) }
 
 pub invariant_of-self : goal.invariant_of-self
-invariant_of-self c =
-    let there = rw (← c.self.view_is) at c.requires in
-    let at = sym c.in_ok-message.ensures in
-    let found = steps.first_message (tables_of c.self.inside.procs c.self.inside.parts.items c.self.inside.ports c.self.inside.waits c.self.inside.names c.self.inside.sections c.self.inside.tokens c.self.inside.token_names c.self.inside.marks) c.self.inside.calls c.self.inside.made c.self.invariant c.args.queue c.pull.result there (c.pull.ensures.first c.args.queue at) in
-    rw (steps.oldest (tables_of c.self.inside.procs c.self.inside.parts.items c.self.inside.ports c.self.inside.waits c.self.inside.names c.self.inside.sections c.self.inside.tokens c.self.inside.token_names c.self.inside.marks) c.self.inside.calls c.self.inside.made c.self.invariant c.args.queue c.in_ok-message.message c.pull.new.self c.pull.ensures.table (c.pull.ensures.oldest c.args.queue at)) (steps.taken (tables_of c.self.inside.procs c.self.inside.parts.items c.self.inside.ports c.self.inside.waits c.self.inside.names c.self.inside.sections c.self.inside.tokens c.self.inside.token_names c.self.inside.marks) c.self.inside.calls c.self.inside.made c.self.invariant c.args.queue (pulled_row (births_of (tables_of c.self.inside.procs c.self.inside.parts.items c.self.inside.ports c.self.inside.waits c.self.inside.names c.self.inside.sections c.self.inside.tokens c.self.inside.token_names c.self.inside.marks)) c.args.queue c.pull.result) there found)
+invariant_of-self c = record {
+  kept =
+      let there = rw (← c.self.view_is) at c.requires in
+      let at = sym c.in_ok-message.ensures in
+      let found = steps.first_message (tables_of c.self.inside.procs c.self.inside.parts.items c.self.inside.ports c.self.inside.waits c.self.inside.names c.self.inside.sections c.self.inside.tokens c.self.inside.token_names c.self.inside.marks) c.self.inside.calls c.self.inside.made c.self.invariant.kept c.args.queue c.pull-pulled.result there (c.pull-pulled.ensures.first c.args.queue at) in
+      rw (steps.oldest (tables_of c.self.inside.procs c.self.inside.parts.items c.self.inside.ports c.self.inside.waits c.self.inside.names c.self.inside.sections c.self.inside.tokens c.self.inside.token_names c.self.inside.marks) c.self.inside.calls c.self.inside.made c.self.invariant.kept c.args.queue c.in_ok-message.message c.pull-pulled.new.self c.pull-pulled.ensures.table (c.pull-pulled.ensures.oldest c.args.queue at)) (steps.taken (tables_of c.self.inside.procs c.self.inside.parts.items c.self.inside.ports c.self.inside.waits c.self.inside.names c.self.inside.sections c.self.inside.tokens c.self.inside.token_names c.self.inside.marks) c.self.inside.calls c.self.inside.made c.self.invariant.kept c.args.queue (pulled_row (births_of (tables_of c.self.inside.procs c.self.inside.parts.items c.self.inside.ports c.self.inside.waits c.self.inside.names c.self.inside.sections c.self.inside.tokens c.self.inside.token_names c.self.inside.marks)) c.args.queue c.pull-pulled.result) there found);
+  watched = let there = rw (← c.self.view_is) at c.requires in let at = sym c.in_ok-message.ensures in let found = steps.first_message (tables_of c.self.inside.procs c.self.inside.parts.items c.self.inside.ports c.self.inside.waits c.self.inside.names c.self.inside.sections c.self.inside.tokens c.self.inside.token_names c.self.inside.marks) c.self.inside.calls c.self.inside.made c.self.invariant.kept c.args.queue c.pull-pulled.result there (c.pull-pulled.ensures.first c.args.queue at) in rw (steps.oldest (tables_of c.self.inside.procs c.self.inside.parts.items c.self.inside.ports c.self.inside.waits c.self.inside.names c.self.inside.sections c.self.inside.tokens c.self.inside.token_names c.self.inside.marks) c.self.inside.calls c.self.inside.made c.self.invariant.kept c.args.queue c.in_ok-message.message c.pull-pulled.new.self c.pull-pulled.ensures.table (c.pull-pulled.ensures.oldest c.args.queue at), c.add.ensures) (suspected.taken-to (rows_by (tables_of c.self.inside.procs c.self.inside.parts.items c.self.inside.ports c.self.inside.waits c.self.inside.names c.self.inside.sections c.self.inside.tokens c.self.inside.token_names c.self.inside.marks)) (births_of (tables_of c.self.inside.procs c.self.inside.parts.items c.self.inside.ports c.self.inside.waits c.self.inside.names c.self.inside.sections c.self.inside.tokens c.self.inside.token_names c.self.inside.marks)).ports c.self.inside.suspects c.self.invariant.watched _ (is_queued (name_of (births_of (tables_of c.self.inside.procs c.self.inside.parts.items c.self.inside.ports c.self.inside.waits c.self.inside.names c.self.inside.sections c.self.inside.tokens c.self.inside.token_names c.self.inside.marks)).ports c.args.queue)) (pulled_row (births_of (tables_of c.self.inside.procs c.self.inside.parts.items c.self.inside.ports c.self.inside.waits c.self.inside.names c.self.inside.sections c.self.inside.tokens c.self.inside.token_names c.self.inside.marks)) c.args.queue c.pull-pulled.result) c.pull-pulled.result.sender found refl (suspecting.sender-stands (tables_of c.self.inside.procs c.self.inside.parts.items c.self.inside.ports c.self.inside.waits c.self.inside.names c.self.inside.sections c.self.inside.tokens c.self.inside.token_names c.self.inside.marks) c.self.invariant.kept.named (ports.is_in c.args.queue) c.pull-pulled.result (c.pull-pulled.ensures.first c.args.queue at)) (changes.takes (tables_of c.self.inside.procs c.self.inside.parts.items c.self.inside.ports c.self.inside.waits c.self.inside.names c.self.inside.sections c.self.inside.tokens c.self.inside.token_names c.self.inside.marks) c.self.invariant.kept.named c.args.queue (c.self.inside.ports.message_room + 1) there));
+}
 
 pub returns-clause-message : goal.returns-clause-message
 returns-clause-message c =
     let there = rw (← c.self.view_is) at c.requires in
     let at = sym c.in_ok-message.ensures in
-    rw (← c.self.view_is) (sym (steps.first_message (tables_of c.self.inside.procs c.self.inside.parts.items c.self.inside.ports c.self.inside.waits c.self.inside.names c.self.inside.sections c.self.inside.tokens c.self.inside.token_names c.self.inside.marks) c.self.inside.calls c.self.inside.made c.self.invariant c.args.queue c.pull.result there (c.pull.ensures.first c.args.queue at)))
+    rw (← c.self.view_is) (sym (steps.first_message (tables_of c.self.inside.procs c.self.inside.parts.items c.self.inside.ports c.self.inside.waits c.self.inside.names c.self.inside.sections c.self.inside.tokens c.self.inside.token_names c.self.inside.marks) c.self.inside.calls c.self.inside.made c.self.invariant.kept c.args.queue c.pull-pulled.result there (c.pull-pulled.ensures.first c.args.queue at)))
 
 pub returns-clause-left : goal.returns-clause-left
 returns-clause-left c =
     let there = rw (← c.self.view_is) at c.requires in
     let at = sym c.in_ok-message.ensures in
-    let found = steps.first_message (tables_of c.self.inside.procs c.self.inside.parts.items c.self.inside.ports c.self.inside.waits c.self.inside.names c.self.inside.sections c.self.inside.tokens c.self.inside.token_names c.self.inside.marks) c.self.inside.calls c.self.inside.made c.self.invariant c.args.queue c.pull.result there (c.pull.ensures.first c.args.queue at) in
-    rw (steps.oldest (tables_of c.self.inside.procs c.self.inside.parts.items c.self.inside.ports c.self.inside.waits c.self.inside.names c.self.inside.sections c.self.inside.tokens c.self.inside.token_names c.self.inside.marks) c.self.inside.calls c.self.inside.made c.self.invariant c.args.queue c.in_ok-message.message c.pull.new.self c.pull.ensures.table (c.pull.ensures.oldest c.args.queue at), ap (λ (v : World). v.messages) (changes.takes (tables_of c.self.inside.procs c.self.inside.parts.items c.self.inside.ports c.self.inside.waits c.self.inside.names c.self.inside.sections c.self.inside.tokens c.self.inside.token_names c.self.inside.marks) c.self.invariant.named c.args.queue (c.self.inside.ports.message_room + 1) there))
-    (left-pulled (is_queued (name_of (births_of (tables_of c.self.inside.procs c.self.inside.parts.items c.self.inside.ports c.self.inside.waits c.self.inside.names c.self.inside.sections c.self.inside.tokens c.self.inside.token_names c.self.inside.marks)).ports c.args.queue)) (rows_by (tables_of c.self.inside.procs c.self.inside.parts.items c.self.inside.ports c.self.inside.waits c.self.inside.names c.self.inside.sections c.self.inside.tokens c.self.inside.token_names c.self.inside.marks)) (pulled_row (births_of (tables_of c.self.inside.procs c.self.inside.parts.items c.self.inside.ports c.self.inside.waits c.self.inside.names c.self.inside.sections c.self.inside.tokens c.self.inside.token_names c.self.inside.marks)) c.args.queue c.pull.result) c.self.invariant.lawful.own c.self.invariant.lawful.single found)
+    let found = steps.first_message (tables_of c.self.inside.procs c.self.inside.parts.items c.self.inside.ports c.self.inside.waits c.self.inside.names c.self.inside.sections c.self.inside.tokens c.self.inside.token_names c.self.inside.marks) c.self.inside.calls c.self.inside.made c.self.invariant.kept c.args.queue c.pull-pulled.result there (c.pull-pulled.ensures.first c.args.queue at) in
+    rw (steps.oldest (tables_of c.self.inside.procs c.self.inside.parts.items c.self.inside.ports c.self.inside.waits c.self.inside.names c.self.inside.sections c.self.inside.tokens c.self.inside.token_names c.self.inside.marks) c.self.inside.calls c.self.inside.made c.self.invariant.kept c.args.queue c.in_ok-message.message c.pull-pulled.new.self c.pull-pulled.ensures.table (c.pull-pulled.ensures.oldest c.args.queue at), ap (λ (v : World). v.messages) (changes.takes (tables_of c.self.inside.procs c.self.inside.parts.items c.self.inside.ports c.self.inside.waits c.self.inside.names c.self.inside.sections c.self.inside.tokens c.self.inside.token_names c.self.inside.marks) c.self.invariant.kept.named c.args.queue (c.self.inside.ports.message_room + 1) there))
+    (left-pulled (is_queued (name_of (births_of (tables_of c.self.inside.procs c.self.inside.parts.items c.self.inside.ports c.self.inside.waits c.self.inside.names c.self.inside.sections c.self.inside.tokens c.self.inside.token_names c.self.inside.marks)).ports c.args.queue)) (rows_by (tables_of c.self.inside.procs c.self.inside.parts.items c.self.inside.ports c.self.inside.waits c.self.inside.names c.self.inside.sections c.self.inside.tokens c.self.inside.token_names c.self.inside.marks)) (pulled_row (births_of (tables_of c.self.inside.procs c.self.inside.parts.items c.self.inside.ports c.self.inside.waits c.self.inside.names c.self.inside.sections c.self.inside.tokens c.self.inside.token_names c.self.inside.marks)) c.args.queue c.pull-pulled.result) c.self.invariant.kept.lawful.own c.self.invariant.kept.lawful.single found)
 
 pub returns-clause-unqueued : goal.returns-clause-unqueued
 returns-clause-unqueued c =
     let there = rw (← c.self.view_is) at c.requires in
     let at = sym c.in_ok-message.ensures in
-    rw (← c.self.view_is, steps.oldest (tables_of c.self.inside.procs c.self.inside.parts.items c.self.inside.ports c.self.inside.waits c.self.inside.names c.self.inside.sections c.self.inside.tokens c.self.inside.token_names c.self.inside.marks) c.self.inside.calls c.self.inside.made c.self.invariant c.args.queue c.in_ok-message.message c.pull.new.self c.pull.ensures.table (c.pull.ensures.oldest c.args.queue at), ap (λ (v : World). v.messages) (changes.takes (tables_of c.self.inside.procs c.self.inside.parts.items c.self.inside.ports c.self.inside.waits c.self.inside.names c.self.inside.sections c.self.inside.tokens c.self.inside.token_names c.self.inside.marks) c.self.invariant.named c.args.queue (c.self.inside.ports.message_room + 1) there))
+    rw (← c.self.view_is, steps.oldest (tables_of c.self.inside.procs c.self.inside.parts.items c.self.inside.ports c.self.inside.waits c.self.inside.names c.self.inside.sections c.self.inside.tokens c.self.inside.token_names c.self.inside.marks) c.self.inside.calls c.self.inside.made c.self.invariant.kept c.args.queue c.in_ok-message.message c.pull-pulled.new.self c.pull-pulled.ensures.table (c.pull-pulled.ensures.oldest c.args.queue at), ap (λ (v : World). v.messages) (changes.takes (tables_of c.self.inside.procs c.self.inside.parts.items c.self.inside.ports c.self.inside.waits c.self.inside.names c.self.inside.sections c.self.inside.tokens c.self.inside.token_names c.self.inside.marks) c.self.invariant.kept.named c.args.queue (c.self.inside.ports.message_room + 1) there))
     (unqueued-pulled (is_queued (name_of (births_of (tables_of c.self.inside.procs c.self.inside.parts.items c.self.inside.ports c.self.inside.waits c.self.inside.names c.self.inside.sections c.self.inside.tokens c.self.inside.token_names c.self.inside.marks)).ports c.args.queue)) (rows_by (tables_of c.self.inside.procs c.self.inside.parts.items c.self.inside.ports c.self.inside.waits c.self.inside.names c.self.inside.sections c.self.inside.tokens c.self.inside.token_names c.self.inside.marks)))
 
 pub returns-clause-long : goal.returns-clause-long
-returns-clause-long c = steps.long_message (tables_of c.self.inside.procs c.self.inside.parts.items c.self.inside.ports c.self.inside.waits c.self.inside.names c.self.inside.sections c.self.inside.tokens c.self.inside.token_names c.self.inside.marks) c.self.inside.calls c.self.inside.made c.self.invariant c.args.queue c.pull.result (c.pull.ensures.first c.args.queue (sym c.in_ok-message.ensures))
+returns-clause-long c = steps.long_message (tables_of c.self.inside.procs c.self.inside.parts.items c.self.inside.ports c.self.inside.waits c.self.inside.names c.self.inside.sections c.self.inside.tokens c.self.inside.token_names c.self.inside.marks) c.self.inside.calls c.self.inside.made c.self.invariant.kept c.args.queue c.pull-pulled.result (c.pull-pulled.ensures.first c.args.queue (sym c.in_ok-message.ensures))
 
 pub returns-in_err-message-clause-step : goal.returns-in_err-message-clause-step
 returns-in_err-message-clause-step c = record {
   rows = let there = rw (← c.self.view_is) at c.requires in
-      let none = steps.none_queued (tables_of c.self.inside.procs c.self.inside.parts.items c.self.inside.ports c.self.inside.waits c.self.inside.names c.self.inside.sections c.self.inside.tokens c.self.inside.token_names c.self.inside.marks) c.self.inside.calls c.self.inside.made c.self.invariant c.args.queue there (sym c.in_err-message.ensures) in
+      let none = steps.none_queued (tables_of c.self.inside.procs c.self.inside.parts.items c.self.inside.ports c.self.inside.waits c.self.inside.names c.self.inside.sections c.self.inside.tokens c.self.inside.token_names c.self.inside.marks) c.self.inside.calls c.self.inside.made c.self.invariant.kept c.args.queue there (sym c.in_err-message.ensures) in
       rw (← c.self.view_is) (ap (λ ms. record (rows_by (tables_of c.self.inside.procs c.self.inside.parts.items c.self.inside.ports c.self.inside.waits c.self.inside.names c.self.inside.sections c.self.inside.tokens c.self.inside.token_names c.self.inside.marks)) { messages = ms }) (sym (without_first-none _ _ none)));
   births = rw (← c.self.view_is) refl;
   calls = rw (← c.self.view_is) refl;
@@ -69,21 +74,21 @@ pub returns-clause-step : goal.returns-clause-step
 returns-clause-step c = record {
   rows = let there = rw (← c.self.view_is) at c.requires in
       let at = sym c.in_ok-message.ensures in
-      rw (← c.self.view_is, steps.oldest (tables_of c.self.inside.procs c.self.inside.parts.items c.self.inside.ports c.self.inside.waits c.self.inside.names c.self.inside.sections c.self.inside.tokens c.self.inside.token_names c.self.inside.marks) c.self.inside.calls c.self.inside.made c.self.invariant c.args.queue c.in_ok-message.message c.pull.new.self c.pull.ensures.table (c.pull.ensures.oldest c.args.queue at)) (changes.takes (tables_of c.self.inside.procs c.self.inside.parts.items c.self.inside.ports c.self.inside.waits c.self.inside.names c.self.inside.sections c.self.inside.tokens c.self.inside.token_names c.self.inside.marks) c.self.invariant.named c.args.queue (c.self.inside.ports.message_room + 1) there);
+      rw (← c.self.view_is, steps.oldest (tables_of c.self.inside.procs c.self.inside.parts.items c.self.inside.ports c.self.inside.waits c.self.inside.names c.self.inside.sections c.self.inside.tokens c.self.inside.token_names c.self.inside.marks) c.self.inside.calls c.self.inside.made c.self.invariant.kept c.args.queue c.in_ok-message.message c.pull-pulled.new.self c.pull-pulled.ensures.table (c.pull-pulled.ensures.oldest c.args.queue at)) (changes.takes (tables_of c.self.inside.procs c.self.inside.parts.items c.self.inside.ports c.self.inside.waits c.self.inside.names c.self.inside.sections c.self.inside.tokens c.self.inside.token_names c.self.inside.marks) c.self.invariant.kept.named c.args.queue (c.self.inside.ports.message_room + 1) there);
   births = let at = sym c.in_ok-message.ensures in
-      rw (← c.self.view_is, steps.oldest (tables_of c.self.inside.procs c.self.inside.parts.items c.self.inside.ports c.self.inside.waits c.self.inside.names c.self.inside.sections c.self.inside.tokens c.self.inside.token_names c.self.inside.marks) c.self.inside.calls c.self.inside.made c.self.invariant c.args.queue c.in_ok-message.message c.pull.new.self c.pull.ensures.table (c.pull.ensures.oldest c.args.queue at)) refl;
+      rw (← c.self.view_is, steps.oldest (tables_of c.self.inside.procs c.self.inside.parts.items c.self.inside.ports c.self.inside.waits c.self.inside.names c.self.inside.sections c.self.inside.tokens c.self.inside.token_names c.self.inside.marks) c.self.inside.calls c.self.inside.made c.self.invariant.kept c.args.queue c.in_ok-message.message c.pull-pulled.new.self c.pull-pulled.ensures.table (c.pull-pulled.ensures.oldest c.args.queue at)) refl;
   calls = rw (← c.self.view_is) refl;
   made = let at = sym c.in_ok-message.ensures in
-      rw (← c.self.view_is, steps.oldest (tables_of c.self.inside.procs c.self.inside.parts.items c.self.inside.ports c.self.inside.waits c.self.inside.names c.self.inside.sections c.self.inside.tokens c.self.inside.token_names c.self.inside.marks) c.self.inside.calls c.self.inside.made c.self.invariant c.args.queue c.in_ok-message.message c.pull.new.self c.pull.ensures.table (c.pull.ensures.oldest c.args.queue at)) refl;
+      rw (← c.self.view_is, steps.oldest (tables_of c.self.inside.procs c.self.inside.parts.items c.self.inside.ports c.self.inside.waits c.self.inside.names c.self.inside.sections c.self.inside.tokens c.self.inside.token_names c.self.inside.marks) c.self.inside.calls c.self.inside.made c.self.invariant.kept c.args.queue c.in_ok-message.message c.pull-pulled.new.self c.pull-pulled.ensures.table (c.pull-pulled.ensures.oldest c.args.queue at)) refl;
   room = let there = rw (← c.self.view_is) at c.requires in
       let at = sym c.in_ok-message.ensures in
-      let found = steps.first_message (tables_of c.self.inside.procs c.self.inside.parts.items c.self.inside.ports c.self.inside.waits c.self.inside.names c.self.inside.sections c.self.inside.tokens c.self.inside.token_names c.self.inside.marks) c.self.inside.calls c.self.inside.made c.self.invariant c.args.queue c.pull.result there (c.pull.ensures.first c.args.queue at) in
-      rw (← c.self.view_is, steps.oldest (tables_of c.self.inside.procs c.self.inside.parts.items c.self.inside.ports c.self.inside.waits c.self.inside.names c.self.inside.sections c.self.inside.tokens c.self.inside.token_names c.self.inside.marks) c.self.inside.calls c.self.inside.made c.self.invariant c.args.queue c.in_ok-message.message c.pull.new.self c.pull.ensures.table (c.pull.ensures.oldest c.args.queue at), ap (λ (v : World). v.messages) (changes.takes (tables_of c.self.inside.procs c.self.inside.parts.items c.self.inside.ports c.self.inside.waits c.self.inside.names c.self.inside.sections c.self.inside.tokens c.self.inside.token_names c.self.inside.marks) c.self.invariant.named c.args.queue (c.self.inside.ports.message_room + 1) there))
-      (rooms.room_take _ _ _ _ _ _ _ _ _ _ _ (rows_by (tables_of c.self.inside.procs c.self.inside.parts.items c.self.inside.ports c.self.inside.waits c.self.inside.names c.self.inside.sections c.self.inside.tokens c.self.inside.token_names c.self.inside.marks)) _ (name_of (births_of (tables_of c.self.inside.procs c.self.inside.parts.items c.self.inside.ports c.self.inside.waits c.self.inside.names c.self.inside.sections c.self.inside.tokens c.self.inside.token_names c.self.inside.marks)).ports c.args.queue) (pulled_row (births_of (tables_of c.self.inside.procs c.self.inside.parts.items c.self.inside.ports c.self.inside.waits c.self.inside.names c.self.inside.sections c.self.inside.tokens c.self.inside.token_names c.self.inside.marks)) c.args.queue c.pull.result) found);
+      let found = steps.first_message (tables_of c.self.inside.procs c.self.inside.parts.items c.self.inside.ports c.self.inside.waits c.self.inside.names c.self.inside.sections c.self.inside.tokens c.self.inside.token_names c.self.inside.marks) c.self.inside.calls c.self.inside.made c.self.invariant.kept c.args.queue c.pull-pulled.result there (c.pull-pulled.ensures.first c.args.queue at) in
+      rw (← c.self.view_is, steps.oldest (tables_of c.self.inside.procs c.self.inside.parts.items c.self.inside.ports c.self.inside.waits c.self.inside.names c.self.inside.sections c.self.inside.tokens c.self.inside.token_names c.self.inside.marks) c.self.inside.calls c.self.inside.made c.self.invariant.kept c.args.queue c.in_ok-message.message c.pull-pulled.new.self c.pull-pulled.ensures.table (c.pull-pulled.ensures.oldest c.args.queue at), ap (λ (v : World). v.messages) (changes.takes (tables_of c.self.inside.procs c.self.inside.parts.items c.self.inside.ports c.self.inside.waits c.self.inside.names c.self.inside.sections c.self.inside.tokens c.self.inside.token_names c.self.inside.marks) c.self.invariant.kept.named c.args.queue (c.self.inside.ports.message_room + 1) there))
+      (rooms.room_take _ _ _ _ _ _ _ _ _ _ _ (rows_by (tables_of c.self.inside.procs c.self.inside.parts.items c.self.inside.ports c.self.inside.waits c.self.inside.names c.self.inside.sections c.self.inside.tokens c.self.inside.token_names c.self.inside.marks)) _ (name_of (births_of (tables_of c.self.inside.procs c.self.inside.parts.items c.self.inside.ports c.self.inside.waits c.self.inside.names c.self.inside.sections c.self.inside.tokens c.self.inside.token_names c.self.inside.marks)).ports c.args.queue) (pulled_row (births_of (tables_of c.self.inside.procs c.self.inside.parts.items c.self.inside.ports c.self.inside.waits c.self.inside.names c.self.inside.sections c.self.inside.tokens c.self.inside.token_names c.self.inside.marks)) c.args.queue c.pull-pulled.result) found);
 }
 
 pub returns-clause-capacity : goal.returns-clause-capacity
 returns-clause-capacity c =
     rw (← c.self.view_is)
-    (capacities.of_ports (tables_of c.self.inside.procs c.self.inside.parts.items c.self.inside.ports c.self.inside.waits c.self.inside.names c.self.inside.sections c.self.inside.tokens c.self.inside.token_names c.self.inside.marks) c.self.inside.parts.room c.pull.new.self (ap (λ (s : PortTable). s.port_room + length s.ports) c.pull.ensures.table)
-    (ap (λ (s : PortTable). s.message_room + length s.messages) (steps.oldest (tables_of c.self.inside.procs c.self.inside.parts.items c.self.inside.ports c.self.inside.waits c.self.inside.names c.self.inside.sections c.self.inside.tokens c.self.inside.token_names c.self.inside.marks) c.self.inside.calls c.self.inside.made c.self.invariant c.args.queue c.in_ok-message.message c.pull.new.self c.pull.ensures.table (c.pull.ensures.oldest c.args.queue (sym c.in_ok-message.ensures))) ∙ capacities.first_less (ports.is_in c.args.queue) c.self.inside.ports.message_room c.self.inside.ports.messages c.in_ok-message.message (sym c.in_ok-message.ensures)))
+    (capacities.of_ports (tables_of c.self.inside.procs c.self.inside.parts.items c.self.inside.ports c.self.inside.waits c.self.inside.names c.self.inside.sections c.self.inside.tokens c.self.inside.token_names c.self.inside.marks) c.self.inside.parts.room c.pull-pulled.new.self (ap (λ (s : PortTable). s.port_room + length s.ports) c.pull-pulled.ensures.table)
+    (ap (λ (s : PortTable). s.message_room + length s.messages) (steps.oldest (tables_of c.self.inside.procs c.self.inside.parts.items c.self.inside.ports c.self.inside.waits c.self.inside.names c.self.inside.sections c.self.inside.tokens c.self.inside.token_names c.self.inside.marks) c.self.inside.calls c.self.inside.made c.self.invariant.kept c.args.queue c.in_ok-message.message c.pull-pulled.new.self c.pull-pulled.ensures.table (c.pull-pulled.ensures.oldest c.args.queue (sym c.in_ok-message.ensures))) ∙ capacities.first_less (ports.is_in c.args.queue) c.self.inside.ports.message_room c.self.inside.ports.messages c.in_ok-message.message (sym c.in_ok-message.ensures)))

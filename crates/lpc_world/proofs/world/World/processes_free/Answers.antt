@@ -5,12 +5,15 @@ use Rattle.lpc_rows.proofs.Vacated as vacated
 use Rattle.lpc_world.proofs.world.World.processes_free.Goals as goal
 
 pub invariant_of-self : goal.invariant_of-self
-invariant_of-self c =
-    let there = rw (← c.self.view_is) at c.requires in
-    rw c.free_process_born.ensures.table (vacated.process-gone (tables_of c.self.inside.procs c.self.inside.parts.items c.self.inside.ports c.self.inside.waits c.self.inside.names c.self.inside.sections c.self.inside.tokens c.self.inside.token_names c.self.inside.marks) c.self.inside.calls c.self.inside.made c.self.invariant c.args.birth c.free_process_born.new.self.process_room there.empty)
+invariant_of-self c = record {
+  kept =
+      let there = rw (← c.self.view_is) at c.requires in
+      rw c.free_process_born.ensures.table (vacated.process-gone (tables_of c.self.inside.procs c.self.inside.parts.items c.self.inside.ports c.self.inside.waits c.self.inside.names c.self.inside.sections c.self.inside.tokens c.self.inside.token_names c.self.inside.marks) c.self.inside.calls c.self.inside.made c.self.invariant.kept c.args.birth c.free_process_born.new.self.process_room there.empty);
+  watched = rw (c.add_any.ensures) (λ calm. absurd (cc));
+}
 
 pub returns-clause-rows : goal.returns-clause-rows
-returns-clause-rows c = rw (← c.self.view_is, c.free_process_born.ensures.table) (vacated.process-shown (tables_of c.self.inside.procs c.self.inside.parts.items c.self.inside.ports c.self.inside.waits c.self.inside.names c.self.inside.sections c.self.inside.tokens c.self.inside.token_names c.self.inside.marks) c.self.inside.calls c.self.inside.made c.self.invariant c.args.birth c.free_process_born.new.self.process_room)
+returns-clause-rows c = rw (← c.self.view_is, c.free_process_born.ensures.table) (vacated.process-shown (tables_of c.self.inside.procs c.self.inside.parts.items c.self.inside.ports c.self.inside.waits c.self.inside.names c.self.inside.sections c.self.inside.tokens c.self.inside.token_names c.self.inside.marks) c.self.inside.calls c.self.inside.made c.self.invariant.kept c.args.birth c.free_process_born.new.self.process_room)
 
 pub returns-clause-made : goal.returns-clause-made
 returns-clause-made c = rw (← c.self.view_is, c.free_process_born.ensures.table) (omega arith)

@@ -7,19 +7,26 @@ use Rattle.lpc_rows.proofs.Steps as steps
 use Rattle.lpc_rows.proofs.Tables as tables
 use Rattle.lpc_base.proofs.RowMaps.{push-map}
 use Rattle.lpc_homes.specs.Parts.{new_part}
+use Rattle.lpc_rows.proofs.Suspected as suspected
+use Rattle.lpc_rows.specs.Shown.{births_of}
+use Rattle.lpc_rows.specs.Shown.{shown_process}
+use Rattle.lpc_rows.proofs.Changes as changes
 use Rattle.lpc_world.proofs.world.World.procs_add_process.Goals as goal
 
 pub add-requires-clause-new : goal.add-requires-clause-new
 add-requires-clause-new c =
     let there = rw (← c.self.view_is) at c.requires in
     let rows = rows_by (tables_of c.self.inside.procs c.self.inside.parts.items c.self.inside.ports c.self.inside.waits c.self.inside.names c.self.inside.sections c.self.inside.tokens c.self.inside.token_names c.self.inside.marks) in
-    sym (tables.has_table (tables_of c.self.inside.procs c.self.inside.parts.items c.self.inside.ports c.self.inside.waits c.self.inside.names c.self.inside.sections c.self.inside.tokens c.self.inside.token_names c.self.inside.marks) c.self.inside.calls c.self.inside.made c.self.invariant c.args.pid) ∙ unused-table rows.used_processes c.args.pid rows.handles c.self.invariant.lawful.tables_used there.new
+    sym (tables.has_table (tables_of c.self.inside.procs c.self.inside.parts.items c.self.inside.ports c.self.inside.waits c.self.inside.names c.self.inside.sections c.self.inside.tokens c.self.inside.token_names c.self.inside.marks) c.self.inside.calls c.self.inside.made c.self.invariant.kept c.args.pid) ∙ unused-table rows.used_processes c.args.pid rows.handles c.self.invariant.kept.lawful.tables_used there.new
 
 pub invariant_of-self : goal.invariant_of-self
-invariant_of-self c =
-    let there = rw (← c.self.view_is) at c.requires in
-    rw (c.add_process.ensures.table, c.add.ensures.items)
-    (steps.added_process (tables_of c.self.inside.procs c.self.inside.parts.items c.self.inside.ports c.self.inside.waits c.self.inside.names c.self.inside.sections c.self.inside.tokens c.self.inside.token_names c.self.inside.marks) c.self.inside.calls c.self.inside.made c.self.invariant (record { number = c.args.pid; maker = c.args.maker; birth = c.args.birth; token = c.args.token.now; debug_port = None; exception_port = None; doom = None }) (new_part c.args.pid) (c.self.inside.procs.process_room - 1) refl refl refl refl refl there.budget there.new there.birth there.fresh)
+invariant_of-self c = record {
+  kept =
+      let there = rw (← c.self.view_is) at c.requires in
+      rw (c.add_process.ensures.table, c.add.ensures.items)
+      (steps.added_process (tables_of c.self.inside.procs c.self.inside.parts.items c.self.inside.ports c.self.inside.waits c.self.inside.names c.self.inside.sections c.self.inside.tokens c.self.inside.token_names c.self.inside.marks) c.self.inside.calls c.self.inside.made c.self.invariant.kept (record { number = c.args.pid; maker = c.args.maker; birth = c.args.birth; token = c.args.token.now; debug_port = None; exception_port = None; doom = None }) (new_part c.args.pid) (c.self.inside.procs.process_room - 1) refl refl refl refl refl there.budget there.new there.birth there.fresh);
+  watched = rw (c.add_process.ensures.table, c.add.ensures.items) (suspected.process-to (rows_by (tables_of c.self.inside.procs c.self.inside.parts.items c.self.inside.ports c.self.inside.waits c.self.inside.names c.self.inside.sections c.self.inside.tokens c.self.inside.token_names c.self.inside.marks)) (births_of (tables_of c.self.inside.procs c.self.inside.parts.items c.self.inside.ports c.self.inside.waits c.self.inside.names c.self.inside.sections c.self.inside.tokens c.self.inside.token_names c.self.inside.marks)).ports c.self.inside.suspects c.self.invariant.watched _ (shown_process (record { number = c.args.pid; maker = c.args.maker; birth = c.args.birth; token = c.args.token.now; debug_port = None; exception_port = None; doom = None })) (changes.adds_process (tables_of c.self.inside.procs c.self.inside.parts.items c.self.inside.ports c.self.inside.waits c.self.inside.names c.self.inside.sections c.self.inside.tokens c.self.inside.token_names c.self.inside.marks) c.self.invariant.kept.named (record { number = c.args.pid; maker = c.args.maker; birth = c.args.birth; token = c.args.token.now; debug_port = None; exception_port = None; doom = None }) (new_part c.args.pid) (c.self.inside.procs.process_room - 1) refl refl refl));
+}
 
 pub returns-clause-room : goal.returns-clause-room
 returns-clause-room c =
@@ -42,5 +49,5 @@ returns-clause-room c =
 
 pub returns-clause-made : goal.returns-clause-made
 returns-clause-made c =
-    let owed = steps.process_owed (tables_of c.self.inside.procs c.self.inside.parts.items c.self.inside.ports c.self.inside.waits c.self.inside.names c.self.inside.sections c.self.inside.tokens c.self.inside.token_names c.self.inside.marks) c.self.inside.calls c.self.inside.made c.self.invariant (record { number = c.args.pid; maker = c.args.maker; birth = c.args.birth; token = c.args.token.now; debug_port = None; exception_port = None; doom = None }) (new_part c.args.pid) (c.self.inside.procs.process_room - 1) refl refl refl in
+    let owed = steps.process_owed (tables_of c.self.inside.procs c.self.inside.parts.items c.self.inside.ports c.self.inside.waits c.self.inside.names c.self.inside.sections c.self.inside.tokens c.self.inside.token_names c.self.inside.marks) c.self.inside.calls c.self.inside.made c.self.invariant.kept (record { number = c.args.pid; maker = c.args.maker; birth = c.args.birth; token = c.args.token.now; debug_port = None; exception_port = None; doom = None }) (new_part c.args.pid) (c.self.inside.procs.process_room - 1) refl refl refl in
     rw (← c.self.view_is, c.add_process.ensures.table, c.add.ensures.items) (omega (arith, owed))

@@ -1,3 +1,4 @@
+use Rattle.lpc_rows.proofs.Registered.{registered-many}
 use Rattle.std.proofs.Common.{ap, refl, length, ◌∙◌, arith}
 use Rattle.lpc_model.specs.Basics.{ended}
 use Rattle.lpc_model.specs.World.{World}
@@ -6,21 +7,26 @@ use Rattle.lpc_rows.specs.Shown.{tables_of}
 use Rattle.lpc_rows.proofs.Dying.{fewer-alive}
 use Rattle.lpc_rows.proofs.Enrolling as enrolling
 use Rattle.lpc_rows.proofs.Registered.{registered-change}
+use Rattle.lpc_rows.proofs.Suspecting as suspecting
+use Rattle.lpc_rows.specs.Shown.{births_of}
 use Rattle.lpc_world.proofs.world.World.procs_end_thread.Goals as goal
 
 pub end_thread-requires : goal.end_thread-requires
 end_thread-requires c =
     let live = rw (← c.self.view_is) at c.requires.live in
-    record { present = enrolling.stands_live (tables_of c.self.inside.procs c.self.inside.parts.items c.self.inside.ports c.self.inside.waits c.self.inside.names c.self.inside.sections c.self.inside.tokens c.self.inside.token_names c.self.inside.marks) c.self.inside.calls c.self.inside.made c.self.invariant c.args.tid live }
+    record { present = enrolling.stands_live (tables_of c.self.inside.procs c.self.inside.parts.items c.self.inside.ports c.self.inside.waits c.self.inside.names c.self.inside.sections c.self.inside.tokens c.self.inside.token_names c.self.inside.marks) c.self.inside.calls c.self.inside.made c.self.invariant.kept c.args.tid live }
 
 pub invariant_of-self : goal.invariant_of-self
-invariant_of-self c =
-    let ready = rw (← c.self.view_is) at c.requires.ready in
-    rw c.end_thread.ensures.table (enrolling.ending-lawful (tables_of c.self.inside.procs c.self.inside.parts.items c.self.inside.ports c.self.inside.waits c.self.inside.names c.self.inside.sections c.self.inside.tokens c.self.inside.token_names c.self.inside.marks) c.self.inside.calls c.self.inside.made c.self.invariant c.args.tid ready)
+invariant_of-self c = record {
+  kept =
+      let ready = rw (← c.self.view_is) at c.requires.ready in
+      rw c.end_thread.ensures.table (enrolling.ending-lawful (tables_of c.self.inside.procs c.self.inside.parts.items c.self.inside.ports c.self.inside.waits c.self.inside.names c.self.inside.sections c.self.inside.tokens c.self.inside.token_names c.self.inside.marks) c.self.inside.calls c.self.inside.made c.self.invariant.kept c.args.tid ready);
+  watched = rw (c.end_thread.ensures.table, c.add_any_if.ensures) (suspecting.died-if-to (rows_by (tables_of c.self.inside.procs c.self.inside.parts.items c.self.inside.ports c.self.inside.waits c.self.inside.names c.self.inside.sections c.self.inside.tokens c.self.inside.token_names c.self.inside.marks)) (births_of (tables_of c.self.inside.procs c.self.inside.parts.items c.self.inside.ports c.self.inside.waits c.self.inside.names c.self.inside.sections c.self.inside.tokens c.self.inside.token_names c.self.inside.marks)).ports c.self.inside.suspects c.self.invariant.watched _ c.args.tid _ (enrolling.ends (tables_of c.self.inside.procs c.self.inside.parts.items c.self.inside.ports c.self.inside.waits c.self.inside.names c.self.inside.sections c.self.inside.tokens c.self.inside.token_names c.self.inside.marks) c.self.inside.calls c.self.inside.made c.self.invariant.kept c.args.tid) (λ none. let deaths = registered-many c.self.inside.procs.threads in let few = suspecting.not-above c.registrations-registered.result none in omega (arith, deaths, few, c.registrations-registered.ensures.count)));
+}
 
 pub returns-clause-step : goal.returns-clause-step
 returns-clause-step c =
-    let ends = enrolling.ends (tables_of c.self.inside.procs c.self.inside.parts.items c.self.inside.ports c.self.inside.waits c.self.inside.names c.self.inside.sections c.self.inside.tokens c.self.inside.token_names c.self.inside.marks) c.self.inside.calls c.self.inside.made c.self.invariant c.args.tid in
+    let ends = enrolling.ends (tables_of c.self.inside.procs c.self.inside.parts.items c.self.inside.ports c.self.inside.waits c.self.inside.names c.self.inside.sections c.self.inside.tokens c.self.inside.token_names c.self.inside.marks) c.self.inside.calls c.self.inside.made c.self.invariant.kept c.args.tid in
     let owed = ap (λ (v : World). length (registered_ports v)) ends ∙ ap length (registered-change ended (λ t. refl) c.args.tid (rows_by (tables_of c.self.inside.procs c.self.inside.parts.items c.self.inside.ports c.self.inside.waits c.self.inside.names c.self.inside.sections c.self.inside.tokens c.self.inside.token_names c.self.inside.marks)).threads) in
     let alive = fewer-alive c.args.tid (rows_by (tables_of c.self.inside.procs c.self.inside.parts.items c.self.inside.ports c.self.inside.waits c.self.inside.names c.self.inside.sections c.self.inside.tokens c.self.inside.token_names c.self.inside.marks)).threads in
     record {

@@ -1,4 +1,4 @@
-use Rattle.std.proofs.Common.{ap, refl, sym, ◌∙◌}
+use Rattle.std.proofs.Common.{refl, sym, ◌∙◌}
 use Rattle.lpc_rows.specs.Shown.{tables_of}
 use Rattle.lpc_rows.proofs.Raising as raising
 use Rattle.lpc_rows.proofs.Rooms as rooms
@@ -6,15 +6,18 @@ use Rattle.lpc_rows.proofs.Steps as steps
 use Rattle.lpc_world.proofs.world.World.procs_let_go.Goals as goal
 
 pub let_go-requires : goal.let_go-requires
-let_go-requires c = record { present = sym (steps.process_same (tables_of c.self.inside.procs c.self.inside.parts.items c.self.inside.ports c.self.inside.waits c.self.inside.names c.self.inside.sections c.self.inside.tokens c.self.inside.token_names c.self.inside.marks) c.self.inside.calls c.self.inside.made c.self.invariant c.args.pid) ∙ (rw (← c.self.view_is) at c.requires.process) }
+let_go-requires c = record { present = sym (steps.process_same (tables_of c.self.inside.procs c.self.inside.parts.items c.self.inside.ports c.self.inside.waits c.self.inside.names c.self.inside.sections c.self.inside.tokens c.self.inside.token_names c.self.inside.marks) c.self.inside.calls c.self.inside.made c.self.invariant.kept c.args.pid) ∙ (rw (← c.self.view_is) at c.requires.process) }
 
 pub invariant_of-self : goal.invariant_of-self
-invariant_of-self c =
-    rw c.let_go.ensures.table (raising.let-go-lawful (tables_of c.self.inside.procs c.self.inside.parts.items c.self.inside.ports c.self.inside.waits c.self.inside.names c.self.inside.sections c.self.inside.tokens c.self.inside.token_names c.self.inside.marks) c.self.inside.calls c.self.inside.made c.self.invariant c.args.pid)
+invariant_of-self c = record {
+  kept =
+      rw c.let_go.ensures.table (raising.let-go-lawful (tables_of c.self.inside.procs c.self.inside.parts.items c.self.inside.ports c.self.inside.waits c.self.inside.names c.self.inside.sections c.self.inside.tokens c.self.inside.token_names c.self.inside.marks) c.self.inside.calls c.self.inside.made c.self.invariant.kept c.args.pid);
+  watched = rw (c.add_any.ensures) (λ calm. absurd (cc));
+}
 
 pub returns-clause-step : goal.returns-clause-step
 returns-clause-step c = record {
-  rows = rw (← c.self.view_is, c.let_go.ensures.table) (raising.lets-go (tables_of c.self.inside.procs c.self.inside.parts.items c.self.inside.ports c.self.inside.waits c.self.inside.names c.self.inside.sections c.self.inside.tokens c.self.inside.token_names c.self.inside.marks) c.self.inside.calls c.self.inside.made c.self.invariant c.args.pid);
+  rows = rw (← c.self.view_is, c.let_go.ensures.table) (raising.lets-go (tables_of c.self.inside.procs c.self.inside.parts.items c.self.inside.ports c.self.inside.waits c.self.inside.names c.self.inside.sections c.self.inside.tokens c.self.inside.token_names c.self.inside.marks) c.self.inside.calls c.self.inside.made c.self.invariant.kept c.args.pid);
   births = rw (← c.self.view_is) refl;
   calls = rw (← c.self.view_is) refl;
   made = rw (← c.self.view_is, c.let_go.ensures.table) refl;

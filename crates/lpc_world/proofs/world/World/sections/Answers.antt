@@ -1,4 +1,4 @@
 use Rattle.lpc_world.proofs.world.World.sections.Goals as goal
 
 pub returns-clause-apart : goal.returns-clause-apart
-returns-clause-apart c = rw (← c.self.view_is) c.self.invariant.named.sections_apart
+returns-clause-apart c = rw (← c.self.view_is) c.self.invariant.kept.named.sections_apart

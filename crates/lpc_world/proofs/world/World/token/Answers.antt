@@ -12,7 +12,7 @@ unreachable-requires c =
     absurd (cc)
 
 pub returns-clause-token : goal.returns-clause-token
-returns-clause-token c = rw (← c.self.view_is) (tokens.found (tables_of c.self.inside.procs c.self.inside.parts.items c.self.inside.ports c.self.inside.waits c.self.inside.names c.self.inside.sections c.self.inside.tokens c.self.inside.token_names c.self.inside.marks) c.self.invariant.named c.args.token c.in-Some.row.now (sym c.get.ensures.value ∙ ap (λ o. option_copied o) c.in-Some.is))
+returns-clause-token c = rw (← c.self.view_is) (tokens.found (tables_of c.self.inside.procs c.self.inside.parts.items c.self.inside.ports c.self.inside.waits c.self.inside.names c.self.inside.sections c.self.inside.tokens c.self.inside.token_names c.self.inside.marks) c.self.invariant.kept.named c.args.token c.in-Some.row.now (sym c.get.ensures.value ∙ ap (λ o. option_copied o) c.in-Some.is))
 
 pub returns-clause-birth : goal.returns-clause-birth
-returns-clause-birth c = rw (← c.self.view_is) (tokens.named (tables_of c.self.inside.procs c.self.inside.parts.items c.self.inside.ports c.self.inside.waits c.self.inside.names c.self.inside.sections c.self.inside.tokens c.self.inside.token_names c.self.inside.marks) c.self.invariant.named c.args.token c.in-Some.row.now (sym c.get.ensures.value ∙ ap (λ o. option_copied o) c.in-Some.is))
+returns-clause-birth c = rw (← c.self.view_is) (tokens.named (tables_of c.self.inside.procs c.self.inside.parts.items c.self.inside.ports c.self.inside.waits c.self.inside.names c.self.inside.sections c.self.inside.tokens c.self.inside.token_names c.self.inside.marks) c.self.invariant.kept.named c.args.token c.in-Some.row.now (sym c.get.ensures.value ∙ ap (λ o. option_copied o) c.in-Some.is))

@@ -7,31 +7,39 @@ use Rattle.lpc_rows.specs.Shown.{tables_of}
 use Rattle.lpc_rows.proofs.Capacities as capacities
 use Rattle.lpc_rows.proofs.Tokens as tokens
 use Rattle.lpc_tokens.specs.declared.token_row.TokenRow.{TokenRow}
+use Rattle.lpc_rows.proofs.Suspected as suspected
+use Rattle.lpc_rows.specs.Kept.{rows_by}
+use Rattle.lpc_rows.specs.Shown.{births_of}
+use Rattle.lpc_rows.specs.Shown.{shown_token}
+use Rattle.lpc_model.specs.Basics.{AddsToken}
 use Rattle.lpc_world.proofs.world.World.tokens_insert_reserved.Goals as goal
 
 pub insert_reserved-requires-clause-few : goal.insert_reserved-requires-clause-few
 insert_reserved-requires-clause-few c =
-    let counted = c.self.invariant.counted.tokens_made in
-    let few = c.self.invariant.lawful.few in
-    let budget = c.self.invariant.lawful.budget in
+    let counted = c.self.invariant.kept.counted.tokens_made in
+    let few = c.self.invariant.kept.lawful.few in
+    let budget = c.self.invariant.kept.lawful.budget in
     omega (arith, counted, few, budget)
 
 pub invariant_of-self : goal.invariant_of-self
-invariant_of-self c =
-    let there = rw (← c.self.view_is) at c.requires in
-    tokens.added_lawful (tables_of c.self.inside.procs c.self.inside.parts.items c.self.inside.ports c.self.inside.waits c.self.inside.names c.self.inside.sections c.self.inside.tokens c.self.inside.token_names c.self.inside.marks) c.self.inside.calls c.self.inside.made c.self.invariant c.insert_reserved.result c.args.token c.insert_reserved.new.self c.insert_reserved.ensures.table c.insert_reserved.ensures.listed c.insert_reserved.ensures.vacant there.fresh there.drawn there.budget
+invariant_of-self c = record {
+  kept =
+      let there = rw (← c.self.view_is) at c.requires in
+      tokens.added_lawful (tables_of c.self.inside.procs c.self.inside.parts.items c.self.inside.ports c.self.inside.waits c.self.inside.names c.self.inside.sections c.self.inside.tokens c.self.inside.token_names c.self.inside.marks) c.self.inside.calls c.self.inside.made c.self.invariant.kept c.insert_reserved.result c.args.token c.insert_reserved.new.self c.insert_reserved.ensures.table c.insert_reserved.ensures.listed c.insert_reserved.ensures.vacant there.fresh there.drawn there.budget;
+  watched = suspected.step-to (rows_by (tables_of c.self.inside.procs c.self.inside.parts.items c.self.inside.ports c.self.inside.waits c.self.inside.names c.self.inside.sections c.self.inside.tokens c.self.inside.token_names c.self.inside.marks)) (births_of (tables_of c.self.inside.procs c.self.inside.parts.items c.self.inside.ports c.self.inside.waits c.self.inside.names c.self.inside.sections c.self.inside.tokens c.self.inside.token_names c.self.inside.marks)).ports c.self.inside.suspects c.self.invariant.watched _ (AddsToken (shown_token (c.insert_reserved.result, c.args.token))) (tokens.adds (tables_of c.self.inside.procs c.self.inside.parts.items c.self.inside.ports c.self.inside.waits c.self.inside.names c.self.inside.sections c.self.inside.tokens c.self.inside.token_names c.self.inside.marks) c.self.invariant.kept.named c.insert_reserved.result c.args.token c.insert_reserved.new.self c.insert_reserved.ensures.listed (vacant c.self.inside.tokens c.insert_reserved.result c.insert_reserved.ensures.vacant)) refl;
+}
 
 pub returns-clause-rows : goal.returns-clause-rows
-returns-clause-rows c = rw (← c.self.view_is) (tokens.adds (tables_of c.self.inside.procs c.self.inside.parts.items c.self.inside.ports c.self.inside.waits c.self.inside.names c.self.inside.sections c.self.inside.tokens c.self.inside.token_names c.self.inside.marks) c.self.invariant.named c.insert_reserved.result c.args.token c.insert_reserved.new.self c.insert_reserved.ensures.listed (vacant c.self.inside.tokens c.insert_reserved.result c.insert_reserved.ensures.vacant))
+returns-clause-rows c = rw (← c.self.view_is) (tokens.adds (tables_of c.self.inside.procs c.self.inside.parts.items c.self.inside.ports c.self.inside.waits c.self.inside.names c.self.inside.sections c.self.inside.tokens c.self.inside.token_names c.self.inside.marks) c.self.invariant.kept.named c.insert_reserved.result c.args.token c.insert_reserved.new.self c.insert_reserved.ensures.listed (vacant c.self.inside.tokens c.insert_reserved.result c.insert_reserved.ensures.vacant))
 
 pub returns-clause-name : goal.returns-clause-name
-returns-clause-name c = tokens.name_new (tables_of c.self.inside.procs c.self.inside.parts.items c.self.inside.ports c.self.inside.waits c.self.inside.names c.self.inside.sections c.self.inside.tokens c.self.inside.token_names c.self.inside.marks) c.self.invariant.named c.insert_reserved.result c.args.token c.insert_reserved.new.self c.insert_reserved.ensures.listed (vacant c.self.inside.tokens c.insert_reserved.result c.insert_reserved.ensures.vacant)
+returns-clause-name c = tokens.name_new (tables_of c.self.inside.procs c.self.inside.parts.items c.self.inside.ports c.self.inside.waits c.self.inside.names c.self.inside.sections c.self.inside.tokens c.self.inside.token_names c.self.inside.marks) c.self.invariant.kept.named c.insert_reserved.result c.args.token c.insert_reserved.new.self c.insert_reserved.ensures.listed (vacant c.self.inside.tokens c.insert_reserved.result c.insert_reserved.ensures.vacant)
 
 pub returns-clause-stands : goal.returns-clause-stands
-returns-clause-stands c = tokens.stands_new (tables_of c.self.inside.procs c.self.inside.parts.items c.self.inside.ports c.self.inside.waits c.self.inside.names c.self.inside.sections c.self.inside.tokens c.self.inside.token_names c.self.inside.marks) c.self.invariant.named c.insert_reserved.result c.args.token c.insert_reserved.new.self c.insert_reserved.ensures.listed (vacant c.self.inside.tokens c.insert_reserved.result c.insert_reserved.ensures.vacant)
+returns-clause-stands c = tokens.stands_new (tables_of c.self.inside.procs c.self.inside.parts.items c.self.inside.ports c.self.inside.waits c.self.inside.names c.self.inside.sections c.self.inside.tokens c.self.inside.token_names c.self.inside.marks) c.self.invariant.kept.named c.insert_reserved.result c.args.token c.insert_reserved.new.self c.insert_reserved.ensures.listed (vacant c.self.inside.tokens c.insert_reserved.result c.insert_reserved.ensures.vacant)
 
 pub returns-clause-others : goal.returns-clause-others
-returns-clause-others c = rw (← c.self.view_is) (tokens.keeps (tables_of c.self.inside.procs c.self.inside.parts.items c.self.inside.ports c.self.inside.waits c.self.inside.names c.self.inside.sections c.self.inside.tokens c.self.inside.token_names c.self.inside.marks) c.self.invariant.named c.insert_reserved.result c.args.token c.insert_reserved.new.self c.insert_reserved.ensures.listed (vacant c.self.inside.tokens c.insert_reserved.result c.insert_reserved.ensures.vacant))
+returns-clause-others c = rw (← c.self.view_is) (tokens.keeps (tables_of c.self.inside.procs c.self.inside.parts.items c.self.inside.ports c.self.inside.waits c.self.inside.names c.self.inside.sections c.self.inside.tokens c.self.inside.token_names c.self.inside.marks) c.self.invariant.kept.named c.insert_reserved.result c.args.token c.insert_reserved.new.self c.insert_reserved.ensures.listed (vacant c.self.inside.tokens c.insert_reserved.result c.insert_reserved.ensures.vacant))
 
 pub returns-clause-ports : goal.returns-clause-ports
 returns-clause-ports c = rw (← c.self.view_is) refl
@@ -41,7 +49,7 @@ returns-clause-sections c = rw (← c.self.view_is) refl
 
 pub returns-clause-room : goal.returns-clause-room
 returns-clause-room c =
-    let added = tokens.adds (tables_of c.self.inside.procs c.self.inside.parts.items c.self.inside.ports c.self.inside.waits c.self.inside.names c.self.inside.sections c.self.inside.tokens c.self.inside.token_names c.self.inside.marks) c.self.invariant.named c.insert_reserved.result c.args.token c.insert_reserved.new.self c.insert_reserved.ensures.listed (vacant c.self.inside.tokens c.insert_reserved.result c.insert_reserved.ensures.vacant) in
+    let added = tokens.adds (tables_of c.self.inside.procs c.self.inside.parts.items c.self.inside.ports c.self.inside.waits c.self.inside.names c.self.inside.sections c.self.inside.tokens c.self.inside.token_names c.self.inside.marks) c.self.invariant.kept.named c.insert_reserved.result c.args.token c.insert_reserved.new.self c.insert_reserved.ensures.listed (vacant c.self.inside.tokens c.insert_reserved.result c.insert_reserved.ensures.vacant) in
     let spare = ap (λ (t : Table TokenRow). t.spare) c.insert_reserved.ensures.table in
     rw (← c.self.view_is, ap (λ (v : World). v.waits) added, ap (λ (v : World). v.messages) added, ap (λ (v : World). v.ports) added) (record {
       for_processes = omega arith;
@@ -59,7 +67,7 @@ returns-clause-room c =
 
 pub returns-clause-made : goal.returns-clause-made
 returns-clause-made c =
-    let owed = ap owed_rows (tokens.adds (tables_of c.self.inside.procs c.self.inside.parts.items c.self.inside.ports c.self.inside.waits c.self.inside.names c.self.inside.sections c.self.inside.tokens c.self.inside.token_names c.self.inside.marks) c.self.invariant.named c.insert_reserved.result c.args.token c.insert_reserved.new.self c.insert_reserved.ensures.listed (vacant c.self.inside.tokens c.insert_reserved.result c.insert_reserved.ensures.vacant)) in
+    let owed = ap owed_rows (tokens.adds (tables_of c.self.inside.procs c.self.inside.parts.items c.self.inside.ports c.self.inside.waits c.self.inside.names c.self.inside.sections c.self.inside.tokens c.self.inside.token_names c.self.inside.marks) c.self.invariant.kept.named c.insert_reserved.result c.args.token c.insert_reserved.new.self c.insert_reserved.ensures.listed (vacant c.self.inside.tokens c.insert_reserved.result c.insert_reserved.ensures.vacant)) in
     rw (← c.self.view_is) (omega (arith, owed))
 
 pub returns-clause-capacity : goal.returns-clause-capacity

@@ -9,20 +9,24 @@ use Rattle.lpc_rows.proofs.Views as views
 use Rattle.lpc_world.proofs.world.World.views_drop.Goals as goal
 
 pub drop_views-requires-clause-one : goal.drop_views-requires-clause-one
-drop_views-requires-clause-one c = tables.single (tables_of c.self.inside.procs c.self.inside.parts.items c.self.inside.ports c.self.inside.waits c.self.inside.names c.self.inside.sections c.self.inside.tokens c.self.inside.token_names c.self.inside.marks) c.self.inside.calls c.self.inside.made c.self.invariant
+drop_views-requires-clause-one c = tables.single (tables_of c.self.inside.procs c.self.inside.parts.items c.self.inside.ports c.self.inside.waits c.self.inside.names c.self.inside.sections c.self.inside.tokens c.self.inside.token_names c.self.inside.marks) c.self.inside.calls c.self.inside.made c.self.invariant.kept
 
 pub drop_views-requires-clause-part : goal.drop_views-requires-clause-part
-drop_views-requires-clause-part c = sym (tables.has_table (tables_of c.self.inside.procs c.self.inside.parts.items c.self.inside.ports c.self.inside.waits c.self.inside.names c.self.inside.sections c.self.inside.tokens c.self.inside.token_names c.self.inside.marks) c.self.inside.calls c.self.inside.made c.self.invariant c.args.pid) ∙ (rw (← c.self.view_is) at c.requires.table)
+drop_views-requires-clause-part c = sym (tables.has_table (tables_of c.self.inside.procs c.self.inside.parts.items c.self.inside.ports c.self.inside.waits c.self.inside.names c.self.inside.sections c.self.inside.tokens c.self.inside.token_names c.self.inside.marks) c.self.inside.calls c.self.inside.made c.self.invariant.kept c.args.pid) ∙ (rw (← c.self.view_is) at c.requires.table)
 
 pub invariant_of-self : goal.invariant_of-self
-invariant_of-self c = rw c.drop_views.ensures.parts (views.dropped_lawful (tables_of c.self.inside.procs c.self.inside.parts.items c.self.inside.ports c.self.inside.waits c.self.inside.names c.self.inside.sections c.self.inside.tokens c.self.inside.token_names c.self.inside.marks) c.self.inside.calls c.self.inside.made c.self.invariant c.args.pid)
+invariant_of-self c = record {
+  kept =
+      rw c.drop_views.ensures.parts (views.dropped_lawful (tables_of c.self.inside.procs c.self.inside.parts.items c.self.inside.ports c.self.inside.waits c.self.inside.names c.self.inside.sections c.self.inside.tokens c.self.inside.token_names c.self.inside.marks) c.self.inside.calls c.self.inside.made c.self.invariant.kept c.args.pid);
+  watched = rw (c.add_any.ensures) (λ calm. absurd (cc));
+}
 
 pub returns-clause-step : goal.returns-clause-step
 returns-clause-step c = record {
-  rows = rw (← c.self.view_is, c.drop_views.ensures.parts) (views.drops (tables_of c.self.inside.procs c.self.inside.parts.items c.self.inside.ports c.self.inside.waits c.self.inside.names c.self.inside.sections c.self.inside.tokens c.self.inside.token_names c.self.inside.marks) c.self.inside.calls c.self.inside.made c.self.invariant c.args.pid);
+  rows = rw (← c.self.view_is, c.drop_views.ensures.parts) (views.drops (tables_of c.self.inside.procs c.self.inside.parts.items c.self.inside.ports c.self.inside.waits c.self.inside.names c.self.inside.sections c.self.inside.tokens c.self.inside.token_names c.self.inside.marks) c.self.inside.calls c.self.inside.made c.self.invariant.kept c.args.pid);
   births = rw (← c.self.view_is) refl;
   calls = rw (← c.self.view_is) refl;
-  made = rw (← c.self.view_is, c.drop_views.ensures.parts) (ap (λ w. c.self.inside.made + owed_rows w) (views.drops (tables_of c.self.inside.procs c.self.inside.parts.items c.self.inside.ports c.self.inside.waits c.self.inside.names c.self.inside.sections c.self.inside.tokens c.self.inside.token_names c.self.inside.marks) c.self.inside.calls c.self.inside.made c.self.invariant c.args.pid));
+  made = rw (← c.self.view_is, c.drop_views.ensures.parts) (ap (λ w. c.self.inside.made + owed_rows w) (views.drops (tables_of c.self.inside.procs c.self.inside.parts.items c.self.inside.ports c.self.inside.waits c.self.inside.names c.self.inside.sections c.self.inside.tokens c.self.inside.token_names c.self.inside.marks) c.self.inside.calls c.self.inside.made c.self.invariant.kept c.args.pid));
   room = rw (← c.self.view_is, c.drop_views.ensures.kept, c.drop_views.ensures.parts) (rooms.dropped_room (tables_of c.self.inside.procs c.self.inside.parts.items c.self.inside.ports c.self.inside.waits c.self.inside.names c.self.inside.sections c.self.inside.tokens c.self.inside.token_names c.self.inside.marks) c.self.inside.parts.room c.args.pid);
 }
 

@@ -41,7 +41,7 @@ kept_in it named tid bytes at ok =
     shown ∙ kept held.row.wait.kind bytes offer held.row.accepted (sym (ap asks shown) ∙ ok)
 
 pub message-requires : goal.message-requires
-message-requires c = record { waits = connecting.has_its_row (tables_of c.self.inside.procs c.self.inside.parts.items c.self.inside.ports c.self.inside.waits c.self.inside.names c.self.inside.sections c.self.inside.tokens c.self.inside.token_names c.self.inside.marks) c.self.invariant.named c.args.tid (rw (← c.self.view_is) at c.requires) }
+message-requires c = record { waits = connecting.has_its_row (tables_of c.self.inside.procs c.self.inside.parts.items c.self.inside.ports c.self.inside.waits c.self.inside.names c.self.inside.sections c.self.inside.tokens c.self.inside.token_names c.self.inside.marks) c.self.invariant.kept.named c.args.tid (rw (← c.self.view_is) at c.requires) }
 
 pub returns : goal.returns
-returns c = rw (← c.self.view_is) (record { request = kept_in (tables_of c.self.inside.procs c.self.inside.parts.items c.self.inside.ports c.self.inside.waits c.self.inside.names c.self.inside.sections c.self.inside.tokens c.self.inside.token_names c.self.inside.marks) c.self.invariant.named c.args.tid c.message.result.now c.message.ensures.value })
+returns c = rw (← c.self.view_is) (record { request = kept_in (tables_of c.self.inside.procs c.self.inside.parts.items c.self.inside.ports c.self.inside.waits c.self.inside.names c.self.inside.sections c.self.inside.tokens c.self.inside.token_names c.self.inside.marks) c.self.invariant.kept.named c.args.tid c.message.result.now c.message.ensures.value })
