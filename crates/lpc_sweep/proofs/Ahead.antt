@@ -1,14 +1,15 @@
 -- Rows go ahead of the sweep, one after the other, and the sweep still leaves the same.
-use Rattle.std.proofs.Common.{◌≡◌, ◌≤◌, Bool, not, refl, ap, sym, subst, ◌∙◌, true, arith}
+use Rattle.std.proofs.Common.{◌≡◌, ◌≤◌, ◌∷◌, ◌++◌, [], Bool, List, cond, map, not, refl, ap, sym, subst, ◌∙◌, true, false, arith}
 use Rattle.std.specs.Prelude.{◌==◌}
 use Rattle.lpc_base.specs.declared.birth.Birth.{Birth}
-use Rattle.lpc_base.specs.Rows.{every, has}
-use Rattle.lpc_base.proofs.RowWords.{every-more, every-without}
-use Rattle.lpc_model.specs.World.{ObjectName, SectionRow, TokenRow, World}
+use Rattle.lpc_base.specs.Rows.{every, has, which}
+use Rattle.lpc_base.proofs.RowWords.{every-back, every-more, every-without}
+use Rattle.lpc_base.proofs.RowMaps.{every-map}
+use Rattle.lpc_model.specs.World.{ObjectName, PortRow, ProcessRow, SectionRow, ThreadRow, TokenRow, World}
 use Rattle.lpc_model.specs.Basics.{Frees, basic, freed, world_after}
-use Rattle.lpc_model.specs.Found.{is_section, is_token, process_name, section_name, thread_name, token_name}
-use Rattle.lpc_model.specs.Linked.{HasHeldSections, HasHeldTokens}
-use Rattle.lpc_model.specs.Sweep.{is_unheld, sweep}
+use Rattle.lpc_model.specs.Found.{is_section, is_token, object_names, port_name, process_name, section_name, thread_name, token_name}
+use Rattle.lpc_model.specs.Linked.{HasHeldPorts, HasHeldSections, HasHeldTokens}
+use Rattle.lpc_model.specs.Sweep.{is_unheld, sweep, unheld}
 use Rattle.lpc_model.proofs.Held.FreedLife.{process_first, section_first, thread_first, token_first}
 use Rattle.lpc_model.proofs.Held.Lives.{same-section, same-thread, same-token}
 use Rattle.lpc_model.specs.declared.entry.ObjectKind.{ObjectKind}
@@ -92,3 +93,24 @@ pub threads-held : (w : World) (b : Birth) → is_unheld w (process_name b) ≡ 
 threads-held w b none held =
     let v = basic w (Frees (process_name b)) in
     every-more (λ t. not (is_unheld w (thread_name t.birth))) (λ t. not (is_unheld v (thread_name t.birth))) (λ t is. ap (λ n. not (n == 0)) (same-thread w (process_name b) t.birth none) ∙ is) w.threads held
+
+-- where no row is to go, some row counts for each port
+which-none : {X : Type 0} (p : X → Bool) (xs : List X) → which p xs ≡ [] → every (λ x. not (p x)) xs ≡ true
+which-none p [] none = refl
+which-none p (x ∷ xs) none = by (p x) refl none (λ (rest : which p xs ≡ []). which-none p xs rest)
+  where
+    by : (c : Bool) → p x ≡ c → cond c (x ∷ which p xs) (which p xs) ≡ [] → (which p xs ≡ [] → every (λ y. not (p y)) xs ≡ true) → every (λ y. not (p y)) (x ∷ xs) ≡ true
+    by true is none rest = absurd (cc)
+    by false is none rest = let all = rest none in rw (is, all) refl
+
+pub none-unheld : (w : World) → unheld w ≡ [] → HasHeldPorts w
+none-unheld w none =
+    let held : ObjectName → Bool = λ o. not (is_unheld w o) in
+    let tokens = map (λ (t : TokenRow). token_name t.birth) w.tokens in
+    let sections = map (λ (s : SectionRow). section_name s.birth) w.sections in
+    let processes = map (λ (p : ProcessRow). process_name p.birth) w.processes in
+    let threads = map (λ (t : ThreadRow). thread_name t.birth) w.threads in
+    let ports = map (λ (p : PortRow). port_name p.birth) w.ports in
+    let all = which-none (is_unheld w) (object_names w) none in
+    let last = every-back held threads ports (every-back held processes (threads ++ ports) (every-back held sections (processes ++ (threads ++ ports)) (every-back held tokens (sections ++ (processes ++ (threads ++ ports))) all))) in
+    sym (every-map held (λ (p : PortRow). port_name p.birth) w.ports) ∙ last

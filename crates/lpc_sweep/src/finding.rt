@@ -33,7 +33,7 @@ fn port_key(world: &World, place: usize) -> Key
 }
 
 /// A row counts for the port. The other end of a pair counts, so that of most ports the row alone tells it.
-fn is_held(world: &World, port: Key) -> bool
+pub fn is_held(world: &World, port: Key) -> bool
     requires can { CanSweep world.now.rows }
     requires stands { stands world.now.births.ports port ≡ true }
     ensures { result ≡ not (is_unheld_at world.now port) }

@@ -1,9 +1,11 @@
 // Rows that no row counts for go, one after the other.
 ghost use Rattle.std.specs.Prelude.{◌≡◌, ◌≤◌, [], false, true};
 ghost use Rattle.lpc_model.specs.Basics.{world_after, Frees};
-ghost use Rattle.lpc_model.specs.Linked.{AreLivesHeld, HasHeldSections, HasHeldTokens};
+ghost use Rattle.lpc_model.specs.Linked.{AreLivesHeld, HasHeldPorts, HasHeldSections, HasHeldTokens};
 ghost use Rattle.lpc_model.specs.Sweep as model;
 ghost use Rattle.lpc_model.specs.Sweep.{is_unheld};
+ghost use Rattle.lpc_sweep.specs.Clauses.{is_unheld_at};
+ghost use Rattle.lpc_rows.specs.Names.{stands};
 ghost use Rattle.lpc_sweep.specs.Sweeping.{CanSweep, HasHeldThreads, SweepsAhead};
 ghost use Rattle.lpc_rows.specs.Clauses.{after, name_at};
 ghost use Rattle.lpc_rows.specs.Capacity.{but_lives};
@@ -11,10 +13,14 @@ ghost use Rattle.lpc_rows.specs.Kept.{GainsNoLives, Roomy};
 ghost use Rattle.lpc_rows.specs.Shown.{object_stands};
 
 use crate::finding::{
-    port_count, process_count, section_count, thread_count, token_count, unheld_port,
+    is_held, port_count, process_count, section_count, thread_count, token_count, unheld_port,
     unheld_process, unheld_section, unheld_thread, unheld_token,
 };
-use lpc_world::{Object, World};
+use lpc_slots::Key;
+use lpc_world::{Object, Suspect, World};
+
+/// How many ports are looked at one by one, before all are.
+const MOST_LOOKS: u32 = 16;
 
 /// The row of an object that no row counts for goes. Its room is spare then.
 fn free(world: &mut World, object: Object)
@@ -107,6 +113,7 @@ fn free_ports(world: &mut World)
     requires sections { HasHeldSections world.old.rows }
     requires tokens { HasHeldTokens world.old.rows }
     ensures rows { world.new.rows ≡ world_after world.old.rows (model.sweep world.old.rows) }
+    ensures held { HasHeldPorts world.new.rows }
     ensures calls { world.new.calls ≡ world.old.calls }
     ensures made { world.new.made ≤ world.old.made }
     ensures room { Roomy world.old.room world.new.room }
@@ -122,9 +129,97 @@ fn free_ports(world: &mut World)
     }
 }
 
+/// A port stands at the key, and no row counts for it.
+fn is_unheld(world: &World, port: Key) -> bool
+    requires { CanSweep world.now.rows }
+    ensures stands { result ≡ true → stands world.now.births.ports port ≡ true }
+    ensures unheld { result ≡ true → is_unheld_at world.now port ≡ true }
+    ensures held { result ≡ false
+        → stands world.now.births.ports port ≡ true → is_unheld_at world.now port ≡ false }
+{
+    world.port_stands(port) && !is_held(world, port)
+}
+
+/// A port that may have lost the last row that counted for it is looked at: where no row counts for it, it goes. Where
+/// one does, and where it doesn't stand any more, it is suspected no longer.
+fn look_at(world: &mut World, port: Key)
+    requires can { CanSweep world.old.rows }
+    requires lives { AreLivesHeld world.old.rows }
+    ensures ahead { SweepsAhead world.old world.new }
+    ensures lives { AreLivesHeld world.new.rows }
+{
+    if is_unheld(world, port) {
+        free(world, Object::Port(port));
+    } else {
+        world.clear_suspect(port);
+    }
+}
+
+/// The ports that may have lost the last row that counted for them are looked at, and those that they named, as long as
+/// they are few. Answers whether that was enough: then some row counts for each port.
+fn free_suspects(world: &mut World) -> bool
+    requires can { CanSweep world.old.rows }
+    requires lives { AreLivesHeld world.old.rows }
+    ensures ahead { SweepsAhead world.old world.new }
+    ensures lives { AreLivesHeld world.new.rows }
+    ensures held { result ≡ true → HasHeldPorts world.new.rows }
+{
+    for looked in 0..MOST_LOOKS {
+        let _ = looked;
+        match world.suspect() {
+            Suspect::Nobody => return true,
+            Suspect::Port(port) => look_at(world, port),
+            Suspect::Anybody => return false,
+        }
+    }
+    false
+}
+
+/// The ports go that no row counts for. Some row counts for each thread, each process, each section and each token.
+fn free_unheld_ports(world: &mut World)
+    requires can { CanSweep world.old.rows }
+    requires lives { AreLivesHeld world.old.rows }
+    requires sections { HasHeldSections world.old.rows }
+    requires tokens { HasHeldTokens world.old.rows }
+    ensures rows { world.new.rows ≡ world_after world.old.rows (model.sweep world.old.rows) }
+    ensures held { HasHeldPorts world.new.rows }
+    ensures calls { world.new.calls ≡ world.old.calls }
+    ensures made { world.new.made ≤ world.old.made }
+    ensures room { Roomy world.old.room world.new.room }
+    ensures capacity { but_lives world.new.capacity ≡ but_lives world.old.capacity }
+    ensures lives { GainsNoLives world.old world.new }
+{
+    if free_suspects(world) {
+        return;
+    }
+    free_ports(world);
+}
+
 /// Each object goes that no row counts for, and then each that only those counted for: tokens, sections, the threads
 /// that have ended, the processes without a live thread, and ports. There is nothing to do where no row went since the
 /// last time.
+fn free_unheld(world: &mut World)
+    requires can { CanSweep world.old.rows }
+    requires still { world.old.loose ≡ false → model.unheld world.old.rows ≡ [] }
+    ensures rows { world.new.rows ≡ world_after world.old.rows (model.sweep world.old.rows) }
+    ensures held { HasHeldPorts world.new.rows }
+    ensures calls { world.new.calls ≡ world.old.calls }
+    ensures made { world.new.made ≤ world.old.made }
+    ensures room { Roomy world.old.room world.new.room }
+    ensures capacity { but_lives world.new.capacity ≡ but_lives world.old.capacity }
+    ensures lives { GainsNoLives world.old world.new }
+{
+    if world.is_loose() {
+        free_tokens(world);
+        free_sections(world);
+        free_threads(world);
+        free_processes(world);
+        free_unheld_ports(world);
+    }
+}
+
+/// Each object goes that no row counts for, and then each that only those counted for. Of the ports those alone are
+/// looked at that may have lost what counted for them, where these are few.
 pub fn sweep(world: &mut World)
     requires can { CanSweep world.old.rows }
     requires still { world.old.loose ≡ false → model.unheld world.old.rows ≡ [] }
@@ -136,12 +231,6 @@ pub fn sweep(world: &mut World)
     ensures capacity { but_lives world.new.capacity ≡ but_lives world.old.capacity }
     ensures lives { GainsNoLives world.old world.new }
 {
-    if world.is_loose() {
-        free_tokens(world);
-        free_sections(world);
-        free_threads(world);
-        free_processes(world);
-        free_ports(world);
-        world.set_still();
-    }
+    free_unheld(world);
+    world.set_still();
 }
