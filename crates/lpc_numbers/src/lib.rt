@@ -3,6 +3,8 @@
 
 mod named;
 mod numbered;
+mod tally;
 
 pub use named::Named;
 pub use numbered::Numbered;
+pub use tally::Tally;

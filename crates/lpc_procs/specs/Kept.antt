@@ -1,8 +1,9 @@
 -- What the table keeps of its rows and numbers.
-use Rattle.std.specs.Prelude.{ℕ, ◌≡◌, ◌==◌, ◌&&◌, ◌||◌, Bool, true, false, is_some, length, map, nat_le, nat_lt, List, Option, Some, None, if◌then◌else◌}
+use Rattle.std.specs.Prelude.{ℕ, ◌≡◌, ◌+◌, ◌==◌, ◌&&◌, ◌||◌, Bool, true, false, is_some, length, map, nat_le, nat_lt, List, Option, Some, None, if◌then◌else◌}
 use Rattle.lpc_base.specs.declared.birth.Birth.{Birth}
 use Rattle.lpc_base.specs.Rows.{change, count, differ_by, every, first, has}
 use Rattle.lpc_base.specs.declared.limits.TheConstants.{REGISTRATION_LIMIT}
+use Rattle.lpc_numbers.specs.Tally.{Tally, count_in, one_for}
 use Rattle.lpc_procs.specs.declared.rows.Counted.{Counted}
 use Rattle.lpc_procs.specs.declared.rows.Doomed.{Doomed}
 use Rattle.lpc_procs.specs.declared.rows.ProcessRow.{ProcessRow}
@@ -49,6 +50,14 @@ is_peopled p = nat_lt 0 p.live
 abbrev pub is_peopled_child : ℕ → Counted → Bool
 is_peopled_child pid p = is_made_by pid p.row && is_peopled p
 
+-- under each number stands how many live processes it made, as their counts tell, where each was counted
+abbrev pub AreTallied : List Counted → Tally → Type 0
+AreTallied processes children = children.whole ≡ true → (pid : ℕ) → count_in children.entries pid ≡ count (is_peopled_child pid) processes
+
+-- a live process of the name, as its count tells
+abbrev pub is_peopled_of : Birth → Counted → Bool
+is_peopled_of b p = has_name b p && is_peopled p
+
 -- the count of a process that was found
 abbrev pub lives_in_first : Option Counted → ℕ
 lives_in_first None = 0
@@ -62,6 +71,16 @@ life_of_first (Some t) = if t.live then 1 else 0
 -- a process with this count beside it
 abbrev pub counting : ℕ → Counted → Counted
 counting live p = record p { live = live }
+
+-- one live process that was made by this one was counted, if it was live, and is now, if it is
+pub record Moves (maker : ℕ) (was is : Bool) (old new : Tally) : Type 0 where
+  pub whole : old.whole ≡ true
+  pub counts : (pid : ℕ) → count_in new.entries pid + (if was then one_for pid maker else 0) ≡ count_in old.entries pid + (if is then one_for pid maker else 0)
+
+-- a process is counted for its maker as one with so many live threads
+pub record Retells (p : Counted) (live : ℕ) (old new : Tally) : Type 0 where
+  pub whole : old.whole ≡ true
+  pub counts : (pid : ℕ) → count_in new.entries pid + (if is_peopled_child pid p then 1 else 0) ≡ count_in old.entries pid + (if is_peopled_child pid (counting live p) then 1 else 0)
 
 -- the processes with the live threads of one counted anew
 abbrev pub recounted : List ThreadRow → ℕ → List Counted → List Counted
@@ -136,8 +155,10 @@ pub record AreKept (processes : List Counted) (threads : List ThreadRow) (number
   pub living : alive ≡ count (λ t. t.live) threads
   pub told : registered ≡ length (all_registrations threads)
 
--- What the table keeps: all that, how many live processes are to end, and of how many a port is told of exceptions.
-pub record IsStored (processes : List Counted) (threads : List ThreadRow) (numbers : List ℕ) (used : List UsedThread) (process_names thread_names : List (ℕ × Birth)) (alive registered dooms watched : ℕ) : Type 0 where
+-- What the table keeps: all that, how many live processes are to end, of how many a port is told of exceptions, and
+-- how many live processes each made.
+pub record IsStored (processes : List Counted) (threads : List ThreadRow) (numbers : List ℕ) (used : List UsedThread) (process_names thread_names : List (ℕ × Birth)) (alive registered dooms watched : ℕ) (children : Tally) : Type 0 where
   pub all : AreKept processes threads numbers used process_names thread_names alive registered
   pub doomed : dooms ≡ count is_doomed_row processes
   pub watchers : watched ≡ count is_watched processes
+  pub tallied : AreTallied processes children

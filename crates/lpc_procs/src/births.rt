@@ -1,13 +1,14 @@
 // What is found and taken away by the name that a process or thread was made under.
-ghost use Rattle.std.specs.Prelude.{◌≡◌, ◌≤◌, if◌then◌else◌, vec_len, vec_capacity};
+ghost use Rattle.std.specs.Prelude.{◌≡◌, ◌≤◌, if◌then◌else◌, true, vec_len, vec_capacity};
 ghost use Rattle.lpc_base.specs.Births.{same_birth};
-ghost use Rattle.lpc_base.specs.Rows.{count, without};
-ghost use Rattle.lpc_procs.specs.Kept.{has_name, is_peopled, is_peopled_child};
+ghost use Rattle.lpc_base.specs.Rows.{count, has, without};
+ghost use Rattle.lpc_procs.specs.Kept.{Moves, Retells, has_name, is_peopled, is_peopled_child, is_peopled_of};
 ghost use Rattle.lpc_procs.specs.Procs.{born_thread, is_life, is_made_by, is_thread_born};
 
 use crate::rows::Counted;
 use crate::{BornThread, ProcessRow, ThreadRow};
 use lpc_base::Birth;
+use lpc_numbers::Tally;
 
 // The name is this one.
 fn is_name(name: Birth, birth: Birth) -> bool
@@ -31,6 +32,38 @@ pub fn is_peopled(p: &Counted) -> bool
     ensures { result ≡ is_peopled p.now }
 {
     p.live > 0
+}
+
+// Counts one live process more for its maker where it comes to life, and one less where its life ends.
+fn move_child(children: &mut Tally, maker: u32, was: bool, is: bool)
+    ensures { children.new.whole ≡ true → Moves maker was is children.old children.new }
+{
+    match (was, is) {
+        (false, true) => children.add(maker),
+        (true, false) => children.take(maker),
+        (false, false) | (true, true) => {}
+    }
+}
+
+/// Counts the process for its maker as one with so many live threads, in place of those that the count beside it tells.
+pub fn retell(children: &mut Tally, p: &Counted, live: usize)
+    ensures { children.new.whole ≡ true → Retells p.now live children.old children.new }
+{
+    if let Some(maker) = p.row.maker {
+        move_child(children, maker, is_peopled(p), live > 0);
+    }
+}
+
+/// A live process has the name, as its count tells.
+pub fn has_life(rows: &[Counted], birth: Birth) -> bool
+    ensures { result ≡ has (is_peopled_of birth) rows.now }
+{
+    for p in rows {
+        if is_name(p.row.birth, birth) && is_peopled(p) {
+            return true;
+        }
+    }
+    false
 }
 
 /// How many live processes the process made.

@@ -2,15 +2,15 @@
 ghost use Rattle.std.specs.Prelude.{◌≡◌, ◌<◌, ◌^◌, true, None, Some, if◌then◌else◌, map, option_map, vec_len, vec_capacity};
 ghost use Rattle.lpc_base.specs.Rows.{change, count, first};
 ghost use Rattle.lpc_procs.specs.Callers as callers;
-ghost use Rattle.lpc_procs.specs.Kept.{are_apart, counting, has_number, is_doomed_row, process_name};
+ghost use Rattle.lpc_procs.specs.Kept.{AreTallied, are_apart, counting, has_number, is_doomed_row, process_name};
 ghost use Rattle.lpc_procs.specs.Procs as procs;
 ghost use Rattle.lpc_procs.specs.Procs.{is_live_client, lives_in};
 
 use crate::rows::Counted;
-use crate::{Caller, ThreadRow, exceptions};
+use crate::{Caller, ThreadRow, births, exceptions};
 use lpc_base::Birth;
 use lpc_message::ClientId;
-use lpc_numbers::Named;
+use lpc_numbers::{Named, Tally};
 
 /// How many live threads are of the process.
 pub fn live_in(threads: &[ThreadRow], pid: u32) -> usize
@@ -63,20 +63,30 @@ pub fn first_live(threads: &[ThreadRow], pid: u32) -> Option<u32>
 
 /// Writes the count of live threads beside the process of the number, where it has a row. The names stand under the
 /// numbers of the rows, in their order. So many live processes are to end, fewer than
-/// 2^32, and the result is how many are then.
-pub fn recount(rows: &mut Vec<Counted>, names: &Named, pid: u32, live: usize, dooms: usize) -> usize
+/// 2^32, and the result is how many are then. Where each live process is counted for its maker, it is so then too.
+pub fn recount(
+    rows: &mut Vec<Counted>,
+    names: &Named,
+    pid: u32,
+    live: usize,
+    dooms: usize,
+    children: &mut Tally,
+) -> usize
     requires named { names.now.entries ≡ map process_name rows.old.items }
     requires apart { are_apart rows.old.items ≡ true }
     requires dooms { dooms ≡ count is_doomed_row rows.old.items }
     requires few { dooms < 2 ^ 32 }
+    requires children { AreTallied rows.old.items children.old }
     ensures rows { rows.new.items ≡ change (has_number pid) (counting live) rows.old.items }
     ensures len { vec_len rows.new ≡ vec_len rows.old }
     ensures room { vec_capacity rows.new ≡ vec_capacity rows.old }
     ensures dooms { result ≡ count is_doomed_row rows.new.items }
+    ensures children { AreTallied rows.new.items children.new }
 {
     match names.place(pid) {
         Some(place) => {
             let process = &mut rows[place];
+            births::retell(children, process, live);
             let others = dooms - exceptions::doomed_count(process);
             process.live = live;
             others + exceptions::doomed_count(process)

@@ -17,7 +17,7 @@ use crate::{
 use arrayvec::ArrayVec;
 use lpc_base::{Birth, OutOfMemory, reserve_rows};
 use lpc_message::ClientId;
-use lpc_numbers::{Named, Numbered};
+use lpc_numbers::{Named, Numbered, Tally};
 use lpc_sid::Token;
 use lpc_slots::Key;
 use lpc_tokens::Impersonation;
@@ -29,7 +29,8 @@ use std::marker::Model;
 /// A number is used once. It stays used when the row of its process or thread goes, so no number names two things in
 /// a run. Contracts see the rows in order of making, the used numbers, and the room; they don't see the maps by which a
 /// number or a name leads to its row, nor the counts that are kept: of live threads, of those of each process, of
-/// registrations, of live processes that are to end, and of processes of whose exceptions a port is told.
+/// registrations, of live processes that are to end, of processes of whose exceptions a port is told, and of the live
+/// processes that each made.
 pub struct Procs {
     processes: Vec<Counted>,
     threads: Vec<ThreadRow>,
@@ -41,6 +42,7 @@ pub struct Procs {
     registered: usize,
     dooms: usize,
     watched: usize,
+    children: Tally,
 }
 
 impl Model for Procs {
@@ -60,7 +62,7 @@ impl Model for Procs {
       thread_room = min (vec_capacity s.threads - vec_len s.threads) (min s.thread_names.room s.used_threads.room);
     } };
 
-    ghost invariant = { λ s. IsStored s.processes.items s.threads.items (numbers s.used_processes.entries) (used_rows s.used_threads.entries) s.process_names.entries s.thread_names.entries s.alive s.registered s.dooms s.watched };
+    ghost invariant = { λ s. IsStored s.processes.items s.threads.items (numbers s.used_processes.entries) (used_rows s.used_threads.entries) s.process_names.entries s.thread_names.entries s.alive s.registered s.dooms s.watched s.children };
 }
 
 // Written out, so that a proof about what holds these tables lets them go in one step, and not map by map.
@@ -77,6 +79,7 @@ impl Drop for Procs {
             registered: _,
             dooms: _,
             watched: _,
+            children: _,
         } = self;
     }
 }
@@ -97,6 +100,7 @@ impl Procs {
             registered: 0,
             dooms: 0,
             watched: 0,
+            children: Tally::new(alloc),
         }
     }
 
@@ -124,6 +128,8 @@ impl Procs {
         reserve_rows(&mut self.processes, processes)?;
         self.process_names.reserve(processes)?;
         self.used_processes.reserve(processes)?;
+        self.children
+            .promise(self.processes.len().saturating_add(processes));
         reserve_rows(&mut self.threads, threads)?;
         self.thread_names.reserve(threads)?;
         self.used_threads.reserve(threads)
@@ -194,6 +200,7 @@ impl Procs {
             pid,
             live,
             self.dooms,
+            &mut self.children,
         );
         self.threads.push_reserved(ThreadRow {
             number: tid,
@@ -453,6 +460,7 @@ impl Procs {
             pid,
             live,
             self.dooms,
+            &mut self.children,
         );
         self.threads[place].live = false;
         self.alive -= 1;
@@ -550,7 +558,10 @@ impl Procs {
     pub fn live_children(&self, pid: u32) -> usize
         ensures count { result ≡ count (is_live_child self.now.threads pid) self.now.processes }
     {
-        births::children(&self.processes, pid)
+        match self.children.of(pid) {
+            Some(count) => count,
+            None => births::children(&self.processes, pid),
+        }
     }
 
     /// The number of the first process that was made under the name: None exactly where there is none.
@@ -695,6 +706,8 @@ impl Procs {
         ensures most { let old = self.old in let new = self.new in
             new.process_room + length new.processes ≤ old.process_room + length old.processes }
     {
+        self.children
+            .give_up_if(births::has_life(&self.processes, birth));
         births::remove_processes(&mut self.processes, birth);
         self.process_names.remove_name(birth);
         self.dooms = exceptions::dooms(&self.processes);

@@ -2,7 +2,7 @@ use Rattle.std.proofs.Common.{ap, is_some, sym, ◌∙◌, arith}
 use Rattle.lpc_base.proofs.Differ.{set-change}
 use Rattle.lpc_base.proofs.RowWords.{change-none}
 use Rattle.lpc_procs.specs.declared.rows.Counted.{Counted}
-use Rattle.lpc_procs.specs.Kept.{counting, has_number, is_doomed_row}
+use Rattle.lpc_procs.specs.Kept.{counting, has_number, is_doomed_row, is_peopled_child}
 use Rattle.lpc_procs.proofs.Events.{count-written, one-counts}
 use Rattle.lpc_procs.proofs.Placed.{process-at, process-none}
 use Rattle.lpc_procs.proofs.lists.recount.Goals as goal
@@ -38,3 +38,11 @@ returns-in-None-clause-rows c =
     let rows = c.args.rows.now.items in
     let none = process-none c.args.pid rows c.args.names.now.entries c.requires.named (sym c.place.ensures ∙ c.in-None.is) in
     sym (change-none (has_number c.args.pid) (counting c.args.live) rows (ap is_some none))
+
+pub returns-in-Some-clause-children : goal.returns-in-Some-clause-children
+returns-in-Some-clause-children c = λ whole pid.
+    let rows = c.args.rows.now.items in
+    let p = c.index_mut-process.result.now in
+    let found = process-at c.args.pid rows c.args.names.now.entries c.in-Some.place p c.requires.named (sym c.place.ensures ∙ c.in-Some.is) c.index_mut-process.ensures.value in
+    let told = c.retell.ensures whole in
+    omega (arith, told.counts pid, c.requires.children told.whole pid, count-written (is_peopled_child pid) rows c.in-Some.place p (counting c.args.live p) found.here)

@@ -4,6 +4,7 @@ use Rattle.lpc_base.proofs.RowWords.{count-push}
 use Rattle.lpc_procs.specs.declared.rows.ProcessRow.{ProcessRow}
 use Rattle.lpc_procs.specs.Kept.{has_number, is_doomed_row, is_watched, process_name, used_rows}
 use Rattle.lpc_numbers.specs.Numbered.{numbers}
+use Rattle.lpc_procs.proofs.Children.{children-push}
 use Rattle.lpc_procs.proofs.Placed.{names-new, numbers-has}
 use Rattle.lpc_procs.proofs.Stored.{kept-process, process-unused}
 use Rattle.lpc_procs.proofs.procs.Procs.add_process.Goals as goal
@@ -26,4 +27,5 @@ invariant_of-self c =
       all = rw (c.push_reserved.ensures.items, c.add.ensures.entries, c.add-2.ensures.entries, push-map) (kept-process c.self.inside.processes.items c.self.inside.threads.items (numbers c.self.inside.used_processes.entries) (used_rows c.self.inside.used_threads.entries) c.self.inside.process_names.entries c.self.inside.thread_names.entries c.self.inside.alive c.self.inside.registered c.self.invariant.all row c.requires.number.below new);
       doomed = rw (c.push_reserved.ensures.items) (c.self.invariant.doomed ∙ omega (arith, count-push is_doomed_row c.self.inside.processes.items (record { row = row; live = 0 })));
       watchers = rw (c.push_reserved.ensures.items) (c.self.invariant.watchers ∙ omega (arith, count-push is_watched c.self.inside.processes.items (record { row = row; live = 0 })));
+      tallied = rw (c.push_reserved.ensures.items) (λ whole pid. c.self.invariant.tallied whole pid ∙ sym (children-push pid row c.self.inside.processes.items));
     }

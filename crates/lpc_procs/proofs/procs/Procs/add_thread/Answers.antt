@@ -42,6 +42,7 @@ invariant_of-self c =
       all = rw (c.recount-self-inside.ensures.rows, c.push_reserved.ensures.items, c.add.ensures.entries, c.add-2.ensures.entries, push-map) (kept-thread c.self.inside.processes.items c.self.inside.threads.items (numbers c.self.inside.used_processes.entries) (used_rows c.self.inside.used_threads.entries) c.self.inside.process_names.entries c.self.inside.thread_names.entries c.self.inside.alive c.self.inside.registered c.self.invariant.all t refl (search rules) c.requires.number.below new home (c.live_count-live.result + 1) (ap (λ n. n + 1) counted));
       doomed = c.recount-self-inside.ensures.dooms;
       watchers = rw (c.recount-self-inside.ensures.rows) (c.self.invariant.watchers ∙ sym (count-unseen is_watched (has_number c.args.pid) (counting (c.live_count-live.result + 1)) (λ p. refl) c.self.inside.processes.items));
+      tallied = c.recount-self-inside.ensures.children;
     }
 
 pub returns : goal.returns

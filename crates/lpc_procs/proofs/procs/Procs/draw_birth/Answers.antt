@@ -26,6 +26,7 @@ invariant_of-self c =
       all = kept-set c.self.inside.processes.items c.self.inside.threads.items (numbers c.self.inside.used_processes.entries) (used_rows c.self.inside.used_threads.entries) c.self.inside.process_names.entries c.self.inside.thread_names.entries c.self.inside.alive c.self.inside.registered c.self.invariant.all c.place-place.result c.args.tid c.index_mut-row.result.now is c.index_mut-row.ensures.value past_birth (record { number = λ t. refl; process = λ t. refl }) (λ t. refl) refl (λ h. h) c.self.inside.registered refl;
       doomed = c.self.invariant.doomed;
       watchers = c.self.invariant.watchers;
+      tallied = c.self.invariant.tallied;
     }
 
 pub returns-clause-table : goal.returns-clause-table

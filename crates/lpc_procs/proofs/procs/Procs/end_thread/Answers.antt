@@ -52,6 +52,7 @@ invariant_of-self c =
       all = rw (c.recount-self-inside.ensures.rows, same) (kept-ended c.self.inside.processes.items c.self.inside.threads.items (numbers c.self.inside.used_processes.entries) (used_rows c.self.inside.used_threads.entries) c.self.inside.process_names.entries c.self.inside.thread_names.entries c.self.inside.alive c.self.inside.registered c.self.invariant.all c.place-place.result c.args.tid row is c.index-row.ensures lives (c.live_count-live.result - 1) (c.self.inside.alive - 1) (omega (arith, counted, some.0)) (omega (arith, c.self.invariant.all.living, some.1)));
       doomed = c.recount-self-inside.ensures.dooms;
       watchers = rw (c.recount-self-inside.ensures.rows) (c.self.invariant.watchers ∙ sym (count-unseen is_watched (has_number row.process) (counting (c.live_count-live.result - 1)) (λ p. refl) c.self.inside.processes.items));
+      tallied = c.recount-self-inside.ensures.children;
     }
 
 pub returns : goal.returns

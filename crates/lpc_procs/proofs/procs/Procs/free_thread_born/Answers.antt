@@ -18,4 +18,5 @@ invariant_of-self c =
       all = rw (c.remove_threads.ensures.rows, c.remove_name.ensures.entries) (kept-threads_left c.self.inside.processes.items c.self.inside.threads.items (numbers c.self.inside.used_processes.entries) (used_rows c.self.inside.used_threads.entries) c.self.inside.process_names.entries c.self.inside.thread_names.entries c.self.inside.alive c.self.inside.registered c.self.invariant.all c.args.birth none c.total-self-inside.result total);
       doomed = c.self.invariant.doomed;
       watchers = c.self.invariant.watchers;
+      tallied = c.self.invariant.tallied;
     }

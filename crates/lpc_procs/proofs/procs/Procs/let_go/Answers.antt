@@ -1,5 +1,5 @@
 use Rattle.std.proofs.Common.{refl, sym, ◌∙◌, arith}
-use Rattle.lpc_procs.specs.Kept.{is_doomed_row, is_watched, used_rows}
+use Rattle.lpc_procs.specs.Kept.{is_doomed_row, is_peopled_child, is_watched, used_rows}
 use Rattle.lpc_numbers.specs.Numbered.{numbers}
 use Rattle.lpc_procs.specs.Procs.{portless}
 use Rattle.lpc_procs.proofs.Counts.{count-set}
@@ -26,6 +26,7 @@ invariant_of-self c =
       all = kept-row portless ps c.process_place-place.result c.args.pid p is c.index_mut-process.ensures.value c.self.inside.threads.items (numbers c.self.inside.used_processes.entries) (used_rows c.self.inside.used_threads.entries) c.self.inside.process_names.entries c.self.inside.thread_names.entries c.self.inside.alive c.self.inside.registered c.self.invariant.all (record { number = λ p. refl; birth = λ p. refl });
       doomed = c.self.invariant.doomed ∙ sym (count-set is_doomed_row ps c.process_place-place.result p _ found.here refl);
       watchers = omega (arith, c.self.invariant.watchers, written, c.watched_count.ensures, one-counts is_watched ps c.process_place-place.result p found.here);
+      tallied = λ whole pid. c.self.invariant.tallied whole pid ∙ sym (count-set (is_peopled_child pid) ps c.process_place-place.result p _ found.here refl);
     }
 
 pub returns : goal.returns

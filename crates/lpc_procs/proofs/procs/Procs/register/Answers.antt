@@ -28,6 +28,7 @@ invariant_of-self c =
           (λ h. registered-more c.index_mut.result.now r left) (c.self.inside.registered + 1) (registers-one c.self.inside.registered c.index_mut.result.now r));
       doomed = c.self.invariant.doomed;
       watchers = c.self.invariant.watchers;
+      tallied = c.self.invariant.tallied;
     }
 
 pub returns : goal.returns

@@ -33,6 +33,7 @@ invariant_of-self c =
           (registered-less row c.args.birth) (c.self.inside.registered - (c.len-before.result - c.len.result)) (omega (arith, c.len-before.ensures.value, left, fewer, had, c.self.invariant.all.told)));
       doomed = c.self.invariant.doomed;
       watchers = c.self.invariant.watchers;
+      tallied = c.self.invariant.tallied;
     }
 
 pub returns : goal.returns
