@@ -40,7 +40,7 @@ import suite
 
 EXAMPLES = ROOT / "examples"
 # How many files .states there are: who adds one changes the number.
-STATES_COUNT = 6
+STATES_COUNT = 7
 WORDS = "came", "changed", "went"
 # The kinds of rows in their order, and those that are objects.
 KINDS = "process thread wait mark handle port message name section view token token_name".split()
