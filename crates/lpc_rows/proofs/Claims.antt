@@ -263,7 +263,7 @@ left-keeps w who marks b none =
     apart c d is off = grind arith
 
 -- a handle that goes names another object
-handle-taken : (p : HandleRow → Bool) (pid value : ℕ) (ts : List HandleTable) → every (λ (t : HandleTable). not (is_table pid t && passes (first (has_value value) t.rows) p)) ts ≡ true
+pub handle-taken : (p : HandleRow → Bool) (pid value : ℕ) (ts : List HandleTable) → every (λ (t : HandleTable). not (is_table pid t && passes (first (has_value value) t.rows) p)) ts ≡ true
     → count p (handles_in ts) ≤ count p (handles_in (change (is_table pid) (without_handle value) ts))
 handle-taken p pid value [] off = omega arith
 handle-taken p pid value (t ∷ ts) off = at (is_table pid t) (first-true _ _ off) (handle-taken p pid value ts (second-true _ _ off))

@@ -63,3 +63,4 @@ pub mod TokenFrees
 pub mod Claims
 pub mod Suspected
 pub mod Suspecting
+pub mod Lived

@@ -209,6 +209,21 @@ the-covered : (n : Names) (o : Option Key) (b : Birth) → is_the b (option_map 
 the-covered n None b = refl
 the-covered n (Some key) b = birth-turned b (name_of n key)
 
+-- the handle of a value in the one table of a process doesn't pass
+none-table : (pid value : ℕ) (p : HandleRow → Bool) (ts : List HandleTable) → has (is_table pid) ts ≡ false → every (λ (t : HandleTable). not (is_table pid t && passes (first (has_value value) t.rows) p)) ts ≡ true
+none-table pid value p [] off = refl
+none-table pid value p (t ∷ ts) off = let rest = none-table pid value p ts (grind (arith, off)) in let here : is_table pid t ≡ false = grind (arith, off) in rw (here, rest) refl
+
+pub off-table : (pid value : ℕ) (p : HandleRow → Bool) (ts : List HandleTable) → differ_by (λ (t : HandleTable). t.process) ts ≡ true → passes (first (has_value value) (rows_in (first (is_table pid) ts))) p ≡ false → every (λ (t : HandleTable). not (is_table pid t && passes (first (has_value value) t.rows) p)) ts ≡ true
+off-table pid value p [] single off = refl
+off-table pid value p (t ∷ ts) single off = by (is_table pid t) refl off (λ (away : passes (first (has_value value) (rows_in (first (is_table pid) ts))) p ≡ false). off-table pid value p ts (rest-differ (λ (t : HandleTable). t.process) t ts single) away)
+  where
+    by : (c : Bool) → is_table pid t ≡ c → passes (first (has_value value) (rows_in (cond c (Some t) (first (is_table pid) ts)))) p ≡ false
+        → (passes (first (has_value value) (rows_in (first (is_table pid) ts))) p ≡ false → every (λ (u : HandleTable). not (is_table pid u && passes (first (has_value value) u.rows) p)) ts ≡ true)
+        → every (λ (u : HandleTable). not (is_table pid u && passes (first (has_value value) u.rows) p)) (t ∷ ts) ≡ true
+    by true is off rest = let none = none-table pid value p ts (rest-none (λ (t : HandleTable). t.process) t ts pid single (eqb-true _ _ is)) in rw (is, off, none) refl
+    by false is off rest = let all = rest off in rw (is, all) refl
+
 module _ (w : World) (n : Names) (s : SuspectTable) (old : AreSuspected w n s) where
   -- the row of a port goes, and its other end and its connection port are suspected
   pub freed-to : (v : World) (m : Names) (gone : Key) (p : PortRow) (pair connection : Option Key) → ((b : Birth) → count (is_port b) w.ports ≤ 1) → first (is_port (name_of n gone)) w.ports ≡ Some p
@@ -308,25 +323,11 @@ module _ (w : World) (n : Names) (s : SuspectTable) (old : AreSuspected w n s) w
       → NamesPort n h o → some_stands n o ≡ true → v ≡ basic w (DropsHandle pid value) → AreSuspected v n (suspecting_some o s)
   closed-to v pid value h o single at names stood is =
       subst (λ (u : World). AreSuspected u n (suspecting_some o s)) (sym is)
-      (adds-two w (basic w (DropsHandle pid value)) n s o None stood refl (λ b there. there) (λ b off away. closed-keeps w pid value b (off-table (λ (r : HandleRow). same_object r.object (port_name b)) w.handles single (rw (at) (names b (uncovered o b off))))) old)
+      (adds-two w (basic w (DropsHandle pid value)) n s o None stood refl (λ b there. there) (λ b off away. closed-keeps w pid value b (off-table pid value (λ (r : HandleRow). same_object r.object (port_name b)) w.handles single (rw (at) (names b (uncovered o b off))))) old)
     where
       uncovered : (o : Option Key) (b : Birth) → covers n o b ≡ false → passes o (λ key. same_birth (name_of n key) b) ≡ false
       uncovered None b off = refl
       uncovered (Some key) b off = off
-
-      none-table : (p : HandleRow → Bool) (ts : List HandleTable) → has (is_table pid) ts ≡ false → every (λ (t : HandleTable). not (is_table pid t && passes (first (has_value value) t.rows) p)) ts ≡ true
-      none-table p [] off = refl
-      none-table p (t ∷ ts) off = let rest = none-table p ts (grind (arith, off)) in let here : is_table pid t ≡ false = grind (arith, off) in rw (here, rest) refl
-
-      off-table : (p : HandleRow → Bool) (ts : List HandleTable) → differ_by (λ (t : HandleTable). t.process) ts ≡ true → passes (first (has_value value) (rows_in (first (is_table pid) ts))) p ≡ false → every (λ (t : HandleTable). not (is_table pid t && passes (first (has_value value) t.rows) p)) ts ≡ true
-      off-table p [] single off = refl
-      off-table p (t ∷ ts) single off = by (is_table pid t) refl off (λ (away : passes (first (has_value value) (rows_in (first (is_table pid) ts))) p ≡ false). off-table p ts (rest-differ (λ (t : HandleTable). t.process) t ts single) away)
-        where
-          by : (c : Bool) → is_table pid t ≡ c → passes (first (has_value value) (rows_in (cond c (Some t) (first (is_table pid) ts)))) p ≡ false
-              → (passes (first (has_value value) (rows_in (first (is_table pid) ts))) p ≡ false → every (λ (u : HandleTable). not (is_table pid u && passes (first (has_value value) u.rows) p)) ts ≡ true)
-              → every (λ (u : HandleTable). not (is_table pid u && passes (first (has_value value) u.rows) p)) (t ∷ ts) ≡ true
-          by true is off rest = let none = none-table p ts (rest-none (λ (t : HandleTable). t.process) t ts pid single (eqb-true _ _ is)) in rw (is, off, none) refl
-          by false is off rest = let all = rest off in rw (is, all) refl
 
   -- a thread ends where none that lives has registered a port
   pub died-to : (v : World) (who : ℕ) → ((b : Birth) → count (same_birth b) (all_registrations w) ≤ 0) → v ≡ record w { threads = change (is_thread who) ended w.threads } → AreSuspected v n s

@@ -2,7 +2,8 @@
 use Rattle.std.specs.Prelude.{◌≡◌, ℕ, ◌&&◌, ◌||◌, ◌++◌, ◌∷◌, [], Bool, true, false, List, Option, Some, None, length, nat_lt, if◌then◌else◌}
 use Rattle.lpc_base.specs.declared.birth.Birth.{Birth}
 use Rattle.lpc_base.specs.Rows.{has, passes}
-use Rattle.lpc_model.specs.Found.{is_port, port_name, same_birth, same_object}
+use Rattle.lpc_model.specs.Found.{is_port, port_name, process_name, same_birth, same_object, thread_name}
+use Rattle.lpc_model.specs.Linked.{AreLivesHeld}
 use Rattle.lpc_model.specs.Sweep.{is_unheld}
 use Rattle.lpc_model.specs.World.{HandleRow, World}
 use Rattle.lpc_slots.specs.declared.Key.{Key}
@@ -45,12 +46,19 @@ abbrev pub AreSuspected : World → Names → SuspectTable → Type 0
 AreSuspected w names s =
     s.any ≡ false → (b : Birth) → has (is_port b) w.ports ≡ true → is_unheld w (port_name b) ≡ true → has (is_at names b) s.keys ≡ true
 
--- what a world keeps of its tables: they are lawful, and the ports that no row counts for are suspected
-pub record IsWatched (it : Tables) (calls made : ℕ) (s : SuspectTable) : Type 0 where
+-- what a world keeps of its tables: they are lawful, the ports that no row counts for are suspected, and some row counts
+-- for each thread and each process, unless any of these is suspected
+pub record IsWatched (it : Tables) (calls made : ℕ) (s : SuspectTable) (lives : Bool) : Type 0 where
   pub kept : AreLawful it calls made
   pub watched : AreSuspected (rows_by it) (births_of it).ports s
+  pub lived : lives ≡ false → AreLivesHeld (rows_by it)
 
 -- what a port's handle names: of an object by a handle that was found, or of none, the port at an optional key
 abbrev pub NamesPort : Names → Option HandleRow → Option Key → Type 0
 NamesPort names handle port =
     (b : Birth) → passes port (λ key. same_birth (name_of names key) b) ≡ false → passes handle (λ h. same_object h.object (port_name b)) ≡ false
+
+-- what was found names no thread and no process
+abbrev pub NamesNoLife : Option HandleRow → Type 0
+NamesNoLife handle =
+    (b : Birth) → (passes handle (λ h. same_object h.object (thread_name b)) ≡ false) × (passes handle (λ h. same_object h.object (process_name b)) ≡ false)

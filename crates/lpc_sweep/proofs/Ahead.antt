@@ -3,12 +3,12 @@ use Rattle.std.proofs.Common.{◌≡◌, ◌≤◌, ◌∷◌, ◌++◌, [], Boo
 use Rattle.std.specs.Prelude.{◌==◌}
 use Rattle.lpc_base.specs.declared.birth.Birth.{Birth}
 use Rattle.lpc_base.specs.Rows.{every, has, which}
-use Rattle.lpc_base.proofs.RowWords.{every-back, every-more, every-without}
+use Rattle.lpc_base.proofs.RowWords.{every-back, every-front, every-more, every-without}
 use Rattle.lpc_base.proofs.RowMaps.{every-map}
 use Rattle.lpc_model.specs.World.{ObjectName, PortRow, ProcessRow, SectionRow, ThreadRow, TokenRow, World}
 use Rattle.lpc_model.specs.Basics.{Frees, basic, freed, world_after}
 use Rattle.lpc_model.specs.Found.{is_section, is_token, object_names, port_name, process_name, section_name, thread_name, token_name}
-use Rattle.lpc_model.specs.Linked.{HasHeldPorts, HasHeldSections, HasHeldTokens}
+use Rattle.lpc_model.specs.Linked.{AreLivesHeld, HasHeldPorts, HasHeldSections, HasHeldTokens}
 use Rattle.lpc_model.specs.Sweep.{is_unheld, sweep, unheld}
 use Rattle.lpc_model.proofs.Held.FreedLife.{process_first, section_first, thread_first, token_first}
 use Rattle.lpc_model.proofs.Held.Lives.{same-section, same-thread, same-token}
@@ -114,3 +114,20 @@ none-unheld w none =
     let all = which-none (is_unheld w) (object_names w) none in
     let last = every-back held threads ports (every-back held processes (threads ++ ports) (every-back held sections (processes ++ (threads ++ ports)) (every-back held tokens (sections ++ (processes ++ (threads ++ ports))) all))) in
     sym (every-map held (λ (p : PortRow). port_name p.birth) w.ports) ∙ last
+
+-- and for each thread and each process
+pub none-unheld_lives : (w : World) → unheld w ≡ [] → AreLivesHeld w
+none-unheld_lives w none =
+    let held : ObjectName → Bool = λ o. not (is_unheld w o) in
+    let tokens = map (λ (t : TokenRow). token_name t.birth) w.tokens in
+    let sections = map (λ (s : SectionRow). section_name s.birth) w.sections in
+    let processes = map (λ (p : ProcessRow). process_name p.birth) w.processes in
+    let threads = map (λ (t : ThreadRow). thread_name t.birth) w.threads in
+    let ports = map (λ (p : PortRow). port_name p.birth) w.ports in
+    let all = which-none (is_unheld w) (object_names w) none in
+    let rest = every-back held sections (processes ++ (threads ++ ports)) (every-back held tokens (sections ++ (processes ++ (threads ++ ports))) all) in
+    let last = every-back held processes (threads ++ ports) rest in
+    record {
+      threads = sym (every-map held (λ (t : ThreadRow). thread_name t.birth) w.threads) ∙ every-front held threads ports last;
+      processes = sym (every-map held (λ (p : ProcessRow). process_name p.birth) w.processes) ∙ every-front held processes (threads ++ ports) rest;
+    }

@@ -105,6 +105,18 @@ fn free_processes(world: &mut World)
     }
 }
 
+/// Where a thread or a process may have lost the last row that counted for it, each goes that no row counts for.
+fn free_lives(world: &mut World)
+    requires can { CanSweep world.old.rows }
+    ensures ahead { SweepsAhead world.old world.new }
+    ensures held { AreLivesHeld world.new.rows }
+{
+    if world.are_lives_suspected() {
+        free_threads(world);
+        free_processes(world);
+    }
+}
+
 /// While there is a port that no row counts for, it goes. Some row counts for each thread, each process, each section
 /// and each token.
 fn free_ports(world: &mut World)
@@ -114,6 +126,7 @@ fn free_ports(world: &mut World)
     requires tokens { HasHeldTokens world.old.rows }
     ensures rows { world.new.rows ≡ world_after world.old.rows (model.sweep world.old.rows) }
     ensures held { HasHeldPorts world.new.rows }
+    ensures living { AreLivesHeld world.new.rows }
     ensures calls { world.new.calls ≡ world.old.calls }
     ensures made { world.new.made ≤ world.old.made }
     ensures room { Roomy world.old.room world.new.room }
@@ -183,6 +196,7 @@ fn free_unheld_ports(world: &mut World)
     requires tokens { HasHeldTokens world.old.rows }
     ensures rows { world.new.rows ≡ world_after world.old.rows (model.sweep world.old.rows) }
     ensures held { HasHeldPorts world.new.rows }
+    ensures living { AreLivesHeld world.new.rows }
     ensures calls { world.new.calls ≡ world.old.calls }
     ensures made { world.new.made ≤ world.old.made }
     ensures room { Roomy world.old.room world.new.room }
@@ -203,6 +217,7 @@ fn free_unheld(world: &mut World)
     requires still { world.old.loose ≡ false → model.unheld world.old.rows ≡ [] }
     ensures rows { world.new.rows ≡ world_after world.old.rows (model.sweep world.old.rows) }
     ensures held { HasHeldPorts world.new.rows }
+    ensures living { AreLivesHeld world.new.rows }
     ensures calls { world.new.calls ≡ world.old.calls }
     ensures made { world.new.made ≤ world.old.made }
     ensures room { Roomy world.old.room world.new.room }
@@ -212,14 +227,14 @@ fn free_unheld(world: &mut World)
     if world.is_loose() {
         free_tokens(world);
         free_sections(world);
-        free_threads(world);
-        free_processes(world);
+        free_lives(world);
         free_unheld_ports(world);
     }
 }
 
-/// Each object goes that no row counts for, and then each that only those counted for. Of the ports those alone are
-/// looked at that may have lost what counted for them, where these are few.
+/// Each object goes that no row counts for, and then each that only those counted for. Threads and processes are looked
+/// at only where one of them may have lost what counted for it, and of the ports those alone that may have, where these
+/// are few.
 pub fn sweep(world: &mut World)
     requires can { CanSweep world.old.rows }
     requires still { world.old.loose ≡ false → model.unheld world.old.rows ≡ [] }

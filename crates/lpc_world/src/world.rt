@@ -72,6 +72,7 @@ pub struct World {
     token_names: TokenNames,
     marks: Marks,
     suspects: Suspects,
+    lives: bool,
     calls: u32,
     made: u32,
     loose: bool,
@@ -87,7 +88,7 @@ impl Model for World {
 
     ghost view = { λ w. kept_by (tables_of w.procs w.parts.items w.ports w.waits w.names w.sections w.tokens w.token_names w.marks) w.parts.room w.calls w.made w.loose };
 
-    ghost invariant = { λ w. IsWatched (tables_of w.procs w.parts.items w.ports w.waits w.names w.sections w.tokens w.token_names w.marks) w.calls w.made w.suspects };
+    ghost invariant = { λ w. IsWatched (tables_of w.procs w.parts.items w.ports w.waits w.names w.sections w.tokens w.token_names w.marks) w.calls w.made w.suspects w.lives };
 }
 
 // Written out, so that a proof about what holds a world lets it go in one step, and not table by table.
@@ -104,6 +105,7 @@ impl Drop for World {
             token_names: _,
             marks: _,
             suspects: _,
+            lives: _,
             calls: _,
             made: _,
             loose: _,
@@ -135,6 +137,7 @@ impl World {
             token_names: TokenNames::new(alloc),
             marks: Marks::new(alloc),
             suspects: Suspects::none(),
+            lives: false,
             calls: 0,
             made: 0,
             loose: false,
@@ -224,6 +227,7 @@ impl World {
             } }
     {
         self.made += 1;
+        self.lives = true;
         self.procs.add_process(pid, maker, birth, token);
         self.parts.add(pid);
     }
@@ -252,6 +256,7 @@ impl World {
         ensures capacity { self.new.capacity ≡ self.old.capacity }
     {
         self.made += 1;
+        self.lives = true;
         self.procs.add_thread(tid, pid, birth);
     }
 

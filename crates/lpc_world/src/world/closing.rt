@@ -1,5 +1,5 @@
 // What goes when a handle is closed, and what is counted of its object.
-ghost use Rattle.std.specs.Prelude.{◌≡◌, ◌+◌, ◌*◌, ◌≤◌, true};
+ghost use Rattle.std.specs.Prelude.{◌||◌, is_none, IfSome, ◌≡◌, ◌+◌, ◌*◌, ◌≤◌, true};
 ghost use Rattle.lpc_base.specs.Rows.{count, has};
 ghost use Rattle.lpc_base.specs.declared.limits.TheConstants.{VIEW_LIMIT};
 ghost use Rattle.lpc_model.specs.Basics.{Cuts, DropsHandle, Empties, Unbinds};
@@ -10,7 +10,7 @@ ghost use Rattle.lpc_rows.specs.Capacity.{but_names};
 ghost use Rattle.lpc_rows.specs.Held.{has_handles};
 ghost use Rattle.lpc_rows.specs.Kept.{IsStep, Roomy, owed_rows};
 ghost use Rattle.lpc_rows.specs.Names.{some_stands, stands};
-ghost use Rattle.lpc_rows.specs.Suspects.{NamesPort};
+ghost use Rattle.lpc_rows.specs.Suspects.{NamesNoLife, NamesPort};
 ghost use Rattle.lpc_rows.specs.Shown.{object_stands};
 ghost use Rattle.lpc_rows.specs.Clauses.{after, birth_at, name_at};
 
@@ -73,6 +73,7 @@ impl World {
     {
         let port = self.port_of_handle(pid, value);
         self.loose = true;
+        self.lives = lives_are_suspected(self.lives, port);
         self.parts.close_handle(pid, value);
         self.suspects.add_some(port);
     }
@@ -83,6 +84,7 @@ impl World {
         ensures stands { some_stands self.now.births.ports result ≡ true }
         ensures names { let handle = handle_at self.now.rows pid value in
             NamesPort self.now.births.ports handle result }
+        ensures no_life { IfSome result (λ port. NamesNoLife (handle_at self.now.rows pid value)) }
     {
         self.handle(pid, value)?.object.port()
     }
@@ -171,4 +173,12 @@ impl World {
         let waits = self.waits.made_on(port);
         ports + self.ports.sent_on(port) + (waits + self.registered_to(port))
     }
+}
+
+// Threads and processes are suspected, once a handle went that named the port at a key, or no port: where they were, and
+// where it named none.
+fn lives_are_suspected(before: bool, port: Option<Key>) -> bool
+    ensures { result ≡ (before || is_none port) }
+{
+    before || port.is_none()
 }

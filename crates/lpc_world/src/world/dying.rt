@@ -57,6 +57,7 @@ impl World {
         self.loose = true;
         self.procs.unregister(tid, birth);
         self.suspects.add_any();
+        self.lives = true;
     }
 
     /// A live thread ends, which doesn't wait.
@@ -69,6 +70,7 @@ impl World {
     {
         self.loose = true;
         let registered = self.procs.registrations() > 0;
+        self.lives = true;
         self.procs.end_thread(tid);
         self.suspects.add_any_if(registered);
     }

@@ -117,6 +117,7 @@ impl World {
         self.loose = true;
         self.procs.set_debug_port(pid, port, birth);
         self.suspects.add_any();
+        self.lives = true;
     }
 
     /// A process gets its exception port.
@@ -132,6 +133,7 @@ impl World {
         self.loose = true;
         self.procs.set_exception_port(pid, port, birth);
         self.suspects.add_any();
+        self.lives = true;
     }
 
     /// A process lets both ports go.
@@ -144,6 +146,7 @@ impl World {
         self.loose = true;
         self.procs.let_go(pid);
         self.suspects.add_any();
+        self.lives = true;
     }
 
     // Processes that are to end.

@@ -2,7 +2,7 @@
 ghost use Rattle.std.specs.Prelude.{◌≡◌, ◌+◌, ◌≤◌, true, false};
 ghost use Rattle.lpc_model.specs.Basics.{Frees};
 ghost use Rattle.lpc_model.specs.Found.{port_name, process_name, thread_name};
-ghost use Rattle.lpc_model.specs.Linked.{HasHeldPorts};
+ghost use Rattle.lpc_model.specs.Linked.{AreLivesHeld, HasHeldPorts};
 ghost use Rattle.lpc_model.specs.Sweep.{is_unheld};
 ghost use Rattle.lpc_world.specs.declared.suspects.Suspect.TheVariants.{Nobody};
 ghost use Rattle.lpc_rows.specs.Held as held;
@@ -95,10 +95,18 @@ impl World {
         self.suspects.remove(port);
     }
 
+    /// A thread or a process may have lost the last row that counted for it. Where not, some row counts for each.
+    pub fn are_lives_suspected(&self) -> bool
+        ensures { result ≡ false → AreLivesHeld self.now.rows }
+    {
+        self.lives
+    }
+
     /// Nothing is to be swept any more, until a row goes again that may have named an object. Some row counts for each
-    /// port.
+    /// port, each thread and each process.
     pub fn set_still(&mut self)
         requires held { HasHeldPorts self.old.rows }
+        requires lives { AreLivesHeld self.old.rows }
         ensures rows { self.new.rows ≡ self.old.rows }
         ensures births { self.new.births ≡ self.old.births }
         ensures calls { self.new.calls ≡ self.old.calls }
@@ -109,6 +117,7 @@ impl World {
     {
         self.loose = false;
         self.suspects = Suspects::none();
+        self.lives = false;
     }
 
     /// The row of a thread that has ended goes.
@@ -127,6 +136,7 @@ impl World {
         ensures lives { GainsNoLives self.old self.new }
     {
         self.loose = true;
+        self.lives = true;
         self.procs.free_thread_born(birth);
     }
 
@@ -148,6 +158,7 @@ impl World {
         self.loose = true;
         self.procs.free_process_born(birth);
         self.suspects.add_any();
+        self.lives = true;
     }
 
     /// A port that no row names goes. Its room is spare then.

@@ -154,6 +154,7 @@ impl World {
     {
         self.loose = true;
         self.suspects.add_any();
+        self.lives = true;
         self.parts.unmap_view(pid, address)
     }
 
@@ -167,6 +168,7 @@ impl World {
         self.loose = true;
         self.parts.drop_views(pid);
         self.suspects.add_any();
+        self.lives = true;
     }
 
     /// All views that go with a port go, of whatever process they are.

@@ -84,3 +84,9 @@ returns-clause-capacity c = c.loop-freed.invariant.ahead.capacity
 
 pub returns-clause-lives : goal.returns-clause-lives
 returns-clause-lives c = c.loop-freed.invariant.ahead.lives
+
+pub returns-in-None-clause-living : goal.returns-in-None-clause-living
+returns-in-None-clause-living c = c.loop-freed.invariant.lives
+
+pub returns-clause-living : goal.returns-clause-living
+returns-clause-living c = c.loop-freed.invariant.lives

@@ -7,6 +7,7 @@ use Rattle.lpc_rows.specs.Shown.{tables_of}
 use Rattle.lpc_rows.proofs.Tables as tables
 use Rattle.lpc_rows.proofs.Capacities as capacities
 use Rattle.lpc_rows.proofs.Suspecting as suspecting
+use Rattle.lpc_rows.proofs.Lived as lived
 use Rattle.lpc_world.proofs.world.World.handles_add.Goals as goal
 
 on-few : {A B : Type 0} {P : Type 0} (r : Result A B) (n : ℕ) → (IsErr r ↔ (n ≡ 256)) → n ≤ 256 → (n < 256 → P) → OnOk r P
@@ -36,6 +37,7 @@ invariant_of-self c = record {
       let fewer : length (handles_of (rows_by (tables_of c.self.inside.procs c.self.inside.parts.items c.self.inside.ports c.self.inside.waits c.self.inside.names c.self.inside.sections c.self.inside.tokens c.self.inside.token_names c.self.inside.marks)) c.args.pid) < 256 = omega (arith, number, few) in
       tables.welcome (tables_of c.self.inside.procs c.self.inside.parts.items c.self.inside.ports c.self.inside.waits c.self.inside.names c.self.inside.sections c.self.inside.tokens c.self.inside.token_names c.self.inside.marks) c.self.inside.calls c.self.inside.made c.self.invariant.kept c.args.pid there.table (there.load fewer) (there.room fewer)));
   watched = suspecting.handed-to (tables_of c.self.inside.procs c.self.inside.parts.items c.self.inside.ports c.self.inside.waits c.self.inside.names c.self.inside.sections c.self.inside.tokens c.self.inside.token_names c.self.inside.marks) c.self.inside.calls c.self.inside.made c.self.invariant.kept c.self.inside.suspects c.self.invariant.watched c.args.pid (record { object = c.args.object; access = c.args.access }) c.add_handle.result c.add_handle.new.self.items c.add_handle.ensures.value c.add_handle.ensures.parts c.add_handle.ensures.same;
+  lived = λ calm. lived.handed-to (tables_of c.self.inside.procs c.self.inside.parts.items c.self.inside.ports c.self.inside.waits c.self.inside.names c.self.inside.sections c.self.inside.tokens c.self.inside.token_names c.self.inside.marks) c.self.inside.calls c.self.inside.made c.self.invariant.kept (c.self.invariant.lived calm) c.args.pid (record { object = c.args.object; access = c.args.access }) c.add_handle.result c.add_handle.new.self.items c.add_handle.ensures.value c.add_handle.ensures.parts c.add_handle.ensures.same;
 }
 
 pub returns-clause-quota : goal.returns-clause-quota

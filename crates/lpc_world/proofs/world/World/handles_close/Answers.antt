@@ -9,6 +9,7 @@ use Rattle.lpc_rows.specs.Kept.{rows_by}
 use Rattle.lpc_rows.specs.Shown.{births_of}
 use Rattle.std.proofs.Common.{refl}
 use Rattle.lpc_model.specs.Found.{handle_at}
+use Rattle.lpc_rows.proofs.Lived as lived
 use Rattle.lpc_world.proofs.world.World.handles_close.Goals as goal
 
 pub close_handle-requires-clause-one : goal.close_handle-requires-clause-one
@@ -22,6 +23,7 @@ invariant_of-self c = record {
   kept =
       rw c.close_handle.ensures.parts (dropped.dropped_lawful (tables_of c.self.inside.procs c.self.inside.parts.items c.self.inside.ports c.self.inside.waits c.self.inside.names c.self.inside.sections c.self.inside.tokens c.self.inside.token_names c.self.inside.marks) c.self.inside.calls c.self.inside.made c.self.invariant.kept c.args.pid c.args.value);
   watched = let names = rw (← c.self.view_is) at c.port_of_handle-port.ensures.names in let stood = rw (← c.self.view_is) at c.port_of_handle-port.ensures.stands in rw (c.close_handle.ensures.parts, c.add_some.ensures) (suspected.closed-to (rows_by (tables_of c.self.inside.procs c.self.inside.parts.items c.self.inside.ports c.self.inside.waits c.self.inside.names c.self.inside.sections c.self.inside.tokens c.self.inside.token_names c.self.inside.marks)) (births_of (tables_of c.self.inside.procs c.self.inside.parts.items c.self.inside.ports c.self.inside.waits c.self.inside.names c.self.inside.sections c.self.inside.tokens c.self.inside.token_names c.self.inside.marks)).ports c.self.inside.suspects c.self.invariant.watched _ c.args.pid c.args.value (handle_at (rows_by (tables_of c.self.inside.procs c.self.inside.parts.items c.self.inside.ports c.self.inside.waits c.self.inside.names c.self.inside.sections c.self.inside.tokens c.self.inside.token_names c.self.inside.marks)) c.args.pid c.args.value) c.port_of_handle-port.result c.self.invariant.kept.lawful.tables_single refl names stood (dropped.drops (tables_of c.self.inside.procs c.self.inside.parts.items c.self.inside.ports c.self.inside.waits c.self.inside.names c.self.inside.sections c.self.inside.tokens c.self.inside.token_names c.self.inside.marks) c.self.inside.calls c.self.inside.made c.self.invariant.kept c.args.pid c.args.value));
+  lived = let names = rw (← c.self.view_is) at c.port_of_handle-port.ensures.no_life in rw c.close_handle.ensures.parts (λ calm. lived.closed-if (rows_by (tables_of c.self.inside.procs c.self.inside.parts.items c.self.inside.ports c.self.inside.waits c.self.inside.names c.self.inside.sections c.self.inside.tokens c.self.inside.token_names c.self.inside.marks)) c.self.inside.lives c.self.invariant.lived _ c.args.pid c.args.value c.self.invariant.kept.lawful.tables_single c.port_of_handle-port.result names (dropped.drops (tables_of c.self.inside.procs c.self.inside.parts.items c.self.inside.ports c.self.inside.waits c.self.inside.names c.self.inside.sections c.self.inside.tokens c.self.inside.token_names c.self.inside.marks) c.self.inside.calls c.self.inside.made c.self.invariant.kept c.args.pid c.args.value) (sym c.lives_are_suspected-self-inside.ensures ∙ calm));
 }
 
 pub returns-clause-rows : goal.returns-clause-rows

@@ -15,6 +15,7 @@ use Rattle.lpc_world.proofs.Places as places
 use Rattle.lpc_rows.proofs.Suspecting as suspecting
 use Rattle.lpc_rows.specs.Kept.{rows_by}
 use Rattle.lpc_rows.specs.Shown.{births_of}
+use Rattle.lpc_rows.proofs.Lived as lived
 use Rattle.lpc_world.proofs.world.World.memory_mut.Goals as goal
 
 some_view : (o : Option (View Key)) → passes o (λ v. v.writable) ≡ true → IsSome o
@@ -40,7 +41,7 @@ pub invariant_of-self-lent : goal.invariant_of-self-lent
 invariant_of-self-lent c = λ w.
     let may = rw (← c.self.view_is) at c.requires.writable in
     let found = c.place_in-place.ensures.place in
-    record { kept = places.still_lawful (tables_of c.self.inside.procs c.self.inside.parts.items c.self.inside.ports c.self.inside.waits c.self.inside.names c.self.inside.sections c.self.inside.tokens c.self.inside.token_names c.self.inside.marks) c.self.inside.calls c.self.inside.made c.self.invariant.kept c.args.pid c.args.address c.args.len c.place_in-place.result found may w; watched = suspecting.written-to (rows_by (tables_of c.self.inside.procs c.self.inside.parts.items c.self.inside.ports c.self.inside.waits c.self.inside.names c.self.inside.sections c.self.inside.tokens c.self.inside.token_names c.self.inside.marks)) (births_of (tables_of c.self.inside.procs c.self.inside.parts.items c.self.inside.ports c.self.inside.waits c.self.inside.names c.self.inside.sections c.self.inside.tokens c.self.inside.token_names c.self.inside.marks)).ports c.self.inside.suspects c.self.invariant.watched _ c.args.address w (view_holding (rows_by (tables_of c.self.inside.procs c.self.inside.parts.items c.self.inside.ports c.self.inside.waits c.self.inside.names c.self.inside.sections c.self.inside.tokens c.self.inside.token_names c.self.inside.marks)) c.args.pid c.args.address c.args.len) (ap (λ (k : Kept). k.rows) (places.kept (tables_of c.self.inside.procs c.self.inside.parts.items c.self.inside.ports c.self.inside.waits c.self.inside.names c.self.inside.sections c.self.inside.tokens c.self.inside.token_names c.self.inside.marks) c.self.inside.calls c.self.inside.made c.self.invariant.kept c.args.pid c.args.address c.args.len c.place_in-place.result found may w c.self.inside.parts.room c.self.inside.loose)) }
+    record { kept = places.still_lawful (tables_of c.self.inside.procs c.self.inside.parts.items c.self.inside.ports c.self.inside.waits c.self.inside.names c.self.inside.sections c.self.inside.tokens c.self.inside.token_names c.self.inside.marks) c.self.inside.calls c.self.inside.made c.self.invariant.kept c.args.pid c.args.address c.args.len c.place_in-place.result found may w; watched = suspecting.written-to (rows_by (tables_of c.self.inside.procs c.self.inside.parts.items c.self.inside.ports c.self.inside.waits c.self.inside.names c.self.inside.sections c.self.inside.tokens c.self.inside.token_names c.self.inside.marks)) (births_of (tables_of c.self.inside.procs c.self.inside.parts.items c.self.inside.ports c.self.inside.waits c.self.inside.names c.self.inside.sections c.self.inside.tokens c.self.inside.token_names c.self.inside.marks)).ports c.self.inside.suspects c.self.invariant.watched _ c.args.address w (view_holding (rows_by (tables_of c.self.inside.procs c.self.inside.parts.items c.self.inside.ports c.self.inside.waits c.self.inside.names c.self.inside.sections c.self.inside.tokens c.self.inside.token_names c.self.inside.marks)) c.args.pid c.args.address c.args.len) (ap (λ (k : Kept). k.rows) (places.kept (tables_of c.self.inside.procs c.self.inside.parts.items c.self.inside.ports c.self.inside.waits c.self.inside.names c.self.inside.sections c.self.inside.tokens c.self.inside.token_names c.self.inside.marks) c.self.inside.calls c.self.inside.made c.self.invariant.kept c.args.pid c.args.address c.args.len c.place_in-place.result found may w c.self.inside.parts.room c.self.inside.loose)); lived = λ calm. lived.written-to (rows_by (tables_of c.self.inside.procs c.self.inside.parts.items c.self.inside.ports c.self.inside.waits c.self.inside.names c.self.inside.sections c.self.inside.tokens c.self.inside.token_names c.self.inside.marks)) (c.self.invariant.lived calm) _ c.args.address w (view_holding (rows_by (tables_of c.self.inside.procs c.self.inside.parts.items c.self.inside.ports c.self.inside.waits c.self.inside.names c.self.inside.sections c.self.inside.tokens c.self.inside.token_names c.self.inside.marks)) c.args.pid c.args.address c.args.len) (ap (λ (k : Kept). k.rows) (places.kept (tables_of c.self.inside.procs c.self.inside.parts.items c.self.inside.ports c.self.inside.waits c.self.inside.names c.self.inside.sections c.self.inside.tokens c.self.inside.token_names c.self.inside.marks) c.self.inside.calls c.self.inside.made c.self.invariant.kept c.args.pid c.args.address c.args.len c.place_in-place.result found may w c.self.inside.parts.room c.self.inside.loose)) }
 
 pub returns : goal.returns
 returns c =

@@ -13,6 +13,7 @@ invariant_of-self c = record {
   kept =
       rw c.reserve.ensures.kept (steps.roomed_ports (tables_of c.self.inside.procs c.self.inside.parts.items c.self.inside.ports c.self.inside.waits c.self.inside.names c.self.inside.sections c.self.inside.tokens c.self.inside.token_names c.self.inside.marks) c.self.inside.calls c.self.inside.made c.self.invariant.kept c.reserve.new.self.port_room c.reserve.new.self.message_room c.reserve.ensures.message_room);
   watched = rw (c.reserve.ensures.kept) (c.self.invariant.watched);
+  lived = rw (c.reserve.ensures.kept) (λ calm. let held = c.self.invariant.lived calm in record { threads = held.threads; processes = held.processes });
 }
 
 pub returns-clause-same : goal.returns-clause-same

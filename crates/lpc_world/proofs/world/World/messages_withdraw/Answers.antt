@@ -14,6 +14,7 @@ invariant_of-self c = record {
   kept =
       rw c.withdraw-went.ensures.table (withdrawn.withdrawn_lawful (tables_of c.self.inside.procs c.self.inside.parts.items c.self.inside.ports c.self.inside.waits c.self.inside.names c.self.inside.sections c.self.inside.tokens c.self.inside.token_names c.self.inside.marks) c.self.inside.calls c.self.inside.made c.self.invariant.kept c.args.tid);
   watched = rw (c.withdraw-went.ensures.table, c.add_any_if.ensures, c.withdraw-went.ensures.went) (suspecting.emptied-to (tables_of c.self.inside.procs c.self.inside.parts.items c.self.inside.ports c.self.inside.waits c.self.inside.names c.self.inside.sections c.self.inside.tokens c.self.inside.token_names c.self.inside.marks) c.self.inside.suspects c.self.invariant.watched (ports.is_own_of c.args.tid));
+  lived = rw (c.withdraw-went.ensures.table) (λ calm. let held = c.self.invariant.lived calm in record { threads = held.threads; processes = held.processes });
 }
 
 pub returns-clause-left : goal.returns-clause-left

@@ -12,6 +12,7 @@ invariant_of-self c = record {
   kept =
       named.named_lawful (tables_of c.self.inside.procs c.self.inside.parts.items c.self.inside.ports c.self.inside.waits c.self.inside.names c.self.inside.sections c.self.inside.tokens c.self.inside.token_names c.self.inside.marks) c.self.inside.calls c.self.inside.made c.add.new.self c.self.invariant.kept;
   watched = c.self.invariant.watched;
+  lived = λ calm. let held = c.self.invariant.lived calm in record { threads = held.threads; processes = held.processes };
 }
 
 pub returns-clause-rows : goal.returns-clause-rows

@@ -9,6 +9,7 @@ invariant_of-self c = record {
       let there = rw (← c.self.view_is) at c.requires.port in
       unbound.unbound_lawful (tables_of c.self.inside.procs c.self.inside.parts.items c.self.inside.ports c.self.inside.waits c.self.inside.names c.self.inside.sections c.self.inside.tokens c.self.inside.token_names c.self.inside.marks) c.self.inside.calls c.self.inside.made c.self.invariant.kept c.args.port there c.unbind_all.new.self c.unbind_all.ensures.bindings;
   watched = c.self.invariant.watched;
+  lived = λ calm. let held = c.self.invariant.lived calm in record { threads = held.threads; processes = held.processes };
 }
 
 pub returns-clause-step : goal.returns-clause-step

@@ -8,6 +8,8 @@ use Rattle.lpc_rows.proofs.Rooms as rooms
 use Rattle.lpc_rows.proofs.Steps as steps
 use Rattle.lpc_tokens.specs.declared.security.Security.TheVariants.{Unsecured}
 use Rattle.lpc_rows.proofs.Suspected as suspected
+use Rattle.lpc_rows.proofs.Lived as lived
+use Rattle.lpc_model.specs.Basics.{Makes}
 use Rattle.lpc_world.proofs.world.World.ports_add.Goals as goal
 
 pub invariant_of-self : goal.invariant_of-self
@@ -16,6 +18,7 @@ invariant_of-self c = record {
       let there = rw (← c.self.view_is) at c.requires in
       rw (makes.created c.self.inside.ports c.«add-port».new.self c.set_creator.new.self c.«add-port».result c.args.kind c.args.birth c.args.connection c.args.creator c.«add-port».ensures.vacant c.«add-port».ensures.table c.set_creator.ensures) (steps.made_lawful (tables_of c.self.inside.procs c.self.inside.parts.items c.self.inside.ports c.self.inside.waits c.self.inside.names c.self.inside.sections c.self.inside.tokens c.self.inside.token_names c.self.inside.marks) c.self.inside.calls c.self.inside.made c.self.invariant.kept c.«add-port».result (record { birth = c.args.birth; kind = c.args.kind; pair = None; connection = c.args.connection; context = 0; creator = c.args.creator; completed = false; security = Unsecured }) (makes.vacant c.«add-port».result (tables_of c.self.inside.procs c.self.inside.parts.items c.self.inside.ports c.self.inside.waits c.self.inside.names c.self.inside.sections c.self.inside.tokens c.self.inside.token_names c.self.inside.marks) c.«add-port».ensures.vacant) there.fresh (makes.refs_stand (tables_of c.self.inside.procs c.self.inside.parts.items c.self.inside.ports c.self.inside.waits c.self.inside.names c.self.inside.sections c.self.inside.tokens c.self.inside.token_names c.self.inside.marks) c.«add-port».result (record { birth = c.args.birth; kind = c.args.kind; pair = None; connection = c.args.connection; context = 0; creator = c.args.creator; completed = false; security = Unsecured }) refl there.connection) there.drawn there.budget there.place);
   watched = let here = rw (← c.self.view_is) at c.requires in let away = makes.vacant c.«add-port».result (tables_of c.self.inside.procs c.self.inside.parts.items c.self.inside.ports c.self.inside.waits c.self.inside.names c.self.inside.sections c.self.inside.tokens c.self.inside.token_names c.self.inside.marks) c.«add-port».ensures.vacant in rw ((makes.created c.self.inside.ports c.«add-port».new.self c.set_creator.new.self c.«add-port».result c.args.kind c.args.birth c.args.connection c.args.creator c.«add-port».ensures.vacant c.«add-port».ensures.table c.set_creator.ensures), c.add.ensures) (suspected.made-to (rows_by (tables_of c.self.inside.procs c.self.inside.parts.items c.self.inside.ports c.self.inside.waits c.self.inside.names c.self.inside.sections c.self.inside.tokens c.self.inside.token_names c.self.inside.marks)) (births_of (tables_of c.self.inside.procs c.self.inside.parts.items c.self.inside.ports c.self.inside.waits c.self.inside.names c.self.inside.sections c.self.inside.tokens c.self.inside.token_names c.self.inside.marks)).ports c.self.inside.suspects c.self.invariant.watched _ _ c.«add-port».result (shown_port (birth_of (births_of (tables_of c.self.inside.procs c.self.inside.parts.items c.self.inside.ports c.self.inside.waits c.self.inside.names c.self.inside.sections c.self.inside.tokens c.self.inside.token_names c.self.inside.marks))) (c.«add-port».result, (record { birth = c.args.birth; kind = c.args.kind; pair = None; connection = c.args.connection; context = 0; creator = c.args.creator; completed = false; security = Unsecured }))) (makes.keeps (tables_of c.self.inside.procs c.self.inside.parts.items c.self.inside.ports c.self.inside.waits c.self.inside.names c.self.inside.sections c.self.inside.tokens c.self.inside.token_names c.self.inside.marks) c.self.invariant.kept.named c.«add-port».result (record { birth = c.args.birth; kind = c.args.kind; pair = None; connection = c.args.connection; context = 0; creator = c.args.creator; completed = false; security = Unsecured }) (c.self.inside.ports.port_room - 1) (c.self.inside.ports.ports_made + 1)) (makes.stands_new (tables_of c.self.inside.procs c.self.inside.parts.items c.self.inside.ports c.self.inside.waits c.self.inside.names c.self.inside.sections c.self.inside.tokens c.self.inside.token_names c.self.inside.marks) c.self.invariant.kept.named c.«add-port».result (record { birth = c.args.birth; kind = c.args.kind; pair = None; connection = c.args.connection; context = 0; creator = c.args.creator; completed = false; security = Unsecured }) (c.self.inside.ports.port_room - 1) (c.self.inside.ports.ports_made + 1) away) (makes.name_new (tables_of c.self.inside.procs c.self.inside.parts.items c.self.inside.ports c.self.inside.waits c.self.inside.names c.self.inside.sections c.self.inside.tokens c.self.inside.token_names c.self.inside.marks) c.self.invariant.kept.named c.«add-port».result (record { birth = c.args.birth; kind = c.args.kind; pair = None; connection = c.args.connection; context = 0; creator = c.args.creator; completed = false; security = Unsecured }) (c.self.inside.ports.port_room - 1) (c.self.inside.ports.ports_made + 1) away) (makes.makes (tables_of c.self.inside.procs c.self.inside.parts.items c.self.inside.ports c.self.inside.waits c.self.inside.names c.self.inside.sections c.self.inside.tokens c.self.inside.token_names c.self.inside.marks) c.self.invariant.kept.named c.«add-port».result (record { birth = c.args.birth; kind = c.args.kind; pair = None; connection = c.args.connection; context = 0; creator = c.args.creator; completed = false; security = Unsecured }) (c.self.inside.ports.port_room - 1) (c.self.inside.ports.ports_made + 1) (makes.refs_stand (tables_of c.self.inside.procs c.self.inside.parts.items c.self.inside.ports c.self.inside.waits c.self.inside.names c.self.inside.sections c.self.inside.tokens c.self.inside.token_names c.self.inside.marks) c.«add-port».result (record { birth = c.args.birth; kind = c.args.kind; pair = None; connection = c.args.connection; context = 0; creator = c.args.creator; completed = false; security = Unsecured }) refl here.connection)));
+  lived = let here = rw (← c.self.view_is) at c.requires in rw (makes.created c.self.inside.ports c.«add-port».new.self c.set_creator.new.self c.«add-port».result c.args.kind c.args.birth c.args.connection c.args.creator c.«add-port».ensures.vacant c.«add-port».ensures.table c.set_creator.ensures) (λ calm. lived.step-to (rows_by (tables_of c.self.inside.procs c.self.inside.parts.items c.self.inside.ports c.self.inside.waits c.self.inside.names c.self.inside.sections c.self.inside.tokens c.self.inside.token_names c.self.inside.marks)) (c.self.invariant.lived calm) _ (Makes (shown_port (birth_of (births_of (tables_of c.self.inside.procs c.self.inside.parts.items c.self.inside.ports c.self.inside.waits c.self.inside.names c.self.inside.sections c.self.inside.tokens c.self.inside.token_names c.self.inside.marks))) (c.«add-port».result, (record { birth = c.args.birth; kind = c.args.kind; pair = None; connection = c.args.connection; context = 0; creator = c.args.creator; completed = false; security = Unsecured })))) (makes.makes (tables_of c.self.inside.procs c.self.inside.parts.items c.self.inside.ports c.self.inside.waits c.self.inside.names c.self.inside.sections c.self.inside.tokens c.self.inside.token_names c.self.inside.marks) c.self.invariant.kept.named c.«add-port».result (record { birth = c.args.birth; kind = c.args.kind; pair = None; connection = c.args.connection; context = 0; creator = c.args.creator; completed = false; security = Unsecured }) (c.self.inside.ports.port_room - 1) (c.self.inside.ports.ports_made + 1) (makes.refs_stand (tables_of c.self.inside.procs c.self.inside.parts.items c.self.inside.ports c.self.inside.waits c.self.inside.names c.self.inside.sections c.self.inside.tokens c.self.inside.token_names c.self.inside.marks) c.«add-port».result (record { birth = c.args.birth; kind = c.args.kind; pair = None; connection = c.args.connection; context = 0; creator = c.args.creator; completed = false; security = Unsecured }) refl here.connection)) refl);
 }
 
 pub returns-clause-rows : goal.returns-clause-rows

@@ -36,6 +36,7 @@ invariant_of-self c = record {
       rw c.send.ensures.table (steps.entered (tables_of c.self.inside.procs c.self.inside.parts.items c.self.inside.ports c.self.inside.waits c.self.inside.names c.self.inside.sections c.self.inside.tokens c.self.inside.token_names c.self.inside.marks) c.self.inside.calls c.self.inside.made c.self.invariant.kept (c.send.result, ports.queued c.args.queue c.args.sender c.args.context c.args.bytes.now) (steps.two_stand (tables_of c.self.inside.procs c.self.inside.parts.items c.self.inside.ports c.self.inside.waits c.self.inside.names c.self.inside.sections c.self.inside.tokens c.self.inside.token_names c.self.inside.marks) c.self.inside.calls c.self.inside.made c.self.invariant.kept c.args.queue c.args.sender there.queue there.sender) (steps.long_is c.args.bytes.now c.requires.long) there.budget place there.quiet
       there.request there.closing (λ e. let h = there.other e in omega (arith, h)));
   watched = rw (c.send.ensures.table) (suspected.step-to (rows_by (tables_of c.self.inside.procs c.self.inside.parts.items c.self.inside.ports c.self.inside.waits c.self.inside.names c.self.inside.sections c.self.inside.tokens c.self.inside.token_names c.self.inside.marks)) (births_of (tables_of c.self.inside.procs c.self.inside.parts.items c.self.inside.ports c.self.inside.waits c.self.inside.names c.self.inside.sections c.self.inside.tokens c.self.inside.token_names c.self.inside.marks)).ports c.self.inside.suspects c.self.invariant.watched _ (Enters (shown_message (birth_of (births_of (tables_of c.self.inside.procs c.self.inside.parts.items c.self.inside.ports c.self.inside.waits c.self.inside.names c.self.inside.sections c.self.inside.tokens c.self.inside.token_names c.self.inside.marks))) (c.send.result, ports.queued c.args.queue c.args.sender c.args.context c.args.bytes.now))) (changes.enters (tables_of c.self.inside.procs c.self.inside.parts.items c.self.inside.ports c.self.inside.waits c.self.inside.names c.self.inside.sections c.self.inside.tokens c.self.inside.token_names c.self.inside.marks) c.self.invariant.kept.named (c.send.result, ports.queued c.args.queue c.args.sender c.args.context c.args.bytes.now) (c.self.inside.ports.message_room - 1) (c.self.inside.ports.messages_made + 1)) refl);
+  lived = rw (c.send.ensures.table) (λ calm. let held = c.self.invariant.lived calm in record { threads = held.threads; processes = held.processes });
 }
 
 pub returns-clause-rows : goal.returns-clause-rows

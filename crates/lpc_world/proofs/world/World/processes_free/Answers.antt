@@ -10,6 +10,7 @@ invariant_of-self c = record {
       let there = rw (← c.self.view_is) at c.requires in
       rw c.free_process_born.ensures.table (vacated.process-gone (tables_of c.self.inside.procs c.self.inside.parts.items c.self.inside.ports c.self.inside.waits c.self.inside.names c.self.inside.sections c.self.inside.tokens c.self.inside.token_names c.self.inside.marks) c.self.inside.calls c.self.inside.made c.self.invariant.kept c.args.birth c.free_process_born.new.self.process_room there.empty);
   watched = rw (c.add_any.ensures) (λ calm. absurd (cc));
+  lived = λ calm. absurd (cc);
 }
 
 pub returns-clause-rows : goal.returns-clause-rows

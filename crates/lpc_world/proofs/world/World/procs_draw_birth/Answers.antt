@@ -1,5 +1,5 @@
 use Rattle.std.proofs.Common.{ap, arith, length, ◌∙◌}
-use Rattle.std.proofs.Common.{ap, refl}
+use Rattle.std.proofs.Common.{refl}
 use Rattle.lpc_model.specs.World.{World}
 use Rattle.lpc_base.specs.Rows.{change}
 use Rattle.lpc_model.specs.Found.{is_thread}
@@ -14,6 +14,7 @@ use Rattle.lpc_rows.proofs.Steps as steps
 use Rattle.lpc_rows.proofs.Suspected as suspected
 use Rattle.lpc_rows.specs.Shown.{births_of}
 use Rattle.lpc_model.specs.Basics.{DrawsOrdinal}
+use Rattle.lpc_rows.proofs.Lived as lived
 use Rattle.lpc_world.proofs.world.World.procs_draw_birth.Goals as goal
 
 pub draw_birth-requires : goal.draw_birth-requires
@@ -24,6 +25,7 @@ invariant_of-self c = record {
   kept =
       rw c.draw_birth.ensures.table (steps.drew_birth (tables_of c.self.inside.procs c.self.inside.parts.items c.self.inside.ports c.self.inside.waits c.self.inside.names c.self.inside.sections c.self.inside.tokens c.self.inside.token_names c.self.inside.marks) c.self.inside.calls c.self.inside.made c.self.invariant.kept c.args.tid (rw (← c.self.view_is) at c.requires.budget));
   watched = rw (c.draw_birth.ensures.table) (suspected.step-to (rows_by (tables_of c.self.inside.procs c.self.inside.parts.items c.self.inside.ports c.self.inside.waits c.self.inside.names c.self.inside.sections c.self.inside.tokens c.self.inside.token_names c.self.inside.marks)) (births_of (tables_of c.self.inside.procs c.self.inside.parts.items c.self.inside.ports c.self.inside.waits c.self.inside.names c.self.inside.sections c.self.inside.tokens c.self.inside.token_names c.self.inside.marks)).ports c.self.inside.suspects c.self.invariant.watched _ (DrawsOrdinal c.args.tid) (changes.draws_ordinal (tables_of c.self.inside.procs c.self.inside.parts.items c.self.inside.ports c.self.inside.waits c.self.inside.names c.self.inside.sections c.self.inside.tokens c.self.inside.token_names c.self.inside.marks) c.self.invariant.kept.named c.args.tid) refl);
+  lived = rw (c.draw_birth.ensures.table) (λ calm. lived.step-to (rows_by (tables_of c.self.inside.procs c.self.inside.parts.items c.self.inside.ports c.self.inside.waits c.self.inside.names c.self.inside.sections c.self.inside.tokens c.self.inside.token_names c.self.inside.marks)) (c.self.invariant.lived calm) _ (DrawsOrdinal c.args.tid) (changes.draws_ordinal (tables_of c.self.inside.procs c.self.inside.parts.items c.self.inside.ports c.self.inside.waits c.self.inside.names c.self.inside.sections c.self.inside.tokens c.self.inside.token_names c.self.inside.marks) c.self.invariant.kept.named c.args.tid) refl);
 }
 
 pub returns-clause-birth : goal.returns-clause-birth

@@ -13,6 +13,7 @@ use Rattle.lpc_rows.proofs.Steps as steps
 use Rattle.lpc_rows.proofs.Suspected as suspected
 use Rattle.lpc_rows.specs.Shown.{births_of}
 use Rattle.lpc_model.specs.Basics.{DrawsIdentifier}
+use Rattle.lpc_rows.proofs.Lived as lived
 use Rattle.lpc_world.proofs.world.World.procs_draw_identifier.Goals as goal
 
 pub draw_identifier-requires : goal.draw_identifier-requires
@@ -23,6 +24,7 @@ invariant_of-self c = record {
   kept =
       rw c.draw_identifier.ensures.table (steps.drew_identifier (tables_of c.self.inside.procs c.self.inside.parts.items c.self.inside.ports c.self.inside.waits c.self.inside.names c.self.inside.sections c.self.inside.tokens c.self.inside.token_names c.self.inside.marks) c.self.inside.calls c.self.inside.made c.self.invariant.kept c.args.tid (rw (← c.self.view_is) at c.requires.budget));
   watched = rw (c.draw_identifier.ensures.table) (suspected.step-to (rows_by (tables_of c.self.inside.procs c.self.inside.parts.items c.self.inside.ports c.self.inside.waits c.self.inside.names c.self.inside.sections c.self.inside.tokens c.self.inside.token_names c.self.inside.marks)) (births_of (tables_of c.self.inside.procs c.self.inside.parts.items c.self.inside.ports c.self.inside.waits c.self.inside.names c.self.inside.sections c.self.inside.tokens c.self.inside.token_names c.self.inside.marks)).ports c.self.inside.suspects c.self.invariant.watched _ (DrawsIdentifier c.args.tid) (changes.draws_identifier (tables_of c.self.inside.procs c.self.inside.parts.items c.self.inside.ports c.self.inside.waits c.self.inside.names c.self.inside.sections c.self.inside.tokens c.self.inside.token_names c.self.inside.marks) c.self.invariant.kept.named c.args.tid) refl);
+  lived = rw (c.draw_identifier.ensures.table) (λ calm. lived.step-to (rows_by (tables_of c.self.inside.procs c.self.inside.parts.items c.self.inside.ports c.self.inside.waits c.self.inside.names c.self.inside.sections c.self.inside.tokens c.self.inside.token_names c.self.inside.marks)) (c.self.invariant.lived calm) _ (DrawsIdentifier c.args.tid) (changes.draws_identifier (tables_of c.self.inside.procs c.self.inside.parts.items c.self.inside.ports c.self.inside.waits c.self.inside.names c.self.inside.sections c.self.inside.tokens c.self.inside.token_names c.self.inside.marks) c.self.invariant.kept.named c.args.tid) refl);
 }
 
 pub returns-clause-number : goal.returns-clause-number

@@ -22,6 +22,7 @@ invariant_of-self c = record {
       let ready = rw (← c.self.view_is) at c.requires.ready in
       rw c.end_thread.ensures.table (enrolling.ending-lawful (tables_of c.self.inside.procs c.self.inside.parts.items c.self.inside.ports c.self.inside.waits c.self.inside.names c.self.inside.sections c.self.inside.tokens c.self.inside.token_names c.self.inside.marks) c.self.inside.calls c.self.inside.made c.self.invariant.kept c.args.tid ready);
   watched = rw (c.end_thread.ensures.table, c.add_any_if.ensures) (suspecting.died-if-to (rows_by (tables_of c.self.inside.procs c.self.inside.parts.items c.self.inside.ports c.self.inside.waits c.self.inside.names c.self.inside.sections c.self.inside.tokens c.self.inside.token_names c.self.inside.marks)) (births_of (tables_of c.self.inside.procs c.self.inside.parts.items c.self.inside.ports c.self.inside.waits c.self.inside.names c.self.inside.sections c.self.inside.tokens c.self.inside.token_names c.self.inside.marks)).ports c.self.inside.suspects c.self.invariant.watched _ c.args.tid _ (enrolling.ends (tables_of c.self.inside.procs c.self.inside.parts.items c.self.inside.ports c.self.inside.waits c.self.inside.names c.self.inside.sections c.self.inside.tokens c.self.inside.token_names c.self.inside.marks) c.self.inside.calls c.self.inside.made c.self.invariant.kept c.args.tid) (λ none. let deaths = registered-many c.self.inside.procs.threads in let few = suspecting.not-above c.registrations-registered.result none in omega (arith, deaths, few, c.registrations-registered.ensures.count)));
+  lived = λ calm. absurd (cc);
 }
 
 pub returns-clause-step : goal.returns-clause-step

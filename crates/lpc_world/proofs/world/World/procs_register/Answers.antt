@@ -10,6 +10,7 @@ use Rattle.lpc_rows.proofs.Steps as steps
 use Rattle.lpc_rows.proofs.Suspected as suspected
 use Rattle.lpc_rows.specs.Shown.{births_of}
 use Rattle.std.proofs.Common.{refl}
+use Rattle.lpc_rows.proofs.Lived as lived
 use Rattle.lpc_world.proofs.world.World.procs_register.Goals as goal
 
 pub register-requires : goal.register-requires
@@ -27,6 +28,7 @@ invariant_of-self c = record {
       let room = there.room in
       rw c.register.ensures.table (enrolling.registering-lawful (tables_of c.self.inside.procs c.self.inside.parts.items c.self.inside.ports c.self.inside.waits c.self.inside.names c.self.inside.sections c.self.inside.tokens c.self.inside.token_names c.self.inside.marks) c.self.inside.calls c.self.inside.made c.self.invariant.kept c.args.tid r there.port (sym own) there.budget (omega (arith, room)) there.thread);
   watched = rw (c.register.ensures.table) (suspected.step-to (rows_by (tables_of c.self.inside.procs c.self.inside.parts.items c.self.inside.ports c.self.inside.waits c.self.inside.names c.self.inside.sections c.self.inside.tokens c.self.inside.token_names c.self.inside.marks)) (births_of (tables_of c.self.inside.procs c.self.inside.parts.items c.self.inside.ports c.self.inside.waits c.self.inside.names c.self.inside.sections c.self.inside.tokens c.self.inside.token_names c.self.inside.marks)).ports c.self.inside.suspects c.self.invariant.watched _ (Registers c.args.tid c.port.result.now.birth) (enrolling.registers (tables_of c.self.inside.procs c.self.inside.parts.items c.self.inside.ports c.self.inside.waits c.self.inside.names c.self.inside.sections c.self.inside.tokens c.self.inside.token_names c.self.inside.marks) c.self.inside.calls c.self.inside.made c.self.invariant.kept c.args.tid (record { port = c.args.port; birth = c.port.result.now.birth })) refl);
+  lived = rw (c.register.ensures.table) (λ calm. lived.step-to (rows_by (tables_of c.self.inside.procs c.self.inside.parts.items c.self.inside.ports c.self.inside.waits c.self.inside.names c.self.inside.sections c.self.inside.tokens c.self.inside.token_names c.self.inside.marks)) (c.self.invariant.lived calm) _ (Registers c.args.tid c.port.result.now.birth) (enrolling.registers (tables_of c.self.inside.procs c.self.inside.parts.items c.self.inside.ports c.self.inside.waits c.self.inside.names c.self.inside.sections c.self.inside.tokens c.self.inside.token_names c.self.inside.marks) c.self.inside.calls c.self.inside.made c.self.invariant.kept c.args.tid (record { port = c.args.port; birth = c.port.result.now.birth })) refl);
 }
 
 pub returns-clause-rows : goal.returns-clause-rows

@@ -18,6 +18,7 @@ invariant_of-self c = record {
       let birth = rw (← c.self.view_is) at (sym c.port.ensures.own ∙ c.port.ensures.birth) in
       rw c.set_debug_port.ensures.table (raising.debug-lawful (tables_of c.self.inside.procs c.self.inside.parts.items c.self.inside.ports c.self.inside.waits c.self.inside.names c.self.inside.sections c.self.inside.tokens c.self.inside.token_names c.self.inside.marks) c.self.inside.calls c.self.inside.made c.self.invariant.kept c.args.pid (registration c.args.port c.port.result.now.birth) there (sym birth));
   watched = rw (c.add_any.ensures) (λ calm. absurd (cc));
+  lived = λ calm. absurd (cc);
 }
 
 pub returns-clause-step : goal.returns-clause-step

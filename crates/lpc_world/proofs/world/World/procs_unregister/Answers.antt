@@ -18,6 +18,7 @@ invariant_of-self c = record {
   kept =
       rw c.unregister.ensures.table (enrolling.unregistering-lawful (tables_of c.self.inside.procs c.self.inside.parts.items c.self.inside.ports c.self.inside.waits c.self.inside.names c.self.inside.sections c.self.inside.tokens c.self.inside.token_names c.self.inside.marks) c.self.inside.calls c.self.inside.made c.self.invariant.kept c.args.tid c.args.birth);
   watched = rw (c.add_any.ensures) (λ calm. absurd (cc));
+  lived = λ calm. absurd (cc);
 }
 
 pub returns-clause-rows : goal.returns-clause-rows

@@ -12,6 +12,7 @@ use Rattle.lpc_rows.specs.Kept.{rows_by}
 use Rattle.lpc_rows.specs.Shown.{births_of}
 use Rattle.lpc_rows.specs.Shown.{shown_section}
 use Rattle.lpc_model.specs.Basics.{AddsSection}
+use Rattle.lpc_rows.proofs.Lived as lived
 use Rattle.lpc_world.proofs.world.World.sections_insert_reserved.Goals as goal
 
 pub insert_reserved-requires-clause-few : goal.insert_reserved-requires-clause-few
@@ -27,6 +28,7 @@ invariant_of-self c = record {
       let there = rw (← c.self.view_is) at c.requires in
       sections.added_lawful (tables_of c.self.inside.procs c.self.inside.parts.items c.self.inside.ports c.self.inside.waits c.self.inside.names c.self.inside.sections c.self.inside.tokens c.self.inside.token_names c.self.inside.marks) c.self.inside.calls c.self.inside.made c.self.invariant.kept c.insert_reserved.result c.args.section c.insert_reserved.new.self c.insert_reserved.ensures.table c.insert_reserved.ensures.listed c.insert_reserved.ensures.vacant there.zeros there.fresh there.drawn there.budget;
   watched = suspected.step-to (rows_by (tables_of c.self.inside.procs c.self.inside.parts.items c.self.inside.ports c.self.inside.waits c.self.inside.names c.self.inside.sections c.self.inside.tokens c.self.inside.token_names c.self.inside.marks)) (births_of (tables_of c.self.inside.procs c.self.inside.parts.items c.self.inside.ports c.self.inside.waits c.self.inside.names c.self.inside.sections c.self.inside.tokens c.self.inside.token_names c.self.inside.marks)).ports c.self.inside.suspects c.self.invariant.watched _ (AddsSection (shown_section (c.insert_reserved.result, c.args.section))) (sections.adds (tables_of c.self.inside.procs c.self.inside.parts.items c.self.inside.ports c.self.inside.waits c.self.inside.names c.self.inside.sections c.self.inside.tokens c.self.inside.token_names c.self.inside.marks) c.self.invariant.kept.named c.insert_reserved.result c.args.section c.insert_reserved.new.self c.insert_reserved.ensures.listed (vacant c.self.inside.sections c.insert_reserved.result c.insert_reserved.ensures.vacant) c.requires.zeros) refl;
+  lived = λ calm. lived.step-to (rows_by (tables_of c.self.inside.procs c.self.inside.parts.items c.self.inside.ports c.self.inside.waits c.self.inside.names c.self.inside.sections c.self.inside.tokens c.self.inside.token_names c.self.inside.marks)) (c.self.invariant.lived calm) _ (AddsSection (shown_section (c.insert_reserved.result, c.args.section))) (sections.adds (tables_of c.self.inside.procs c.self.inside.parts.items c.self.inside.ports c.self.inside.waits c.self.inside.names c.self.inside.sections c.self.inside.tokens c.self.inside.token_names c.self.inside.marks) c.self.invariant.kept.named c.insert_reserved.result c.args.section c.insert_reserved.new.self c.insert_reserved.ensures.listed (vacant c.self.inside.sections c.insert_reserved.result c.insert_reserved.ensures.vacant) c.requires.zeros) refl;
 }
 
 pub returns-clause-rows : goal.returns-clause-rows

@@ -8,6 +8,7 @@ invariant_of-self c = record {
   kept =
       named.named_lawful (tables_of c.self.inside.procs c.self.inside.parts.items c.self.inside.ports c.self.inside.waits c.self.inside.names c.self.inside.sections c.self.inside.tokens c.self.inside.token_names c.self.inside.marks) c.self.inside.calls c.self.inside.made c.reserve.new.self c.self.invariant.kept;
   watched = c.self.invariant.watched;
+  lived = λ calm. let held = c.self.invariant.lived calm in record { threads = held.threads; processes = held.processes };
 }
 
 pub returns-clause-same : goal.returns-clause-same

@@ -14,6 +14,7 @@ use Rattle.lpc_rows.specs.Kept.{rows_by}
 use Rattle.lpc_rows.specs.Shown.{births_of}
 use Rattle.lpc_rows.specs.Shown.{birth_of}
 use Rattle.lpc_rows.specs.Shown.{shown_view}
+use Rattle.lpc_rows.proofs.Lived as lived
 use Rattle.lpc_world.proofs.world.World.views_map.Goals as goal
 
 -- a fault leaves the tables
@@ -43,6 +44,7 @@ invariant_of-self c = record {
       let answer = mapped.answered (tables_of c.self.inside.procs c.self.inside.parts.items c.self.inside.ports c.self.inside.waits c.self.inside.names c.self.inside.sections c.self.inside.tokens c.self.inside.token_names c.self.inside.marks) c.self.invariant.kept.named c.args.pid c.args.section c.args.offset c.args.size c.args.writable c.args.owner there.section c.map_view.result c.map_view.ensures.answer in
       (mapped.left (tables_of c.self.inside.procs c.self.inside.parts.items c.self.inside.ports c.self.inside.waits c.self.inside.names c.self.inside.sections c.self.inside.tokens c.self.inside.token_names c.self.inside.marks) c.self.inside.calls c.self.inside.made c.self.invariant.kept c.args.pid c.map_view.new.self.items c.args.owner c.map_view.result there.owner answer.owned c.map_view.ensures.inside c.map_view.ensures.parts c.map_view.ensures.same (tables.single (tables_of c.self.inside.procs c.self.inside.parts.items c.self.inside.ports c.self.inside.waits c.self.inside.names c.self.inside.sections c.self.inside.tokens c.self.inside.token_names c.self.inside.marks) c.self.inside.calls c.self.inside.made c.self.invariant.kept) c.map_view.ensures.place).lawful;
   watched = let there = rw (← c.self.view_is) at c.requires in let answer = mapped.answered (tables_of c.self.inside.procs c.self.inside.parts.items c.self.inside.ports c.self.inside.waits c.self.inside.names c.self.inside.sections c.self.inside.tokens c.self.inside.token_names c.self.inside.marks) c.self.invariant.kept.named c.args.pid c.args.section c.args.offset c.args.size c.args.writable c.args.owner there.section c.map_view.result c.map_view.ensures.answer in suspecting.mapped-to (rows_by (tables_of c.self.inside.procs c.self.inside.parts.items c.self.inside.ports c.self.inside.waits c.self.inside.names c.self.inside.sections c.self.inside.tokens c.self.inside.token_names c.self.inside.marks)) (births_of (tables_of c.self.inside.procs c.self.inside.parts.items c.self.inside.ports c.self.inside.waits c.self.inside.names c.self.inside.sections c.self.inside.tokens c.self.inside.token_names c.self.inside.marks)).ports c.self.inside.suspects c.self.invariant.watched _ c.args.pid (shown_view (birth_of (births_of (tables_of c.self.inside.procs c.self.inside.parts.items c.self.inside.ports c.self.inside.waits c.self.inside.names c.self.inside.sections c.self.inside.tokens c.self.inside.token_names c.self.inside.marks)))) c.map_view.result (mapped.left (tables_of c.self.inside.procs c.self.inside.parts.items c.self.inside.ports c.self.inside.waits c.self.inside.names c.self.inside.sections c.self.inside.tokens c.self.inside.token_names c.self.inside.marks) c.self.inside.calls c.self.inside.made c.self.invariant.kept c.args.pid c.map_view.new.self.items c.args.owner c.map_view.result there.owner answer.owned c.map_view.ensures.inside c.map_view.ensures.parts c.map_view.ensures.same (tables.single (tables_of c.self.inside.procs c.self.inside.parts.items c.self.inside.ports c.self.inside.waits c.self.inside.names c.self.inside.sections c.self.inside.tokens c.self.inside.token_names c.self.inside.marks) c.self.inside.calls c.self.inside.made c.self.invariant.kept) c.map_view.ensures.place).rows (suspecting.same-parts (tables_of c.self.inside.procs c.self.inside.parts.items c.self.inside.ports c.self.inside.waits c.self.inside.names c.self.inside.sections c.self.inside.tokens c.self.inside.token_names c.self.inside.marks) c.map_view.result c.map_view.new.self.items c.map_view.ensures.same);
+  lived = let there = rw (← c.self.view_is) at c.requires in let answer = mapped.answered (tables_of c.self.inside.procs c.self.inside.parts.items c.self.inside.ports c.self.inside.waits c.self.inside.names c.self.inside.sections c.self.inside.tokens c.self.inside.token_names c.self.inside.marks) c.self.invariant.kept.named c.args.pid c.args.section c.args.offset c.args.size c.args.writable c.args.owner there.section c.map_view.result c.map_view.ensures.answer in λ calm. lived.mapped-to (rows_by (tables_of c.self.inside.procs c.self.inside.parts.items c.self.inside.ports c.self.inside.waits c.self.inside.names c.self.inside.sections c.self.inside.tokens c.self.inside.token_names c.self.inside.marks)) (c.self.invariant.lived calm) _ c.args.pid (shown_view (birth_of (births_of (tables_of c.self.inside.procs c.self.inside.parts.items c.self.inside.ports c.self.inside.waits c.self.inside.names c.self.inside.sections c.self.inside.tokens c.self.inside.token_names c.self.inside.marks)))) c.map_view.result (mapped.left (tables_of c.self.inside.procs c.self.inside.parts.items c.self.inside.ports c.self.inside.waits c.self.inside.names c.self.inside.sections c.self.inside.tokens c.self.inside.token_names c.self.inside.marks) c.self.inside.calls c.self.inside.made c.self.invariant.kept c.args.pid c.map_view.new.self.items c.args.owner c.map_view.result there.owner answer.owned c.map_view.ensures.inside c.map_view.ensures.parts c.map_view.ensures.same (tables.single (tables_of c.self.inside.procs c.self.inside.parts.items c.self.inside.ports c.self.inside.waits c.self.inside.names c.self.inside.sections c.self.inside.tokens c.self.inside.token_names c.self.inside.marks) c.self.inside.calls c.self.inside.made c.self.invariant.kept) c.map_view.ensures.place).rows (suspecting.same-parts (tables_of c.self.inside.procs c.self.inside.parts.items c.self.inside.ports c.self.inside.waits c.self.inside.names c.self.inside.sections c.self.inside.tokens c.self.inside.token_names c.self.inside.marks) c.map_view.result c.map_view.new.self.items c.map_view.ensures.same);
 }
 
 pub returns-clause-answer : goal.returns-clause-answer

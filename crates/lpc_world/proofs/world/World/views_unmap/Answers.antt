@@ -18,6 +18,7 @@ invariant_of-self c = record {
   kept =
       (views.is_unmapped (tables_of c.self.inside.procs c.self.inside.parts.items c.self.inside.ports c.self.inside.waits c.self.inside.names c.self.inside.sections c.self.inside.tokens c.self.inside.token_names c.self.inside.marks) c.self.inside.calls c.self.inside.made c.args.pid c.args.address c.self.inside.parts.room c.self.invariant.kept c.unmap_view.new.self.items c.unmap_view.result c.unmap_view.ensures.view c.unmap_view.ensures.parts c.unmap_view.ensures.same).lawful;
   watched = rw (c.add_any.ensures) (λ calm. absurd (cc));
+  lived = λ calm. absurd (cc);
 }
 
 pub returns-clause-view : goal.returns-clause-view

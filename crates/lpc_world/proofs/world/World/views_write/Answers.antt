@@ -9,6 +9,7 @@ use Rattle.lpc_rows.proofs.Suspecting as suspecting
 use Rattle.lpc_rows.specs.Kept.{rows_by}
 use Rattle.lpc_rows.specs.Shown.{births_of}
 use Rattle.lpc_model.specs.Found.{view_holding}
+use Rattle.lpc_rows.proofs.Lived as lived
 use Rattle.lpc_world.proofs.world.World.views_write.Goals as goal
 
 pub views_of-requires : goal.views_of-requires
@@ -29,6 +30,7 @@ invariant_of-self c = record {
       let left = bytes.is_written (tables_of c.self.inside.procs c.self.inside.parts.items c.self.inside.ports c.self.inside.waits c.self.inside.names c.self.inside.sections c.self.inside.tokens c.self.inside.token_names c.self.inside.marks) c.self.inside.calls c.self.inside.made c.self.invariant.kept c.args.pid c.args.address (length c.args.bytes.now) c.args.bytes.now c.write.new.sections c.self.inside.parts.room may c.write.ensures.sizes (c.write.ensures.sections ∙ ap (λ vs. written c.self.inside.sections c.args.address (view_of vs c.args.address (length c.args.bytes.now)) c.args.bytes.now) (c.views_of.ensures.views)) in
       left.lawful;
   watched = let may = rw (← c.self.view_is) at c.requires.writable in let left = bytes.is_written (tables_of c.self.inside.procs c.self.inside.parts.items c.self.inside.ports c.self.inside.waits c.self.inside.names c.self.inside.sections c.self.inside.tokens c.self.inside.token_names c.self.inside.marks) c.self.inside.calls c.self.inside.made c.self.invariant.kept c.args.pid c.args.address (length c.args.bytes.now) c.args.bytes.now c.write.new.sections c.self.inside.parts.room may c.write.ensures.sizes (c.write.ensures.sections ∙ ap (λ vs. written c.self.inside.sections c.args.address (view_of vs c.args.address (length c.args.bytes.now)) c.args.bytes.now) (c.views_of.ensures.views)) in suspecting.written-to (rows_by (tables_of c.self.inside.procs c.self.inside.parts.items c.self.inside.ports c.self.inside.waits c.self.inside.names c.self.inside.sections c.self.inside.tokens c.self.inside.token_names c.self.inside.marks)) (births_of (tables_of c.self.inside.procs c.self.inside.parts.items c.self.inside.ports c.self.inside.waits c.self.inside.names c.self.inside.sections c.self.inside.tokens c.self.inside.token_names c.self.inside.marks)).ports c.self.inside.suspects c.self.invariant.watched _ c.args.address c.args.bytes.now (view_holding (rows_by (tables_of c.self.inside.procs c.self.inside.parts.items c.self.inside.ports c.self.inside.waits c.self.inside.names c.self.inside.sections c.self.inside.tokens c.self.inside.token_names c.self.inside.marks)) c.args.pid c.args.address (length c.args.bytes.now)) left.rows;
+  lived = let may = rw (← c.self.view_is) at c.requires.writable in let left = bytes.is_written (tables_of c.self.inside.procs c.self.inside.parts.items c.self.inside.ports c.self.inside.waits c.self.inside.names c.self.inside.sections c.self.inside.tokens c.self.inside.token_names c.self.inside.marks) c.self.inside.calls c.self.inside.made c.self.invariant.kept c.args.pid c.args.address (length c.args.bytes.now) c.args.bytes.now c.write.new.sections c.self.inside.parts.room may c.write.ensures.sizes (c.write.ensures.sections ∙ ap (λ vs. written c.self.inside.sections c.args.address (view_of vs c.args.address (length c.args.bytes.now)) c.args.bytes.now) (c.views_of.ensures.views)) in λ calm. lived.written-to (rows_by (tables_of c.self.inside.procs c.self.inside.parts.items c.self.inside.ports c.self.inside.waits c.self.inside.names c.self.inside.sections c.self.inside.tokens c.self.inside.token_names c.self.inside.marks)) (c.self.invariant.lived calm) _ c.args.address c.args.bytes.now (view_holding (rows_by (tables_of c.self.inside.procs c.self.inside.parts.items c.self.inside.ports c.self.inside.waits c.self.inside.names c.self.inside.sections c.self.inside.tokens c.self.inside.token_names c.self.inside.marks)) c.args.pid c.args.address (length c.args.bytes.now)) left.rows;
 }
 
 pub returns-clause-step : goal.returns-clause-step

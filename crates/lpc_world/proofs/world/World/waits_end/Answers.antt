@@ -25,6 +25,7 @@ invariant_of-self c = record {
   kept =
       rw (c.remove.ensures, steps.end_is (tables_of c.self.inside.procs c.self.inside.parts.items c.self.inside.ports c.self.inside.waits c.self.inside.names c.self.inside.sections c.self.inside.tokens c.self.inside.token_names c.self.inside.marks) c.self.inside.calls c.self.inside.made c.self.invariant.kept c.args.tid c.end-ended.new.self c.end-ended.result c.end-ended.ensures.value c.end-ended.ensures.rows c.end-ended.ensures.spare c.end-ended.ensures.made) (steps.ended (tables_of c.self.inside.procs c.self.inside.parts.items c.self.inside.ports c.self.inside.waits c.self.inside.names c.self.inside.sections c.self.inside.tokens c.self.inside.token_names c.self.inside.marks) c.self.inside.calls c.self.inside.made c.self.invariant.kept c.args.tid (rw (← c.self.view_is) at c.requires));
   watched = rw (steps.end_is (tables_of c.self.inside.procs c.self.inside.parts.items c.self.inside.ports c.self.inside.waits c.self.inside.names c.self.inside.sections c.self.inside.tokens c.self.inside.token_names c.self.inside.marks) c.self.inside.calls c.self.inside.made c.self.invariant.kept c.args.tid c.end-ended.new.self c.end-ended.result c.end-ended.ensures.value c.end-ended.ensures.rows c.end-ended.ensures.spare c.end-ended.ensures.made, c.add_some.ensures, c.port_of.ensures) (suspecting.ended-to (tables_of c.self.inside.procs c.self.inside.parts.items c.self.inside.ports c.self.inside.waits c.self.inside.names c.self.inside.sections c.self.inside.tokens c.self.inside.token_names c.self.inside.marks) c.self.invariant.kept.named c.self.invariant.kept.lawful.single (rows_by (tables_of c.self.inside.procs c.self.inside.parts.items c.self.inside.ports c.self.inside.waits c.self.inside.names c.self.inside.sections c.self.inside.tokens c.self.inside.token_names c.self.inside.marks)) refl c.self.inside.suspects c.self.invariant.watched c.args.tid _ c.end-ended.result c.end-ended.ensures.value (changes.ends (tables_of c.self.inside.procs c.self.inside.parts.items c.self.inside.ports c.self.inside.waits c.self.inside.names c.self.inside.sections c.self.inside.tokens c.self.inside.token_names c.self.inside.marks) c.self.invariant.kept.named c.args.tid (cond (has (waits.is_of c.args.tid) c.self.inside.waits.rows) (c.self.inside.waits.spare + 1) c.self.inside.waits.spare) c.self.inside.waits.made));
+  lived = λ calm. let held = c.self.invariant.lived calm in record { threads = held.threads; processes = held.processes };
 }
 
 pub returns-clause-still : goal.returns-clause-still

@@ -20,6 +20,7 @@ invariant_of-self c = record {
   kept =
       rw c.set_offer.ensures.table (offering.offered_lawful (tables_of c.self.inside.procs c.self.inside.parts.items c.self.inside.ports c.self.inside.waits c.self.inside.names c.self.inside.sections c.self.inside.tokens c.self.inside.token_names c.self.inside.marks) c.self.inside.calls c.self.inside.made c.args.tid c.self.invariant.kept c.args.offer (rw (← c.self.view_is) at c.requires.section));
   watched = rw (c.set_offer.ensures.table) (suspected.waits-to (rows_by (tables_of c.self.inside.procs c.self.inside.parts.items c.self.inside.ports c.self.inside.waits c.self.inside.names c.self.inside.sections c.self.inside.tokens c.self.inside.token_names c.self.inside.marks)) (births_of (tables_of c.self.inside.procs c.self.inside.parts.items c.self.inside.ports c.self.inside.waits c.self.inside.names c.self.inside.sections c.self.inside.tokens c.self.inside.token_names c.self.inside.marks)).ports c.self.inside.suspects c.self.invariant.watched _ (waits_as c.args.tid) (with_offer (option_map (shown_offer (birth_of (births_of (tables_of c.self.inside.procs c.self.inside.parts.items c.self.inside.ports c.self.inside.waits c.self.inside.names c.self.inside.sections c.self.inside.tokens c.self.inside.token_names c.self.inside.marks)))) c.args.offer)) (λ x. refl) (offering.offers (tables_of c.self.inside.procs c.self.inside.parts.items c.self.inside.ports c.self.inside.waits c.self.inside.names c.self.inside.sections c.self.inside.tokens c.self.inside.token_names c.self.inside.marks) c.self.inside.calls c.self.inside.made c.args.tid c.self.invariant.kept c.args.offer));
+  lived = λ calm. let held = c.self.invariant.lived calm in record { threads = held.threads; processes = held.processes };
 }
 
 pub returns-clause-step : goal.returns-clause-step

@@ -1,0 +1,91 @@
+-- Some row counts for each thread and each process, behind each change as before it.
+use Rattle.std.proofs.Common.{Bool, false, List, [], ◌∷◌, ap, arith, refl, true, ℕ, ◌+◌, ◌≡◌, ◌≤◌, subst, sym, ◌∙◌, Option}
+use Rattle.std.specs.Prelude.{◌||◌, is_none, IfOk, OnErr, IfSome, Result, Ok, Err, Some, None}
+use Rattle.lpc_base.specs.Rows.{change, count, differ_by}
+use Rattle.lpc_base.specs.Places.{least_handle}
+use Rattle.lpc_base.proofs.Differ.{one-row}
+use Rattle.lpc_handles.specs.Handles.{values}
+use Rattle.lpc_handles.specs.declared.table.Row.{Row}
+use Rattle.lpc_handles.specs.declared.table.TableFault.{TableFault}
+use Rattle.lpc_homes.specs.Parts.{handed, is_part, rows_at}
+use Rattle.lpc_homes.specs.declared.object.Object.{Object}
+use Rattle.lpc_homes.specs.declared.parts.Part.{Part}
+use Rattle.lpc_model.specs.World as model
+use Rattle.lpc_model.specs.World.{Birth, HandleRow, HandleTable, ObjectName, World}
+use Rattle.lpc_model.specs.Found.{free_handle, handle_at, is_table, process_name, same_object, thread_name}
+use Rattle.lpc_model.specs.Basics.{AddsHandle, Basic, DropsHandle, Maps, Writes, basic}
+use Rattle.lpc_model.specs.Linked.{AreLivesHeld}
+use Rattle.lpc_model.specs.Memory.{place_in}
+use Rattle.lpc_model.specs.Tests.{handle_row}
+use Rattle.lpc_model.proofs.Held.Steps.{keeps_lives, lives-all, lives-handle, lives-more}
+use Rattle.lpc_slots.specs.declared.Key.{Key}
+use Rattle.lpc_rows.specs.Clauses.{written_through}
+use Rattle.lpc_rows.specs.Kept.{rows_by}
+use Rattle.lpc_rows.specs.Lawful.{AreLawful}
+use Rattle.lpc_rows.specs.Shown.{Tables, birth_of, births_of, name_by, shown_handle}
+use Rattle.lpc_rows.specs.Suspects.{NamesNoLife}
+use Rattle.lpc_rows.proofs.Claims.{handle-taken}
+use Rattle.lpc_rows.proofs.Suspected.{off-table}
+use Rattle.lpc_rows.proofs.Tables as tables
+
+-- threads, processes and handles are as they were
+pub plainly : (w v : World) → v.threads ≡ w.threads → v.processes ≡ w.processes → v.handles ≡ w.handles → AreLivesHeld w → AreLivesHeld v
+plainly w v threads processes handles held =
+    let same : AreLivesHeld (record v { threads = w.threads; processes = w.processes; handles = w.handles }) = record { threads = held.threads; processes = held.processes } in
+    subst (λ (ts : List model.ThreadRow). AreLivesHeld (record v { threads = ts })) (sym threads)
+    (subst (λ (ps : List model.ProcessRow). AreLivesHeld (record v { threads = w.threads; processes = ps })) (sym processes)
+    (subst (λ (hs : List HandleTable). AreLivesHeld (record v { threads = w.threads; processes = w.processes; handles = hs })) (sym handles) same))
+
+module _ (w : World) (held : AreLivesHeld w) where
+  pub same-to : (v : World) → v ≡ w → AreLivesHeld v
+  same-to v is = subst AreLivesHeld (sym is) held
+
+  pub step-to : (v : World) (b : Basic) → v ≡ basic w b → keeps_lives b ≡ true → AreLivesHeld v
+  step-to v b is keeps = subst AreLivesHeld (sym is) (lives-all w (b ∷ []) (rw (keeps) refl) held)
+
+  pub mapped-to : {A B : Type 0} (v : World) (pid : ℕ) (shown : A → model.ViewRow) (r : Result A B) → IfOk r (λ view. v ≡ basic w (Maps pid (shown view))) → OnErr r (v ≡ w) → AreLivesHeld v
+  mapped-to v pid shown (Ok view) some none = step-to v (Maps pid (shown view)) some refl
+  mapped-to v pid shown (Err e) some none = same-to v none
+
+  pub written-to : (v : World) (address : ℕ) (bytes : List ℕ) (o : Option model.ViewRow) → v ≡ written_through w address bytes o → AreLivesHeld v
+  written-to v address bytes None is = same-to v is
+  written-to v address bytes (Some r) is = step-to v (Writes r.section (place_in r address) bytes) is refl
+
+  pub handle-to : (v : World) (pid : ℕ) (object : ObjectName) (access : ℕ) → count (is_table pid) w.handles ≤ 1 → v ≡ basic w (AddsHandle pid (handle_row (free_handle w pid) object access)) → AreLivesHeld v
+  handle-to v pid object access one is = subst AreLivesHeld (sym is) (lives-handle w pid object access one held)
+
+  -- a handle goes that names no thread and no process
+  pub closed-to : (v : World) (pid value : ℕ) → differ_by (λ (t : HandleTable). t.process) w.handles ≡ true → NamesNoLife (handle_at w pid value) → v ≡ basic w (DropsHandle pid value) → AreLivesHeld v
+  closed-to v pid value single names is =
+      let after : World = basic w (DropsHandle pid value) in
+      let more = lives-more w after
+      (λ b. added _ _ _ (handle-taken (λ (h : HandleRow). same_object h.object (thread_name b)) pid value w.handles (off-table pid value (λ (h : HandleRow). same_object h.object (thread_name b)) w.handles single (names b).0)))
+      (λ b. added _ _ _ (handle-taken (λ (h : HandleRow). same_object h.object (process_name b)) pid value w.handles (off-table pid value (λ (h : HandleRow). same_object h.object (process_name b)) w.handles single (names b).1))) held in
+      subst AreLivesHeld (sym is) (record { threads = more.0; processes = more.1 })
+    where
+      added : (a b c : ℕ) → a ≤ b → a + c ≤ b + c
+      added a b c is = omega (arith, is)
+
+-- a process gets a handle, where it has a place for it
+module _ (it : Tables) (calls made : ℕ) (is : AreLawful it calls made) (held : AreLivesHeld (rows_by it)) where
+  pub given-to : (pid value : ℕ) (row : Row Object) (v : World) → value ≡ least_handle (values (rows_at it.parts pid)) → v ≡ basic (rows_by it) (AddsHandle pid (shown_handle (birth_of (births_of it)) (value, row))) → AreLivesHeld v
+  given-to pid value row v least gives =
+      handle-to (rows_by it) held v pid (name_by (birth_of (births_of it)) row.object) row.access (one-row (λ (t : HandleTable). t.process) pid (rows_by it).handles is.lawful.tables_single)
+      (gives ∙ ap (λ (k : ℕ). basic (rows_by it) (AddsHandle pid (handle_row k (name_by (birth_of (births_of it)) row.object) row.access))) (least ∙ sym (tables.free_value it calls made is pid)))
+
+  pub handed-to : (pid : ℕ) (row : Row Object) (r : Result ℕ TableFault) (new : List Part) → IfOk r (λ v. v ≡ least_handle (values (rows_at it.parts pid))) → IfOk r (λ v. new ≡ change (is_part pid) (handed v row) it.parts) → OnErr r (new ≡ it.parts) → AreLivesHeld (rows_by (record it { parts = new }))
+  handed-to pid row (Ok value) new least parts none = given-to pid value row _ least (tables.hands_or_not it calls made is pid row (Ok value) new parts)
+  handed-to pid row (Err e) new least parts none = same-to (rows_by it) held _ (ap (λ ps. rows_by (record it { parts = ps })) none)
+
+-- a handle goes, and threads and processes are suspected unless it named a port
+pub closed-if : (w : World) (before : Bool) → (before ≡ false → AreLivesHeld w) → (v : World) (pid value : ℕ) → differ_by (λ (t : HandleTable). t.process) w.handles ≡ true → (port : Option Key) → IfSome port (λ key. NamesNoLife (handle_at w pid value)) → v ≡ basic w (DropsHandle pid value) → (before || is_none port) ≡ false → AreLivesHeld v
+closed-if w before held v pid value single None names is calm = absurd (no before calm)
+  where
+    no : (c : Bool) → (c || true) ≡ false → ⊥
+    no true is = absurd (cc)
+    no false is = absurd (cc)
+closed-if w before held v pid value single (Some key) names is calm = closed-to w (held (yes before calm)) v pid value single names is
+  where
+    yes : (c : Bool) → (c || false) ≡ false → c ≡ false
+    yes true is = absurd (cc)
+    yes false is = refl
