@@ -56,8 +56,9 @@ fn begin_event(
 
 /// `raise`: raises an exception. It has its chances in this order: at the debug port of the caller's process, at the
 /// frame handlers, which handle it where `handled` says so, at the debug port again, and at the exception port. A port
-/// is passed over where it isn't set or has no route; at the others an event is sent as a request, and the thread waits
-/// for what is made of it. Where no chance is left, the process is to end with the code.
+/// is passed over where it isn't set or has no route; at the first that isn't, if it comes to that, an event is sent as
+/// a request, and the thread waits for what is made of it. Where no chance is left, the process is to end with the
+/// code, or, where it is already, with its first one.
 ///
 /// It has no refusal, and takes no memory.
 #[tactic(auto, unfolding(lpc_model::specs::Raise::raise_exception))]

@@ -395,7 +395,7 @@ impl Machine {
         &self.world
     }
 
-    /// The room for entries that one step asks for: three for each live thread, and one. No step takes more.
+    /// The room for entries that one step asks for: three for each live thread, and one.
     pub fn room_needed(&self) -> usize
         ensures { result ≡ ready.room_needed self.now.rows }
     {
@@ -417,14 +417,16 @@ impl Machine {
     /// A line about the server on a thread is told as where there is none: whoever keeps the servers tells the others.
     ///
     /// A line that is refused, or that no thread can run, leaves every row as it was. After want of memory nothing has
-    /// changed but the room. Only directives, `NtCreatePort`, `NtConnectPort`, `NtAcceptConnectPort` to accept,
-    /// `NtRequestPort`, `NtRegisterThreadTerminatePort`, `NtDuplicateObject`, `NtCreateProcess`, `NtCreateThread`,
-    /// `NtCreateSection`, `NtMapViewOfSection`, `NtOpenThreadToken` and `NtOpenProcessToken` take memory, only where they
-    /// aren't refused, and they want for it only where the room for what they make wasn't there, which the bytes of a
-    /// section never have; every other line is answered. Of ports, messages and waits no line leaves more memory than
-    /// there was, than the rows before it need with one more and what was owed, or than twice these rows do; how far that
-    /// of processes, threads, handles, sections, views and tokens may grow is said of each call alone, and of names
-    /// nowhere. A directive, and a call of a thread that lives and doesn't wait, counts as a call, refused or not.
+    /// changed but the room. Only the five directives, `NtCreatePort`, `NtConnectPort`, `NtAcceptConnectPort` to
+    /// accept, `NtRequestPort`, `NtRegisterThreadTerminatePort`, `NtDuplicateObject`, `NtCreateProcess`,
+    /// `NtCreateThread`, `NtCreateSection`, `NtMapViewOfSection`, `NtOpenThreadToken` and `NtOpenProcessToken` change
+    /// the memory of any table but those of names, names of tokens, processes and threads, and only where they aren't
+    /// refused; they want for memory only where the room for what they make wasn't there, which the bytes of a section
+    /// never have; every other line is answered. Of ports, messages and waits no line leaves more memory than there
+    /// was, than the rows before it need with one more and what was owed, or than twice these rows do, and of each
+    /// process's handles the same with two more; how far that of processes, threads, sections, views and tokens may
+    /// grow is said of each call alone, and of names nowhere. One of the five directives, and a call of a thread that
+    /// lives and doesn't wait, counts as a call, refused or not, unless it found no memory.
     pub fn step(&mut self, line: &Line<'_>, out: &mut Entries) -> Result<(), OutOfMemory>
         requires empty { out.old.list ≡ [] }
         requires unread { out.old.reads ≡ false }

@@ -33,7 +33,7 @@ pub fn condition_of(world: &World, tid: u32) -> Condition
     }
 }
 
-/// The room for entries that one step asks for: three for each live thread, and one. It is more than a step takes.
+/// The room for entries that one step asks for: three for each live thread, and one.
 pub fn room_needed(world: &World) -> usize
     ensures { result ≡ ready.room_needed world.now.rows }
 {

@@ -73,7 +73,8 @@ abbrev pub has_failed : NextLine → Bool
 has_failed SourceFailed = true
 has_failed next = false
 
--- A source was asked for nothing behind its end or behind a failure, and for at most 4,096 bytes at once.
+-- A source was asked for nothing behind its end or behind a failure, where it could still be asked at first, and at no
+-- time for more than 4,096 bytes at once.
 pub record IsAskedForPieces (before now : Asked) : Type 0 where
   pub late : before.running ≡ true → now.late ≡ before.late
   pub widest : now.widest ≤ max before.widest 4096

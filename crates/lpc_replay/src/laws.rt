@@ -18,12 +18,13 @@ ghost use Rattle.lpc_replay.specs.Laws.{ConnectsReturn, HandlesLead, LinesSettle
 /// each wait and of each thread, in every script.
 ///
 /// A request that returns with success does so by a wake, in the step of a reply call whose message fits its wait
-/// through the port that the call's handle names, and it shows that call's own bytes with type 2 and SectionSize 0
-/// and all others as they are. An exception that is continued, with DBG_CONTINUE, is so in the step of a reply call
-/// whose message fits its event through that port, and whose data begin with 02000100. A reply call whose message
-/// fits no wait through that port, or whose handle names no port, is refused, by a status or because its thread can't
-/// call. A reply call that is refused for whatever cause changes nothing; without its line the others tell the same,
-/// in a script of at most 1,000,000 lines with no faulty line before it, line numbers aside.
+/// through the port that the call's handle names, and it shows that call's own bytes with type 2 and SectionSize 0 and
+/// all others as they are. An exception that is continued, with DBG_CONTINUE, is so in the step of a reply call whose
+/// message fits its event through that port, and whose data begin with 02000100. A reply call whose message fits no
+/// wait through that port, or whose handle names no port, is refused, by a status or because its thread can't call. A
+/// reply call that is refused for whatever cause changes nothing; where a line makes it itself, and isn't a turn that
+/// comes to it, the others tell the same without that line, in a script of at most 1,000,000 lines with no faulty line
+/// before it, line numbers aside.
 ///
 /// A connect returns only by its answer or by a closing: one that wakes does so in the step of the call that
 /// completes its connection, with success; or in the step of the call that refuses it and whose message names it,

@@ -125,7 +125,7 @@ impl Reader {
     }
 
     /// Reads the next line: no further than its end, or its first byte that is one too many. The source is asked for at
-    /// most 4,096 bytes at once, and only where what was read so far holds no end of the line.
+    /// most 4,096 bytes at once.
     ///
     /// `is_full` says that a script may have no further line. Then the next byte is one of a line too many.
     pub fn next_line<S: Source>(&mut self, source: &mut S, is_full: bool) -> NextLine

@@ -202,25 +202,27 @@ fn storm<K: Sink>(alloc: Global, count: u32, seed: u32, sink: &mut K) -> u8
 /// own.
 ///
 /// The words `replay` replay the script that the source gives: each line is run as it comes, and what it tells is sent
-/// to the sink before more is asked of the source. Status 0: the script was read to its end, every line was well
-/// formed, and all was sent. 2: a line was faulty; the lines before it were run, and `stop` with its number and its
-/// fault was sent. 3: the source failed, and no line read before was faulty; what the lines tell that are ended by byte
-/// 10 was sent, and no last line. 4: the sink failed. 5: memory ran out; what some first lines tell was sent, each
-/// whole, and no last line.
+/// to the sink before more than 4,096 bytes are read behind its end. Status 0: the script was read to its end, every
+/// line was well formed, and all was sent. 2: a line was faulty; the lines before it were run, and `stop` with its
+/// number and its fault was sent. 3: the source failed, and no line read before was faulty; what the lines tell that
+/// are ended by byte 10 was sent, and no last line. 4: the sink failed. 5: memory ran out, and no clause tells when it
+/// does; what some first lines tell was sent, each whole, and no last line.
 ///
-/// The words `states` do the same, and send behind what each line tells what became of the world's rows in it: a line of
-/// JSON for each row that went, came or changed. The statuses are those of `replay`.
+/// The words `states` do the same, and send behind what each line tells what became of the world's rows in it: a line
+/// for each row that went, came or changed, as rows are told apart by their names. That these lines are JSON, and that
+/// no two rows have one name, is only tested. The statuses are those of `replay`.
 ///
 /// The words `storm N SEED`, with N a number from 0 to 200000 and SEED a number, both spelled as a script's numbers,
 /// read nothing. They run the script that is made of the two, line after line as a replay would, and send one line that
-/// sums up its transcript. Status 0: it was sent. 4: the sink failed. 5: memory ran out, and nothing was sent.
+/// sums up its transcript. Status 0: it was sent. 4: the sink failed. 5: memory ran out, and no clause tells when it
+/// does; nothing was sent.
 ///
-/// Other words answer 64, send the usage line and read nothing.
+/// Other words send the usage line and read nothing. Status 64: it was sent. 4: the sink failed.
 ///
 /// Whatever the status, what was sent is a front of the text of what was read, in the form that the words name, of the
-/// storm's line, or of the usage line: nothing else is sent, and nothing twice. Behind a failed write the sink is asked for nothing more. What
-/// is said here of bytes that were read or sent, and of how the sink was asked, holds of a source and a sink that tell
-/// it.
+/// storm's line, or of the usage line: nothing else is sent, and nothing twice. Behind a failed write the sink is asked
+/// for nothing more, where it could still be asked at first. What is said here of bytes that were read or sent, and of
+/// how the sink was asked, holds of a source and a sink that tell it.
 ///
 /// Where the sink's count of failures changed the status is 4, and where the source's did it isn't 0. A failure that
 /// finds the count at its last value leaves it there, so of such a one this says nothing.
@@ -303,10 +305,11 @@ pub fn run_words<S: Source, K: Sink>(
         ReadsInTime form (S.left source.old) (S.left source.new)
         (K.sent sink.old) (K.sent sink.new)) }
 
-    // Behind its end or a failure the source is asked for nothing, and for at most 4,096 bytes at once before.
+    // Behind its end or a failure the source is asked for nothing, where it could still be asked at first, and at no
+    // time for more than 4,096 bytes at once.
     ensures asked { IsAskedForPieces (S.asked source.old) (S.asked source.new) }
 
-    // Behind a failure the sink is asked for nothing.
+    // Behind a failure the sink is asked for nothing, where it could still be asked at first.
     ensures left_alone { IsLeftAlone (K.asked sink.old) (K.asked sink.new) }
 
     // A failure is answered only where it was counted, and no count falls. Where the sink counted one the status is 4,
@@ -329,8 +332,8 @@ pub fn run_words<S: Source, K: Sink>(
         Still (K.faults sink.old) (K.faults sink.new) →
         EndsAsFormed (S.left source.old) result }
 
-    // A sink that is sure of the whole text fails no replay. So over it and an honest source, which counts no
-    // failure, a replay is read to its end or to a faulty line, unless memory runs out.
+    // Where the source tells its bytes, a sink that is sure of the whole text fails no replay. So over it and an honest
+    // source, which counts no failure, a replay is read to its end or to a faulty line, unless memory runs out.
     ensures replay_sure { IfSome (form_in words.now) (λ form.
         IfSure form (S.left source.old) (K.sure sink.old)
         (is_one_of (0 ∷ 2 ∷ 3 ∷ 5 ∷ []) result ≡ true)) }
@@ -341,10 +344,11 @@ pub fn run_words<S: Source, K: Sink>(
 
     // In the script read a request returns with success only by a reply that fits it, and an exception is continued
     // only by one whose data begin with 02000100. A reply that fits no wait is refused, a refused reply changes
-    // nothing, and without its line the others tell the same. A connect returns only by its answer or by a closing. An
-    // exception returns otherwise only where its line says that its frame handlers handle it, or, as the world settles,
-    // where its wait keeps that. A wait ends only by a wake or with its thread, and a thread only by the call that
-    // names it or its process, or as its process is to end, with the code that its row keeps.
+    // nothing, and where a line makes it itself, and isn't a turn that comes to it, the others tell the same without
+    // that line. A connect returns only by its answer or by a closing. An exception returns otherwise only where its
+    // line says that its frame handlers handle it, or, as the world settles, where its wait keeps that. A wait ends
+    // only by a wake or with its thread, and a thread only by the call that names it or its process, or as its process
+    // is to end, with the code that its row keeps.
     ensures returns { result ≡ 0 → IfSome (S.left source.old) RequestsReturn }
     ensures refused { result ≡ 0 → IfSome (S.left source.old) MisfitsRefused }
     ensures unchanged { result ≡ 0 → IfSome (S.left source.old) RefusalsStay }

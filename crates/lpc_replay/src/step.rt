@@ -29,8 +29,8 @@ use lpc_world::World;
 /// other line but those about servers is the machine's own. Its entries are added to `out`, as [`Machine::step`] wants
 /// it.
 ///
-/// OutOfMemory comes where memory for the machine's step, or for what a server keeps, is wanting; no clause tells what is
-/// left then.
+/// OutOfMemory comes where memory for the machine's step, or for what a server keeps, is wanting; no clause tells more
+/// of when it does, or of what is left then.
 pub(crate) fn step(
     machine: &mut Machine,
     residents: &mut Residents,

@@ -109,7 +109,8 @@ impl Resident {
     /// bytes, and one for the groups of a token for whatever groups. It is that of its own call where it awaits one, and
     /// else nothing to it.
     ///
-    /// OutOfMemory comes where memory for a connection or its client is wanting.
+    /// OutOfMemory comes where memory for a connection or its client is wanting; no clause tells more of when it does,
+    /// or of what is left then but the thread.
     pub(crate) fn hear(
         &mut self,
         status: Status,
@@ -142,7 +143,8 @@ impl Resident {
     /// Begins its next call, with the bytes of the view that it wants, and with the message that it sends in an empty
     /// buffer.
     ///
-    /// OutOfMemory comes where memory for what it keeps of a client is wanting; nothing has changed then.
+    /// OutOfMemory comes where memory for what it keeps of a client is wanting; no clause tells more of when it does.
+    /// The server is as it was then; what the buffer holds no clause tells.
     pub(crate) fn begin(
         &mut self,
         bytes: Option<&[u8]>,

@@ -48,9 +48,9 @@ impl Residents {
         }
     }
 
-    /// A server comes to a thread, for the port of a handle.
+    /// A server comes to a thread that has none, for the port of a handle.
     ///
-    /// After `OutOfMemory` nothing has changed.
+    /// After `OutOfMemory` nothing has changed; no clause tells when it comes.
     pub fn host(&mut self, thread: u32, handle: u32) -> Result<(), OutOfMemory>
         requires { has (is_on thread) self.old ≡ false }
         ensures hosted { OnOk result
@@ -64,7 +64,8 @@ impl Residents {
 
     /// The servers hear what a line told: each the wake of its own call, and in the line of a turn the answer too.
     ///
-    /// OutOfMemory comes where memory for a connection or a client is wanting; no clause tells what is left then.
+    /// OutOfMemory comes where memory for a connection or a client is wanting; no clause tells more of when it does, or
+    /// of what is left then.
     pub fn hear(&mut self, out: &Entries, in_turn: bool) -> Result<(), OutOfMemory>
         ensures { OnOk result (self.new ≡ heard_in kept in_turn self.old (out.now).list) }
     {
@@ -101,7 +102,8 @@ impl Residents {
     /// The server on a thread begins its next call, with the bytes of the view that it wants, and with the message that
     /// it sends in an empty buffer: the call, and the handle of the port that it serves; none where there is no server.
     ///
-    /// OutOfMemory comes where memory for what it keeps of a client is wanting; nothing has changed then.
+    /// OutOfMemory comes where memory for what it keeps of a client is wanting; no clause tells more of when it does.
+    /// The servers are as they were then; what the buffer holds no clause tells.
     pub fn begin(
         &mut self,
         thread: u32,

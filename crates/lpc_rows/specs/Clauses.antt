@@ -152,7 +152,8 @@ row_shown w value row = handle_row value (name_at w row.object) row.access
 abbrev pub after : Kept → Basic → World
 after w b = basic w.rows b
 
--- a wait that a thread begins, as yet without a message: it is for the answer to a request or connect, or to a connect
+-- a wait that a thread begins, as yet without a message; it is for the answer to a request, event or connect that isn't
+-- received; it is a connect
 abbrev pub new_wait : Kept → ℕ → Wait → model.WaitRow
 new_wait w tid wait = waiting_row w.births tid wait []
 

@@ -120,8 +120,9 @@ pub record Room : Type 0 where
   pub handles : List HandleRoom
   pub views : List HandleRoom
 
--- the rows; the births of keys; how many directive and service calls were made; how many rows and numbers were made, with
--- the rows that are owed; whether a row went since the last sweep that may have named an object; the room; the memory
+-- the rows; the births of keys; how many directive and service calls were made; how many rows and numbers were made,
+-- with the rows that are owed; whether a sweep is due (since the last one a call was made that takes rows away which
+-- may name objects, or such names); the room; the memory
 pub record Kept : Type 0 where
   pub rows : World
   pub births : Births

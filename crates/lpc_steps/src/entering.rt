@@ -19,10 +19,10 @@ use lpc_slots::Key;
 use lpc_world::World;
 
 /// A message enters the queue of a port, and where a thread waits there that takes it, the one that has waited longest
-/// does so at once. A request or connection request has its place: its sender waits with it, and it stands in no queue
-/// yet. So has one that tells that a client port is closed: it is sent on that port, and none in a queue tells so yet.
-/// Every other message has the room that was made for it. The thread that takes the message is told, which wants room
-/// for an entry where a thread waits.
+/// does so at once. A request, event or connection request has its place: its sender waits with it, and it stands in no
+/// queue yet. So has one that tells that a client port is closed: it is sent on that port, and none in a queue tells so
+/// yet. Every other message has the room that was made for it. The thread that takes the message is told, which wants
+/// room for an entry where a thread waits.
 pub fn deliver(
     world: &mut World,
     queue: Key,

@@ -295,10 +295,10 @@ impl World {
         port
     }
 
-    /// A message enters the queue of a port, on which no thread waits that takes it. A request or connection request
-    /// has its place: its sender waits with it, and it stands in no queue yet. So has one that tells that a client port
-    /// is closed: it is sent on that port, and none in a queue tells so yet. Every other message has the room that was
-    /// made for it.
+    /// A message enters the queue of a port, on which no thread waits that takes it. A request, event or connection
+    /// request has its place: its sender waits with it, and it stands in no queue yet. So has one that tells that a
+    /// client port is closed: it is sent on that port, and none in a queue tells so yet. Every other message has the
+    /// room that was made for it.
     pub fn ports_send(&mut self, queue: Key, sender: Key, context: u32, bytes: &[u8])
         requires queue { stands self.old.births.ports queue ≡ true }
         requires sender { stands self.old.births.ports sender ≡ true }
@@ -342,8 +342,8 @@ impl World {
         Some(pulled)
     }
 
-    /// The thread's own messages leave their queues: the request or connection request with which it waits, where it
-    /// isn't received yet. Nothing changes where there is none.
+    /// The thread's own messages leave their queues: the request, event or connection request with which it waits,
+    /// where it isn't received yet. Where there is none, no row changes; a sweep is due all the same.
     pub fn messages_withdraw(&mut self, tid: u32)
         ensures step { IsStep (after self.old (Withdraws tid)) self.old self.new }
         ensures loose { self.new.loose ≡ true }
@@ -425,7 +425,8 @@ impl World {
         self.waits.add(tid, wait);
     }
 
-    /// A waiting thread's wait keeps the message with which it waits.
+    /// The wait of a thread's request or connect keeps the message with which it waits; where the thread waits for
+    /// something else, the rows stay.
     pub fn waits_set_message(&mut self, tid: u32, bytes: &[u8])
         requires waits { has (waits_as tid) self.old.rows.waits ≡ true }
         requires bound { length bytes.now ≤ MESSAGE_LIMIT }
@@ -456,8 +457,8 @@ impl World {
         ended
     }
 
-    /// The request or connect of a thread to a queue is received, where it waits there. Its message stands in no queue
-    /// any more.
+    /// The request, event or connect of a thread to a queue is received, where it waits there. Its message stands in no
+    /// queue any more.
     pub fn waits_receive(&mut self, tid: u32, queue: Key)
         requires queue { stands self.old.births.ports queue ≡ true }
         requires left { has_queued self.old.rows tid ≡ false }

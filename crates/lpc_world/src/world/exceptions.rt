@@ -27,7 +27,8 @@ fn key_of(port: Option<Registration>) -> Option<Key>
 impl World {
     // Events.
 
-    /// The thread whose event was sent on a port first, of those that aren't marked.
+    /// The thread that waits with an event that was sent on a port, of those that aren't marked the one that has waited
+    /// longest.
     pub fn event_on(&self, port: Key) -> Option<u32>
         requires { stands self.now.births.ports port ≡ true }
         ensures found { FindsWait self.now
@@ -40,7 +41,8 @@ impl World {
         self.waits.event_on(port, self.marks.list())
     }
 
-    /// The thread whose event stands in a queue first, of those that aren't received and aren't marked.
+    /// The thread that waits with an event on a queue, of those that aren't received and aren't marked the one that has
+    /// waited longest.
     pub fn unreceived_event_in(&self, queue: Key) -> Option<u32>
         requires { stands self.now.births.ports queue ≡ true }
         ensures found { FindsWait self.now

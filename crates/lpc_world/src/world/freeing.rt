@@ -65,7 +65,7 @@ impl World {
             || self.is_event_port(port)
     }
 
-    /// A row went since the last sweep that may have named an object.
+    /// A sweep is due: since the last one a call was made that takes rows away which may name objects, or such names.
     pub fn is_loose(&self) -> bool
         ensures { result ≡ self.now.loose }
     {
@@ -102,8 +102,8 @@ impl World {
         self.lives
     }
 
-    /// Nothing is to be swept any more, until a row goes again that may have named an object. Some row counts for each
-    /// port, each thread and each process.
+    /// No sweep is due, until a call is made again that takes rows away which may name objects, or such names. Some row
+    /// counts for each port, each thread and each process.
     pub fn set_still(&mut self)
         requires held { HasHeldPorts self.old.rows }
         requires lives { AreLivesHeld self.old.rows }

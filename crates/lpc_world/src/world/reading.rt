@@ -209,7 +209,7 @@ impl World {
         }
     }
 
-    /// The bytes of the message with which a thread waits, where they are kept.
+    /// The bytes of the request with which a thread waits; of another wait's bytes no clause tells.
     pub fn waiting_message(&self, tid: u32) -> &[u8]
         requires { has (waits_as tid) self.now.rows.waits ≡ true }
         ensures request { let x = waiter self.now.rows tid in

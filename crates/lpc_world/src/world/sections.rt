@@ -46,7 +46,7 @@ impl World {
     /// A section of zeros that stands in no table yet, whose bytes are the world's to keep. Its size is whole pages, from
     /// 4096 bytes to 4 MiB.
     ///
-    /// OutOfMemory comes only where the memory for the bytes is wanting.
+    /// OutOfMemory comes where memory for the bytes is wanting; no clause tells more of when it does.
     pub fn new_section(
         &self,
         size: u32,

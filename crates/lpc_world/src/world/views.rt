@@ -219,7 +219,7 @@ impl World {
         self.memory(thread.process, base, size).ok()
     }
 
-    /// One view of a process holds the whole range of addresses, and it may be written.
+    /// The first view of a process that holds the whole range of addresses may be written.
     pub fn is_writable(&self, pid: u32, address: u32, len: u32) -> bool
         requires table { has (is_table pid) self.now.rows.handles ≡ true }
         ensures writable { let view = view_holding self.now.rows pid address len in
@@ -271,8 +271,8 @@ impl World {
         self.is_writable(pid, address, len)
     }
 
-    /// The bytes at a range of addresses of a process, to be written: Fault exactly where no one view that may be written
-    /// holds the whole range. They are the section's own, and nothing else changes.
+    /// The bytes at a range of addresses of a process, to be written: Fault exactly where no view holds the whole
+    /// range, or the first that does may not be written. They are the section's own, and nothing else changes.
     ///
     /// Callers that know that a view holds the range use `memory_mut` or `views_write`, whose contracts tell them what
     /// the world becomes.
