@@ -21,8 +21,8 @@ pub enum Suspect {
     Anybody,
 }
 
-/// The ports that may have lost the last row that counted for them since the last sweep, as long as there is a place for
-/// each; else any port may have.
+/// The ports that may have lost the last row that counted for them since the last sweep, as long as there is a place
+/// for each; else any port may have.
 #[derive(Drop)]
 pub(crate) struct Suspects {
     keys: ArrayVec<Key, 8>,
