@@ -9,6 +9,7 @@
   transcript, and the status is that of a replay. Each other line is a JSON object behind the entries of its line; who
   follows the rows by their names meets none that comes while it is there, or that changes or goes while it isn't, and
   none that changes to what it was. Rows that go stand first, and those of one kind together.
+- The same holds of worlds of some hundred rows of each kind, none of which may want for memory.
 - Where such a script ends, what a row tells of others is so: the objects left are as many as the last line says, each
   name of an object is that of a row, and the counts of handles and pointers are those of the rows.
 - A line is answered before the next one is sent; faulty lines, and an input or an output that fails, have the statuses
@@ -31,6 +32,7 @@ from concurrent.futures import ThreadPoolExecutor
 
 sys.dont_write_bytecode = True
 import program as tried
+import worlds
 from program import Ended, Program, Wrong, brief
 from tally import tally
 
@@ -206,11 +208,10 @@ def scripts():
         yield from (it for it in suite.cases(folder) if "traces/" not in it.path)
 
 
-def follow(program, case):
+def follow(program, script, transcript):
     """Runs one script."""
-    transcript = case.transcript()
     with tempfile.TemporaryFile() as source:
-        source.write(case.script())
+        source.write(script)
         source.seek(0)
         with subprocess.Popen([*program.command, "states"], stdin=source, stdout=subprocess.PIPE) as child:
             watch = threading.Timer(tried.SECONDS, child.kill)
@@ -234,8 +235,17 @@ def all_scripts(program):
     """The rows of each script can be followed, and without them it is the transcript."""
     with ThreadPoolExecutor(len(os.sched_getaffinity(0))) as pool:
         chosen = list(scripts())
-        for case, wrong in zip(chosen, pool.map(lambda it: found(follow, program, it), chosen)):
+        tried_each = pool.map(lambda it: found(follow, program, it.script(), it.transcript()), chosen)
+        for case, wrong in zip(chosen, tried_each):
             yield f"the rows of {(case.root / case.path).relative_to(ROOT)}", wrong
+
+
+def many_rows(program):
+    """Worlds of many rows have memory enough, and their rows can be followed."""
+    with ThreadPoolExecutor(len(os.sched_getaffinity(0))) as pool:
+        chosen = list(worlds.many_rows())
+        for (name, *_), wrong in zip(chosen, pool.map(lambda it: found(follow, program, it[1], it[2]), chosen)):
+            yield f"many rows: {name}", wrong
 
 
 def conversation(program):
@@ -298,7 +308,7 @@ def statuses(program):
 
 def checks(program):
     """All checks: each with its name and what it found wrong."""
-    for group in examples, all_scripts, conversation, statuses:
+    for group in examples, all_scripts, many_rows, conversation, statuses:
         yield from group(program)
 
 

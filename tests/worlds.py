@@ -329,6 +329,8 @@ def served(clients):
     # 71 texts of 228 bytes and one of 196 are the 16,384 bytes of a console.
     sizes = 71 * [228] + [196]
     asks += [(3, b"x" * it, (0, sum(sizes[: at + 1]))) for at, it in enumerate(sizes)] + [(3, b"x", (QUOTA_EXCEEDED,))]
+    # A text that has an atom has it still. With these a client's identifiers pass one byte.
+    asks += 140 * [(1, b"0", (0, 0xC000))]
     world.directive("boot 20 24")
     world.call("24 NtCreatePort \\P", " h=4")
     world.directive("resident 24 win32 4")
@@ -422,3 +424,22 @@ def all_worlds():
     yield one_long_line(50, 63)
     yield many_calls(1_000_000)
     yield long_script(6_400)
+
+
+def many_rows():
+    """Worlds of some hundred rows of each kind, which stand together: in the form of states each line prints them all."""
+    yield processes(400)
+    yield threads(5, 64)
+    yield ports(2)
+    yield datagrams(10)
+    yield names(300)
+    yield registrations(3, 8)
+    yield children(5, 8)
+    yield made_threads(4)
+    yield duplicates(2)
+    yield sections(1)
+    yield views(2)
+    yield token_names(200)
+    yield tokens(1)
+    yield offers(2, 12)
+    yield exceptions(2, 2)
