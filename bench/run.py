@@ -18,9 +18,8 @@ import tempfile
 import time
 
 LONG = (1_000, 10_000, 100_000)
-# With each client objects are left behind, over which each later line takes longer.
+# In the form of states each line takes time for all rows that stand, which of requests are few.
 SHORT = (1_000, 3_000, 10_000)
-# In the form of states each line takes time for all rows that stand.
 FEW = (100, 300, 1_000)
 HERE = os.path.dirname(os.path.abspath(__file__))
 
@@ -270,7 +269,7 @@ def main():
             (raises, LONG, "replay"),
             (turns, LONG, "replay"),
             (boots, LONG, "replay"),
-            (connects, SHORT, "replay"),
+            (connects, LONG, "replay"),
             (requests, SHORT, "states"),
             (boots, FEW, "states"),
         )

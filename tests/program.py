@@ -496,11 +496,13 @@ def memory_runs_out(program):
 
 def growth():
     """Ten times the lines take about ten times as long, where a script leaves as many rows as it finds, where it makes
-    processes alone, and where it makes and ends them. Lines on a view take as long whatever the size of its section."""
+    processes alone, where it makes and ends them, and where connections stay. Lines on a view take as long whatever the
+    size of its section."""
     scripts = (
         bench.requests,
         bench.datagrams,
         bench.closings,
+        bench.endings,
         bench.small_views,
         bench.large_views,
         bench.described,
@@ -510,7 +512,7 @@ def growth():
     )
     for script in scripts:
         yield f"time grows with the lines: {script.__name__}", grows_with_lines(script, TIMES_LONGER)
-    for script in bench.boots, bench.creations:
+    for script in bench.boots, bench.creations, bench.connects:
         yield f"time grows with the lines: {script.__name__}", grows_with_lines(script, TIMES_LONGER_WITH_ROWS)
     yield "time doesn't grow with a section's size", grows_not_with_sections
 
