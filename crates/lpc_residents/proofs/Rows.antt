@@ -1,6 +1,6 @@
 -- The servers on threads: no thread has two.
 use Rattle.std.proofs.Common.{◌≡◌, ℕ, Bool, true, false, cond, refl, sym, ap, ◌∙◌, is_some, List, [], ◌∷◌, ◌++◌, Some, None, get_or, set}
-use Rattle.std.specs.Prelude.{OnOk, Result, Ok, Err}
+use Rattle.std.specs.Prelude.{OnErr, OnOk, Result, Ok, Err}
 use Rattle.std.specs.List.{position}
 use Rattle.lpc_base.specs.Rows.{change, differ_by, first, has}
 use Rattle.lpc_base.proofs.Differ.{IsRowAt, differ-change, differ-push, row-at, set-change}
@@ -44,6 +44,11 @@ single-pushed false rs r single new = single
 pub changed-set : {A E : Type 0} (f : Kept → Kept) (result : Result A E) (rs : List Kept) (tid place : ℕ) (r new : Kept) → differ_by thread rs ≡ true → IsAt rs tid place r → OnOk result (new ≡ f r) → OnOk result (set rs place new ≡ change (is_on tid) f rs)
 changed-set f (Ok a) rs tid place r new single at is = ap (set rs place) is ∙ set-changed f rs tid place r single at
 changed-set f (Err e) rs tid place r new single at is = tt
+
+-- what holds holds where a call failed
+pub where-err : {A E P : Type 0} (result : Result A E) → P → OnErr result P
+where-err (Ok a) holds = tt
+where-err (Err e) holds = holds
 
 -- none on a thread
 pub first-none : (rs : List Kept) (tid : ℕ) → None ≡ position (is_on tid) rs → None ≡ first (is_on tid) rs

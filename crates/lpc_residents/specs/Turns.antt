@@ -1,5 +1,5 @@
 -- What a turn of the code needs and makes, beside the definitions.
-use Rattle.std.specs.Prelude.{ℕ, ◌==◌, true, false, List, Option, None, Some, option_and_then, if◌then◌else◌}
+use Rattle.std.specs.Prelude.{ℕ, ◌==◌, Bool, true, false, List, Option, None, Some, option_and_then, option_map, if◌then◌else◌}
 use Rattle.lpc_base.specs.Rows.{first}
 use Rattle.lpc_base.specs.declared.status.Status.{Status}
 use Rattle.lpc_base.specs.declared.status.TheConstants.{SUCCESS}
@@ -32,6 +32,15 @@ bytes_wanted w r = option_and_then (bytes_seen w r.thread) (view_wanted r)
 
 abbrev pub bytes_wanted_on : {C : Type 0} → World → ℕ → List (Resident C) → Option (List ℕ)
 bytes_wanted_on w tid rs = option_and_then (bytes_wanted w) (first (is_on tid) rs)
+
+-- what is done next is a reply to a request, which alone may want memory
+abbrev pub is_reply : Deed → Bool
+is_reply (RepliesTo message) = true
+is_reply deed = false
+
+-- the server on a thread replies to a request next
+abbrev pub replies_on : {C : Type 0} → ℕ → List (Resident C) → Option Bool
+replies_on tid rs = option_map (λ r. is_reply r.deed) (first (is_on tid) rs)
 
 -- a call of the code, on the port of a handle and with a message where it has one
 abbrev pub own_call : OwnCall → ℕ → List ℕ → ScriptCall

@@ -13,7 +13,7 @@ ghost use Rattle.lpc_model.specs.World.{World};
 ghost use Rattle.lpc_subsys.specs.Requests.{request_of};
 ghost use Rattle.lpc_residents.specs.Kept.{AreClients, kept};
 ghost use Rattle.lpc_residents.specs.Shown.{fields_with};
-ghost use Rattle.lpc_residents.specs.Turns.{awaiting, behind_completion, bytes_wanted, own_call, view_wanted, view_with, with_deed};
+ghost use Rattle.lpc_residents.specs.Turns.{awaiting, behind_completion, bytes_wanted, is_reply, own_call, view_wanted, view_with, with_deed};
 
 use crate::fields::{handle_told, message, view};
 use arrayvec::ArrayVec;
@@ -143,8 +143,8 @@ impl Resident {
     /// Begins its next call, with the bytes of the view that it wants, and with the message that it sends in an empty
     /// buffer.
     ///
-    /// OutOfMemory comes where memory for what it keeps of a client is wanting; no clause tells more of when it does.
-    /// The server is as it was then; what the buffer holds no clause tells.
+    /// OutOfMemory comes only where it replies to a request, whose client may take memory; no clause tells more of when
+    /// it does. The server is as it was then; what the buffer holds no clause tells.
     pub(crate) fn begin(
         &mut self,
         bytes: Option<&[u8]>,
@@ -159,6 +159,7 @@ impl Resident {
         ensures thread { self.new.thread ≡ self.old.thread }
         ensures handle { self.new.handle ≡ self.old.handle }
         ensures same { OnErr result (self.new ≡ self.old) }
+        ensures wanting { OnErr result (is_reply self.old.deed ≡ true) }
     {
         let call = self.make_call(bytes, buffer)?;
         self.awaits = true;
@@ -180,6 +181,7 @@ impl Resident {
         ensures thread { self.new.thread ≡ self.old.thread }
         ensures handle { self.new.handle ≡ self.old.handle }
         ensures same { OnErr result (self.new ≡ self.old) }
+        ensures wanting { OnErr result (is_reply self.old.deed ≡ true) }
     {
         match &self.deed {
             Deed::Receives => Ok(OwnCall::Receives),

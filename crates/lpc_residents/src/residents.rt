@@ -3,7 +3,7 @@ ghost use Rattle.std.specs.Prelude.{List, ◌≡◌, [], ◌++◌, ◌∷◌, po
 ghost use Rattle.lpc_base.specs.Rows.{change, first, has};
 ghost use Rattle.std.specs.Option.{option_and_then, option_copied, option_map};
 ghost use Rattle.lpc_model.specs.World.{World};
-ghost use Rattle.lpc_residents.specs.Turns.{bytes_wanted_on, own_call, view_wanted};
+ghost use Rattle.lpc_residents.specs.Turns.{bytes_wanted_on, own_call, replies_on, view_wanted};
 ghost use Rattle.lpc_sid.specs.declared.sid.Sid.{Sid};
 ghost use Rattle.lpc_model.specs.Residents as spec;
 ghost use Rattle.lpc_model.specs.Residents.{begun, heard_by, is_on, new_resident, next_call};
@@ -102,8 +102,8 @@ impl Residents {
     /// The server on a thread begins its next call, with the bytes of the view that it wants, and with the message that
     /// it sends in an empty buffer: the call, and the handle of the port that it serves; none where there is no server.
     ///
-    /// OutOfMemory comes where memory for what it keeps of a client is wanting; no clause tells more of when it does.
-    /// The servers are as they were then; what the buffer holds no clause tells.
+    /// OutOfMemory comes only where that server replies to a request, whose client may take memory; no clause tells more
+    /// of when it does. The servers are as they were then; what the buffer holds no clause tells.
     pub fn begin(
         &mut self,
         thread: u32,
@@ -119,6 +119,7 @@ impl Residents {
             IfOk result (λ own. option_map (λ c. own_call c.0 c.1 buffer.new.items) own
             ≡ option_map (next_call kept w) (first (is_on thread) self.old)) }
         ensures same { OnErr result (self.new ≡ self.old) }
+        ensures wanting { OnErr result (replies_on thread self.old ≡ Some true) }
     {
         match place_of(&self.list, thread) {
             Some(place) => {
