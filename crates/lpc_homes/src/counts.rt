@@ -1,5 +1,5 @@
 // How many handles, or views, count for each object.
-ghost use Rattle.std.specs.Prelude.{◌≡◌, [], if◌then◌else◌, true, ℕ, IfSome};
+ghost use Rattle.std.specs.Prelude.{◌≡◌, [], if◌then◌else◌, false, true, ℕ, IfNone, IfSome};
 ghost use Rattle.lpc_homes.specs.Counts.{Gains, Loses, count_in};
 ghost use Rattle.lpc_homes.specs.Parts.{is_object};
 ghost use Rattle.lpc_homes.specs.declared.object.Object.{Object};
@@ -83,6 +83,7 @@ impl Counts {
     pub fn of(&self, object: Object) -> Option<usize>
         ensures whole { IfSome result (λ n. self.now.whole ≡ true) }
         ensures count { IfSome result (λ n. n ≡ count_in self.now.entries object) }
+        ensures unfinished { IfNone result (self.now.whole ≡ false) }
     {
         if self.whole {
             Some(self.count_of(object))
