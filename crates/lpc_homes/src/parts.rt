@@ -138,6 +138,7 @@ impl Parts {
     pub fn handles_of(&self, pid: u32) -> &Table<Object>
         requires { has (is_part pid) self.now.items ≡ true }
         ensures rows { result.now.rows ≡ rows_at self.now.items pid }
+        ensures spare { result.now.spare ≡ spare_at self.now.items pid }
     {
         &self.parts[self.place_of(pid)].handles
     }

@@ -21,6 +21,7 @@ impl Parts {
     pub fn views_of(&self, pid: u32) -> &Space<Key>
         requires { has (is_part pid) self.now.items ≡ true }
         ensures views { result.now.views ≡ views_at self.now.items pid }
+        ensures spare { result.now.spare ≡ view_room_at self.now.items pid }
     {
         &self.parts[self.place_of(pid)].views
     }

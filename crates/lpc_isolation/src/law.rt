@@ -10,9 +10,10 @@ ghost use Rattle.lpc_model.specs.Circle.{Isolation};
 /// processes do, are told and are given so, and the directives about them and about both sorts of names with their
 /// statuses, but for what the process itself is told and given.
 ///
-/// So what its calls answer is told by its own calls and by the calls and answers of its circle. In which lines of the
-/// script these stand, what stands between them, and what other processes do is no matter. A server in the circle
-/// whose lines or entries differ because of an outsider tells of that outsider, as they are among the inputs.
+/// So what its calls answer is told by its own calls, by the calls and answers of its circle, and by the tokens as which
+/// the circle's threads act. In which lines of the script these stand, what stands between them, and what other
+/// processes do is no matter. A server in the circle whose lines or entries differ because of an outsider tells of that
+/// outsider, as they are among the inputs.
 pub fn law_isolation()
     ensures alike { Isolation }
 {}

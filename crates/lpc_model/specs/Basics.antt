@@ -22,7 +22,7 @@ pub data Basic : Type 0 where
   Wakes : ℕ → CallName → Status → List Field → Basic
   -- a thread begins to wait
   Awaits : WaitRow → Basic
-  -- a thread's request or connect to a queue is received, and a thread's connect is accepted
+  -- a thread's request, event or connect to a queue is received, and a thread's connect is accepted
   Receives : ℕ → Birth → Basic
   Accepts : ℕ → Acceptance → Basic
   -- a thread's event is marked as not handled
@@ -35,7 +35,7 @@ pub data Basic : Type 0 where
   Enters : MessageRow → Basic
   Takes : Birth → Basic
   TakesConnect : Birth → Basic
-  -- the own message of a thread, a request or connection request, leaves its queue; all messages of a queue go
+  -- the own message of a thread, a request, event or connection request, leaves its queue; all messages of a queue go
   Withdraws : ℕ → Basic
   Empties : Birth → Basic
   -- a thread draws its next message identifier, and its next ordinal

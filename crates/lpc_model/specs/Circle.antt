@@ -168,7 +168,8 @@ full_inputs group c happened = map item_of (which (is_input group c) happened)
 abbrev pub items : Group → List Event → List Item
 items group happened = map as_said (full_items group happened)
 
--- the inputs of a group and a process c: the items of the group without what c's threads are told
+-- the inputs of a group and a process c: the items of the group without what c's threads are told, and without the
+-- tokens that they get of their clients
 abbrev pub inputs : Group → ℕ → List Event → List Item
 inputs group c happened = map as_said (full_inputs group c happened)
 

@@ -310,7 +310,7 @@ is_datagram_of b m = same_birth m.sender b && (m.message.header.kind == DATAGRAM
 abbrev pub datagrams : World → Birth → ℕ
 datagrams w b = count (is_datagram_of b) w.messages
 
--- the message of a thread that waits for its answer: a request or connection request
+-- the message of a thread that waits for its answer: a request, event or connection request
 abbrev pub is_own_of : ℕ → MessageRow → Bool
 is_own_of who m = asks m.message && (m.message.header.client.thread == who)
 

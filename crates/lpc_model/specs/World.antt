@@ -135,8 +135,8 @@ pub data WaitKind : Type 0 where
   Event : Raised → WaitKind
 
 -- The wait of a thread, which has one at most: its call; the port on which the call was made, for a connect the client
--- port that it made; the queue that the request entered or on which a receive or listen waits; the identifier of the
--- request (0 for a receive or listen); and whether it was received.
+-- port that it made; the queue that the request, event or connection request entered, or on which a receive or listen
+-- waits; its identifier (0 for a receive or listen); and whether it was received.
 pub record WaitRow : Type 0 where
   pub call : CallName
   pub thread : ℕ

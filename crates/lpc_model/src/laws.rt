@@ -122,7 +122,7 @@ pub fn law_closings_are_told()
 /// that go with processes close ports as others do: each is told of once, where it is to be. Each
 /// message of either kind stands in the queue that it entered, was received from it, or was lost
 /// when the queue's port closed. And where no process lives any longer, no row
-/// of a process, thread, port or section is left, no message, no wait and no view.
+/// of a process, thread, port, section or token is left, no message, no wait and no view.
 pub fn law_death()
     ensures runs { (script : List ℕ) → RunTellsDeaths script }
     ensures closings { (script : List ℕ) → RunTellsClosings script }

@@ -266,8 +266,9 @@ fn play_through<S: Source, K: Sink>(
 /// Reads a script from the source, runs each line as it comes, and sends its text in this form. Where the source fails,
 /// what is sent is what the lines tell that are ended by byte 10.
 ///
-/// `SinkFailed`: the sink failed, and counted that; a front of the text was sent. `OutOfMemory`: memory ran out;
-/// what some first lines tell was sent, each whole, and no last line. The sink counted no failure then.
+/// `SinkFailed`: the sink failed, and counted that; a front of the text was sent. `OutOfMemory`: memory ran out, and no
+/// clause tells when it does; what some first lines tell was sent, each whole, and no last line. The sink counted no
+/// failure then.
 pub fn play<S: Source, K: Sink>(
     alloc: Global,
     form: Form,

@@ -81,7 +81,7 @@ pub record IsWait (w : Kept) (tid : ℕ) (x : Wait) : Type 0 where
   pub port_stands : stands w.births.ports x.port ≡ true
   pub queue_stands : stands w.births.ports x.queue ≡ true
 
--- how many entries one step makes at most: three for each live thread, and one
+-- the room for entries that one step asks for: three for each live thread, and one
 abbrev pub room_needed : World → ℕ
 room_needed w = 3 * count is_alive w.threads + 1
 

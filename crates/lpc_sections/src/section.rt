@@ -42,7 +42,7 @@ impl Model for Section {
 impl Section {
     /// A section of zeros that no handle names yet. Its size is whole pages, from 4096 bytes to 4 MiB.
     ///
-    /// OutOfMemory comes only where the memory for the bytes is wanting.
+    /// OutOfMemory comes where memory for the bytes is wanting; no clause tells more of when it does.
     pub fn new(
         alloc: Global,
         size: u32,

@@ -298,7 +298,7 @@ impl<P: Copy + Eq> Space<P> {
         })
     }
 
-    /// One view holds the range of addresses, and it may be written.
+    /// The first view that holds the range of addresses may be written.
     pub fn is_writable(&self, address: u32, len: u32) -> bool
         ensures { result ≡ is_writable_at self.now.views address len }
     {
@@ -331,8 +331,8 @@ impl<P: Copy + Eq> Space<P> {
         }
     }
 
-    /// The bytes at a range of addresses, to be written: Fault exactly where no one view that may be written holds the
-    /// whole range. They are the section's own, and no other byte changes.
+    /// The bytes at a range of addresses, to be written: Fault exactly where no view holds the whole range, or the first
+    /// that does may not be written. They are the section's own, and no other byte changes.
     ///
     /// Each view's section is present, and has the bytes that the view shows. Callers that know that a view holds the
     /// range use `part_mut` or `write`, whose contracts tell them what the sections become.

@@ -204,7 +204,7 @@ begun s tid wait = record {
   made = s.made + 1;
 }
 
--- a row whose request or event is received
+-- a row whose request, event or connection request is received
 abbrev pub received : WaitRow → WaitRow
 received row = record row { wait = record row.wait { received = true } }
 

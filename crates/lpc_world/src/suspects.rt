@@ -92,7 +92,8 @@ impl Suspects {
     /// Who is to be looked at next: the port that is suspected longest, where not any port is.
     pub(crate) fn first(&self) -> Suspect
         ensures any { self.now.any ≡ true → result ≡ Anybody }
-        ensures port { self.now.any ≡ false → result ≡ suspect_of (slice_get self.now.keys 0) }
+        ensures port { self.now.any ≡ false →
+            result ≡ suspect_of (slice_get self.now.keys 0) }
     {
         if self.any {
             return Suspect::Anybody;
