@@ -2,13 +2,20 @@
 """How the program grows: processor seconds and peak memory, for scripts of three lengths.
 
     bench/run.py [PROGRAM]
+    bench/run.py --peer PEER [--longest LINES] [PROGRAM]
 
 PROGRAM is crates/ntlpc/out/ntlpc where it isn't given. Each script is run once; the table goes to standard output.
+
+With --peer the program and PEER, another one that replays the same scripts, are run in turn, five times each, over seven
+kinds of scripts of about 1,000, 10,000, 100,000 and 1,000,000 lines, or up to LINES. What counts is the least processor
+time. The first table tells how fast the program is beside the peer, and how much memory each takes; the second, by how
+much a line of a long script costs more than one of a script a tenth or a hundredth as long.
 
 The exit status is 0, also where a run of the program ended otherwise, which the table tells; 64 where the words of this
 call are wrong.
 """
 import argparse
+import math
 import os
 import resource
 import shutil
@@ -21,6 +28,9 @@ LONG = (1_000, 10_000, 100_000)
 # In the form of states each line takes time for all rows that stand, which of requests are few.
 SHORT = (1_000, 3_000, 10_000)
 FEW = (100, 300, 1_000)
+# Beside a peer: the lengths, and how often each script is run.
+LENGTHS = (1_000, 10_000, 100_000, 1_000_000)
+TURNS = 5
 HERE = os.path.dirname(os.path.abspath(__file__))
 
 
@@ -239,53 +249,133 @@ class Parser(argparse.ArgumentParser):
 
 
 def read_words():
-    """The program."""
+    """The program, the peer or none, and the most lines of a script that is run beside it."""
     how = {"description": __doc__, "formatter_class": argparse.RawDescriptionHelpFormatter}
-    parser = Parser(prog="bench/run.py", usage="%(prog)s [PROGRAM]", **how)
+    usage = "%(prog)s [PROGRAM]\n       %(prog)s --peer PEER [--longest LINES] [PROGRAM]"
+    parser = Parser(prog="bench/run.py", usage=usage, **how)
     built = os.path.join(HERE, "..", "crates", "ntlpc", "out", "ntlpc")
     parser.add_argument("program", metavar="PROGRAM", nargs="?", default=built, help="the program that is measured")
-    program = parser.parse_args().program
-    found = shutil.which(program)
-    if not found:
-        parser.error(f"{program} is no program that can be run")
-    return os.path.abspath(found)
+    parser.add_argument("--peer", metavar="PEER", help="another program, beside which it is measured")
+    parser.add_argument("--longest", metavar="LINES", type=int, default=LENGTHS[-1], help="the most lines of a script")
+    words = parser.parse_args()
+    if words.longest < LENGTHS[0]:
+        parser.error(f"a script has {LENGTHS[0]:,} lines at least")
+    found = [shutil.which(name) if name else None for name in (words.program, words.peer)]
+    for name, path in zip((words.program, words.peer), found):
+        if name and not path:
+            parser.error(f"{name} is no program that can be run")
+    return [path and os.path.abspath(path) for path in found] + [words.longest]
+
+
+def write_script(path, kind, size):
+    """Writes a script of a kind, of about so many lines, and answers how many it has."""
+    lines = 0
+    with open(path, "w", encoding="ascii") as out:
+        for line in kind(size):
+            out.write(f"{line}\n")
+            lines += 1
+    return lines
+
+
+def show_memory(memory):
+    """So many MiB, or that they weren't seen."""
+    return f"{memory:.1f}" if memory > 0.1 else "-"
+
+
+def print_lengths(program, folder):
+    """Prints the table of the program alone."""
+    print("| Script | Lines | Processor seconds | Lines a second | Peak memory, MiB | Status |")
+    print("|---|---|---|---|---|---|")
+    kinds = (
+        (requests, LONG, "replay"),
+        (datagrams, LONG, "replay"),
+        (closings, LONG, "replay"),
+        (endings, LONG, "replay"),
+        (creations, LONG, "replay"),
+        (small_views, LONG, "replay"),
+        (large_views, LONG, "replay"),
+        (described, LONG, "replay"),
+        (impersonations, LONG, "replay"),
+        (raises, LONG, "replay"),
+        (turns, LONG, "replay"),
+        (boots, LONG, "replay"),
+        (connects, LONG, "replay"),
+        (requests, SHORT, "states"),
+        (boots, FEW, "states"),
+    )
+    path = os.path.join(folder, "script")
+    for kind, sizes, form in kinds:
+        for size in sizes:
+            lines = write_script(path, kind, size)
+            seconds, memory, status = measured(program, form, path)
+            name = kind.__name__ if form == "replay" else f"{kind.__name__}, {form}"
+            print(
+                f"| {name} | {lines} | {seconds:.3f} | {lines / seconds:.0f} | {show_memory(memory)} | {status} |",
+                flush=True,
+            )
+
+
+class Least:
+    """The least processor time and the most memory of several runs of one program, and the greatest status."""
+
+    def __init__(self):
+        self.seconds, self.memory, self.status = math.inf, 0, 0
+
+    def add(self, seconds, memory, status):
+        """One run more."""
+        self.seconds = min(self.seconds, seconds)
+        self.memory = max(self.memory, memory)
+        self.status = max(self.status, abs(status))
+
+
+def run_in_turn(programs, path):
+    """The least of each program over one script."""
+    found = [Least() for _ in programs]
+    for _ in range(TURNS):
+        for program, least in zip(programs, found):
+            least.add(*measured(program, "replay", path))
+    return found
+
+
+def print_beside(program, peer, longest, folder):
+    """Prints the tables of the program beside a peer."""
+    print("| Script | Lines | Seconds | The peer's | Speed | Peak memory, MiB | The peer's | Memory | Status |")
+    print("|---|---|---|---|---|---|---|---|---|")
+    path = os.path.join(folder, "script")
+    costs = {}
+    for kind in (requests, datagrams, closings, endings, creations, connects, boots):
+        for size in (size for size in LENGTHS if size <= longest):
+            lines = write_script(path, kind, size)
+            own, other = run_in_turn((program, peer), path)
+            costs.setdefault(kind.__name__, []).append((lines, own.seconds / lines, other.seconds / lines))
+            memory = f"{own.memory / other.memory:.2f}" if min(own.memory, other.memory) > 0.1 else "-"
+            print(
+                f"| {kind.__name__} | {lines} | {own.seconds:.3f} | {other.seconds:.3f} "
+                f"| {other.seconds / own.seconds:.2f} | {show_memory(own.memory)} | {show_memory(other.memory)} "
+                f"| {memory} | {own.status}, {other.status} |",
+                flush=True,
+            )
+    print("\n| Script | From lines | To lines | A line costs | The peer's | Exponent | The peer's |")
+    print("|---|---|---|---|---|---|---|")
+    for name, found in costs.items():
+        # The shortest script is mostly the start of the program.
+        pairs = [(one, two) for place, one in enumerate(found) for two in found[place + 1 :] if place > 0]
+        for (lines, own, other), (more, own_later, other_later) in pairs:
+            rises = own_later / own, other_later / other
+            exponents = [1 + math.log(rise) / math.log(more / lines) for rise in rises]
+            print(
+                f"| {name} | {lines} | {more} | {rises[0]:.2f} times | {rises[1]:.2f} times "
+                f"| {exponents[0]:.2f} | {exponents[1]:.2f} |"
+            )
 
 
 def main():
-    program = read_words()
-    print("| Script | Lines | Processor seconds | Lines a second | Peak memory, MiB | Status |")
-    print("|---|---|---|---|---|---|")
+    program, peer, longest = read_words()
     with tempfile.TemporaryDirectory() as folder:
-        kinds = (
-            (requests, LONG, "replay"),
-            (datagrams, LONG, "replay"),
-            (closings, LONG, "replay"),
-            (endings, LONG, "replay"),
-            (creations, LONG, "replay"),
-            (small_views, LONG, "replay"),
-            (large_views, LONG, "replay"),
-            (described, LONG, "replay"),
-            (impersonations, LONG, "replay"),
-            (raises, LONG, "replay"),
-            (turns, LONG, "replay"),
-            (boots, LONG, "replay"),
-            (connects, LONG, "replay"),
-            (requests, SHORT, "states"),
-            (boots, FEW, "states"),
-        )
-        for kind, sizes, form in kinds:
-            for size in sizes:
-                text = list(kind(size))
-                path = os.path.join(folder, "script")
-                with open(path, "w", encoding="ascii") as out:
-                    out.write("\n".join(text) + "\n")
-                seconds, memory, status = measured(program, form, path)
-                name = kind.__name__ if form == "replay" else f"{kind.__name__}, {form}"
-                print(
-                    f"| {name} | {len(text)} | {seconds:.3f} | {len(text) / seconds:.0f} "
-                    f"| {f'{memory:.1f}' if memory > 0.1 else '-'} | {status} |",
-                    flush=True,
-                )
+        if peer:
+            print_beside(program, peer, longest, folder)
+        else:
+            print_lengths(program, folder)
 
 
 if __name__ == "__main__":
