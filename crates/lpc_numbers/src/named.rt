@@ -94,9 +94,12 @@ impl Named {
         ensures entries { self.new.entries ≡ self.old.entries }
         ensures room { OnOk result (more ≤ self.new.room) }
         ensures wanting { OnErr result (self.old.room < more) }
+        ensures err { OnErr result (self.new.room ≡ self.old.room) }
         ensures least { self.old.room ≤ self.new.room }
         ensures most { self.new.room
             ≤ grown_room self.old.room more (length self.old.entries) }
+        ensures grown { OnOk result
+            (self.old.room < more → length self.old.entries ≤ self.new.room) }
         ensures enough { more ≤ self.old.room → self.new.room ≡ self.old.room }
     {
         if more <= self.numbers.room() {

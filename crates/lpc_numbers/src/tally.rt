@@ -1,5 +1,5 @@
 // How many there are of each number.
-ghost use Rattle.std.specs.Prelude.{◌≡◌, ◌==◌, ◌&&◌, [], if◌then◌else◌, not, true, false, ℕ, IfSome};
+ghost use Rattle.std.specs.Prelude.{◌≡◌, ◌==◌, ◌&&◌, [], if◌then◌else◌, not, true, false, ℕ, IfNone, IfSome};
 ghost use Rattle.lpc_numbers.specs.Tally.{Gains, Loses, count_in};
 
 use indexmap::IndexMap;
@@ -80,6 +80,7 @@ impl Tally {
     pub fn of(&self, number: u32) -> Option<usize>
         ensures whole { IfSome result (λ n. self.now.whole ≡ true) }
         ensures count { IfSome result (λ n. n ≡ count_in self.now.entries number) }
+        ensures unfinished { IfNone result (self.now.whole ≡ false) }
     {
         if self.whole {
             Some(self.count_of(number))
