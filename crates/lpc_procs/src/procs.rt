@@ -113,6 +113,8 @@ impl Procs {
         ensures threads { OnOk result (threads ≤ self.new.thread_room) }
         ensures wanting { OnErr result
             (processes ≤ self.old.process_room → self.old.thread_room < threads) }
+        ensures lacking { OnErr result
+            (processes ≤ self.new.process_room → self.new.thread_room < threads) }
         ensures same { self.new ≡ with_room self.old self.new.process_room self.new.thread_room }
         ensures process_room { self.old.process_room ≤ self.new.process_room }
         ensures thread_room { self.old.thread_room ≤ self.new.thread_room }
