@@ -111,14 +111,21 @@ impl Ports {
         }
     }
 
-    /// Makes room for this many more ports and messages. Room that is there already counts.
+    /// Makes room for this many more ports and messages. Room that is there already counts. Where it has to grow, it
+    /// makes room for as many as there are, if those are more.
     ///
-    /// OutOfMemory comes where the memory for it is wanting; the rows stay as they are, and the room never shrinks.
+    /// OutOfMemory comes only where the room isn't there, and it isn't there afterwards; the rows stay as they are, and
+    /// the room never shrinks.
     pub fn reserve(&mut self, ports: usize, blocks: usize) -> Result<(), OutOfMemory>
         ensures ports { OnOk result (ports ≤ self.new.port_room) }
         ensures messages { OnOk result (blocks ≤ self.new.message_room) }
         ensures wanting { OnErr result
             (ports ≤ self.old.port_room → self.old.message_room < blocks) }
+        ensures lacking { OnErr result
+            (ports ≤ self.new.port_room → self.new.message_room < blocks) }
+        ensures err_ports { OnErr result
+            (self.new.port_room < ports → self.new.port_room ≡ self.old.port_room) }
+        ensures err_messages { OnErr result (self.new.message_room ≡ self.old.message_room) }
         ensures kept { self.new ≡ with_room self.old self.new.port_room self.new.message_room }
         ensures port_room { self.old.port_room ≤ self.new.port_room }
         ensures message_room { self.old.message_room ≤ self.new.message_room }
@@ -126,6 +133,10 @@ impl Ports {
             self.new.port_room ≤ grown_room self.old.port_room ports rows }
         ensures most_messages { let rows = length self.old.messages in
             self.new.message_room ≤ grown_room self.old.message_room blocks rows }
+        ensures grown_ports { let rows = length self.old.ports in
+            self.old.port_room < self.new.port_room → rows ≤ self.new.port_room }
+        ensures grown_messages { let rows = length self.old.messages in
+            self.old.message_room < self.new.message_room → rows ≤ self.new.message_room }
         ensures enough_ports { ports ≤ self.old.port_room →
             self.new.port_room ≡ self.old.port_room }
         ensures enough_messages { blocks ≤ self.old.message_room →
