@@ -1,5 +1,5 @@
 // How many there are of each number.
-ghost use Rattle.std.specs.Prelude.{◌≡◌, ◌==◌, ◌&&◌, [], if◌then◌else◌, not, true, false, ℕ, IfNone, IfSome};
+ghost use Rattle.std.specs.Prelude.{◌≡◌, ◌<◌, ◌==◌, ◌&&◌, [], if◌then◌else◌, not, true, false, ℕ, IfNone, IfSome};
 ghost use Rattle.lpc_numbers.specs.Tally.{Gains, Loses, count_in};
 
 use indexmap::IndexMap;
@@ -57,7 +57,9 @@ impl Tally {
 
     /// There is one less of the number.
     pub fn take(&mut self, number: u32)
-        ensures { self.new.whole ≡ true → Loses number self.old self.new }
+        ensures loses { self.new.whole ≡ true → Loses number self.old self.new }
+        ensures kept { 0 < count_in self.old.entries number →
+            self.new.whole ≡ self.old.whole }
     {
         match self.count_of(number) {
             0 => self.whole = false,
@@ -99,6 +101,8 @@ impl Tally {
     /// Writes the count of a number, where that takes no memory.
     fn put(&mut self, number: u32, count: usize)
         ensures whole { self.new.whole ≡ true → self.old.whole ≡ true }
+        ensures kept { 0 < count_in self.old.entries number →
+            self.new.whole ≡ self.old.whole }
         ensures counts { self.new.whole ≡ true → (n : ℕ) → count_in self.new.entries n
             ≡ (if n == number then count else count_in self.old.entries n) }
     {

@@ -2,16 +2,16 @@ use Rattle.std.proofs.Common.{◌-◌, None, arith}
 use Rattle.lpc_numbers.proofs.Tallies.{one_less, updated}
 use Rattle.lpc_numbers.proofs.tally.Tally.take.Goals as goal
 
-pub returns-in-1 : goal.returns-in-1
-returns-in-1 c =
+pub returns-in-1-clause-loses : goal.returns-in-1-clause-loses
+returns-in-1-clause-loses c =
     let counted = rw (← c.self.view_is) at c.count_of.ensures in
     rw (← c.self.view_is) (λ whole. record {
       whole = whole;
       counts = one_less c.self.inside.counts.entries c.swap_remove.new.self.entries c.args.number c.count_of.result 0 counted (updated c.self.inside.counts.entries c.swap_remove.new.self.entries c.args.number None c.swap_remove.ensures.updates.0) (omega (arith, c.in-1.is));
     })
 
-pub returns-in_default : goal.returns-in_default
-returns-in_default c = λ whole. record {
+pub returns-in_default-clause-loses : goal.returns-in_default-clause-loses
+returns-in_default-clause-loses c = λ whole. record {
   whole = c.put.ensures.whole whole;
   counts = one_less c.args.self.now.entries c.put.new.self.entries c.args.number c.count_of.result (c.count_of.result - 1) c.count_of.ensures (c.put.ensures.counts whole) (omega (arith, c.in_default));
 }
