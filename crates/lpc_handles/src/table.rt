@@ -60,16 +60,20 @@ impl<O: Copy> Table<O> {
         }
     }
 
-    /// Makes room for so many further handles. Room that is there already counts.
+    /// Makes room for so many further handles. Room that is there already counts. Where it has to grow, it makes room for
+    /// as many as there are, if those are more.
     ///
-    /// OutOfMemory comes only where that room wasn't there; the handles stay as they are, and the room never shrinks.
+    /// OutOfMemory comes only where that room isn't there; nothing has changed then.
     pub fn reserve(&mut self, more: usize) -> Result<(), OutOfMemory>
         ensures room { OnOk result (more ≤ self.new.spare) }
         ensures wanting { OnErr result (self.old.spare < more) }
+        ensures err { OnErr result (self.new.spare ≡ self.old.spare) }
         ensures rows { self.new.rows ≡ self.old.rows }
         ensures spare { self.old.spare ≤ self.new.spare }
         ensures most { let rows = length self.old.rows in
             self.new.spare ≤ grown_room self.old.spare more rows }
+        ensures grown { OnOk result
+            (self.old.spare < more → length self.old.rows ≤ self.new.spare) }
         ensures enough { more ≤ self.old.spare → self.new.spare ≡ self.old.spare }
     {
         reserve_rows(&mut self.rows, more)
