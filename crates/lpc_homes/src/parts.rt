@@ -88,10 +88,12 @@ impl Parts {
 
     /// Makes room for so many further parts. Room that is there already counts.
     ///
-    /// `OutOfMemory` comes only where that room wasn't there; the parts stay as they are, and the room never shrinks.
+    /// `OutOfMemory` comes only where that room wasn't there, nor is there then; the parts stay as they are, and the room
+    /// never shrinks.
     pub fn reserve(&mut self, more: usize) -> Result<(), OutOfMemory>
         ensures room { OnOk result (more ≤ self.new.room) }
         ensures wanting { OnErr result (self.old.room < more) }
+        ensures lacking { OnErr result (self.new.room < more) }
         ensures items { self.new.items ≡ self.old.items }
         ensures least { self.old.room ≤ self.new.room }
         ensures most { self.new.room ≤ grown_room self.old.room more (length self.old.items) }
@@ -164,18 +166,23 @@ impl Parts {
         Ok(value)
     }
 
-    /// Makes room for so many further handles of a process. Room that is there already counts.
+    /// Makes room for so many further handles of a process. Room that is there already counts. Where it has to grow, it
+    /// makes room for as many as there are, if those are more.
     ///
-    /// OutOfMemory comes only where that room wasn't there; the handles stay as they are, and the room never shrinks.
+    /// OutOfMemory comes only where that room isn't there; the handles and the room are as they were then.
     pub fn reserve_handles(&mut self, pid: u32, more: usize) -> Result<(), OutOfMemory>
         requires one { are_single_parts self.old.items ≡ true }
         requires part { has (is_part pid) self.old.items ≡ true }
         ensures room { OnOk result (more ≤ spare_at self.new.items pid) }
         ensures wanting { OnErr result (spare_at self.old.items pid < more) }
+        ensures err { OnErr result (spare_at self.new.items pid ≡ spare_at self.old.items pid) }
         ensures parts { self.new.items ≡ rooming pid (spare_at self.new.items pid) self.old.items }
         ensures spare { spare_at self.old.items pid ≤ spare_at self.new.items pid }
         ensures most { let rows = length (rows_at self.old.items pid) in
             spare_at self.new.items pid ≤ grown_room (spare_at self.old.items pid) more rows }
+        ensures grown { let rows = length (rows_at self.old.items pid) in
+            let old = spare_at self.old.items pid in
+            OnOk result (old < more → rows ≤ spare_at self.new.items pid) }
         ensures enough { let old = spare_at self.old.items pid in
             more ≤ old → spare_at self.new.items pid ≡ old }
         ensures kept { self.new.room ≡ self.old.room }

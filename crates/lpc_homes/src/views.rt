@@ -26,20 +26,26 @@ impl Parts {
         &self.parts[self.place_of(pid)].views
     }
 
-    /// Makes room for so many further views of a process. Room that is there already counts.
+    /// Makes room for so many further views of a process. Room that is there already counts. Where it has to grow, it
+    /// makes room for as many as there are, if those are more.
     ///
-    /// OutOfMemory comes only where that room wasn't there; the views stay as they are, and the room never shrinks.
+    /// OutOfMemory comes only where that room isn't there; the views and the room are as they were then.
     pub fn reserve_views(&mut self, pid: u32, more: usize) -> Result<(), OutOfMemory>
         requires one { are_single_parts self.old.items ≡ true }
         requires part { has (is_part pid) self.old.items ≡ true }
         ensures room { OnOk result (more ≤ view_room_at self.new.items pid) }
         ensures wanting { OnErr result (view_room_at self.old.items pid < more) }
+        ensures err { let old = view_room_at self.old.items pid in
+            OnErr result (view_room_at self.new.items pid ≡ old) }
         ensures parts { let room = view_room_at self.new.items pid in
             self.new.items ≡ view_rooming pid room self.old.items }
         ensures spare { view_room_at self.old.items pid ≤ view_room_at self.new.items pid }
         ensures most { let views = length (views_at self.old.items pid) in
             let old = view_room_at self.old.items pid in
             view_room_at self.new.items pid ≤ grown_room old more views }
+        ensures grown { let views = length (views_at self.old.items pid) in
+            let old = view_room_at self.old.items pid in
+            OnOk result (old < more → views ≤ view_room_at self.new.items pid) }
         ensures enough { let old = view_room_at self.old.items pid in
             more ≤ old → view_room_at self.new.items pid ≡ old }
         ensures kept { self.new.room ≡ self.old.room }

@@ -23,6 +23,12 @@ returns-clause-wanting c =
     let at = part_is c.self.inside.parts.items c.args.pid c.place_of-place.result c.index_mut.result.now (rw (← c.self.view_is) at c.place_of-place.ensures) c.index_mut.ensures.value in
     rw (← c.self.view_is, at.is_first) c.reserve-made.ensures.wanting
 
+pub returns-clause-err : goal.returns-clause-err
+returns-clause-err c =
+    let at = part_is c.self.inside.parts.items c.args.pid c.place_of-place.result c.index_mut.result.now (rw (← c.self.view_is) at c.place_of-place.ensures) c.index_mut.ensures.value in
+    let roomed = roomed_part c.self.inside.parts.items c.args.pid c.place_of-place.result c.index_mut.result.now c.reserve-made.new.self (rw (← c.self.view_is) at c.requires.one) at c.reserve-made.ensures.rows in
+    rw (← c.self.view_is, roomed.spare_is, at.is_first) c.reserve-made.ensures.err
+
 pub returns-clause-spare : goal.returns-clause-spare
 returns-clause-spare c =
     let at = part_is c.self.inside.parts.items c.args.pid c.place_of-place.result c.index_mut.result.now (rw (← c.self.view_is) at c.place_of-place.ensures) c.index_mut.ensures.value in
@@ -34,6 +40,12 @@ returns-clause-most c =
     let at = part_is c.self.inside.parts.items c.args.pid c.place_of-place.result c.index_mut.result.now (rw (← c.self.view_is) at c.place_of-place.ensures) c.index_mut.ensures.value in
     let roomed = roomed_part c.self.inside.parts.items c.args.pid c.place_of-place.result c.index_mut.result.now c.reserve-made.new.self (rw (← c.self.view_is) at c.requires.one) at c.reserve-made.ensures.rows in
     rw (← c.self.view_is, roomed.spare_is, at.is_first) c.reserve-made.ensures.most
+
+pub returns-clause-grown : goal.returns-clause-grown
+returns-clause-grown c =
+    let at = part_is c.self.inside.parts.items c.args.pid c.place_of-place.result c.index_mut.result.now (rw (← c.self.view_is) at c.place_of-place.ensures) c.index_mut.ensures.value in
+    let roomed = roomed_part c.self.inside.parts.items c.args.pid c.place_of-place.result c.index_mut.result.now c.reserve-made.new.self (rw (← c.self.view_is) at c.requires.one) at c.reserve-made.ensures.rows in
+    rw (← c.self.view_is, roomed.spare_is, at.is_first) c.reserve-made.ensures.grown
 
 pub returns-clause-enough : goal.returns-clause-enough
 returns-clause-enough c =
