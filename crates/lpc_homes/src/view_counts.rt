@@ -1,5 +1,5 @@
 // How many views count for each section and for each port.
-ghost use Rattle.std.specs.Prelude.{◌≡◌, ◌∷◌, [], true, IfSome};
+ghost use Rattle.std.specs.Prelude.{◌≡◌, ◌∷◌, [], false, true, IfNone, IfSome};
 ghost use Rattle.lpc_base.specs.Rows.{which};
 ghost use Rattle.lpc_homes.specs.Counts.{GainsViews, LosesViews, count_in};
 ghost use Rattle.lpc_homes.specs.Parts.{goes_with};
@@ -102,6 +102,7 @@ impl ViewCounts {
     pub fn of(&self, object: Object) -> Option<usize>
         ensures whole { IfSome result (λ n. self.now.whole ≡ true) }
         ensures count { IfSome result (λ n. n ≡ count_in self.now.entries object) }
+        ensures unfinished { IfNone result (self.now.whole ≡ false) }
     {
         self.counts.of(object)
     }
