@@ -1,7 +1,7 @@
 //! The waits of threads, in the order of waiting.
 #![tactic(auto)]
 
-ghost use Rattle.std.specs.Prelude.{◌≡◌, ◌+◌, ◌<◌, ◌-◌, ◌≤◌, ◌^◌, ◌++◌, ◌∷◌, [], length, OnOk, OnErr, Some, None, IfSome, IsSome, option_copied, option_map, is_some, if◌then◌else◌};
+ghost use Rattle.std.specs.Prelude.{◌≡◌, ◌+◌, ◌<◌, ◌-◌, ◌≤◌, ◌^◌, ◌++◌, ◌∷◌, [], length, OnOk, OnErr, Some, None, IfSome, IsSome, option_copied, option_map, is_some, slice_get, if◌then◌else◌};
 ghost use Rattle.std.specs.List.{position};
 ghost use Rattle.lpc_base.specs.Room.{grown_room};
 ghost use Rattle.lpc_base.specs.Rows.{count, without, has};
@@ -216,10 +216,12 @@ impl Waits {
 
     /// Makes room for this many more waits. Room that is there already counts.
     ///
-    /// OutOfMemory comes where the memory for it is wanting; the waits stay as they are, and the room never shrinks.
+    /// OutOfMemory comes only where that room wasn't there, nor is there then; the waits stay as they are, and the room
+    /// never shrinks.
     pub fn reserve(&mut self, more: usize) -> Result<(), OutOfMemory>
         ensures room { OnOk result (more ≤ self.new.spare) }
         ensures wanting { OnErr result (self.old.spare < more) }
+        ensures lacking { OnErr result (self.new.spare < more) }
         ensures kept { self.new ≡ record self.old { spare = self.new.spare } }
         ensures spare { self.old.spare ≤ self.new.spare }
         ensures most { let rows = length self.old.rows in
@@ -601,6 +603,7 @@ impl Waits {
 // is expected: marks that were made in the order of waiting are passed over in step with the waits.
 fn mark_place(marks: &[u32], expected: usize, tid: u32) -> Option<usize>
     ensures marked { is_some result ≡ has (is_mark tid) marks.now }
+    ensures place { IfSome result (λ place. slice_get marks.now place ≡ Some tid) }
     ensures within { IfSome result (λ place. place < length marks.now) }
 {
     if expected < marks.len() && marks[expected] == tid {

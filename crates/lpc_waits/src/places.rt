@@ -45,14 +45,18 @@ impl Places {
         }
     }
 
-    /// Makes room for this many more threads. Room that is there already counts.
+    /// Makes room for this many more threads. Room that is there already counts. Where it has to grow, it makes room for
+    /// as many as there are, if those are more. Behind OutOfMemory nothing has changed.
     pub fn reserve(&mut self, more: usize) -> Result<(), OutOfMemory>
         ensures room { OnOk result (more ≤ self.new.spare) }
         ensures wanting { OnErr result (self.old.spare < more) }
+        ensures err { OnErr result (self.new.spare ≡ self.old.spare) }
         ensures kept { self.new.placed ≡ self.old.placed }
         ensures spare { self.old.spare ≤ self.new.spare }
         ensures most { let threads = length self.old.placed in
             self.new.spare ≤ grown_room self.old.spare more threads }
+        ensures grown { OnOk result
+            (self.old.spare < more → length self.old.placed ≤ self.new.spare) }
         ensures enough { more ≤ self.old.spare → self.new.spare ≡ self.old.spare }
     {
         reserve_rows(&mut self.placed, more)
