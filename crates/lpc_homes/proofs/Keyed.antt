@@ -1,6 +1,6 @@
 -- The counts of objects by look-ups: what a write, and what a removal, makes of them.
-use Rattle.std.proofs.Common.{◌≡◌, ◌+◌, ℕ, Bool, true, false, cond, List, [], ◌∷◌, Option, refl, sym, ap, ◌∙◌, arith}
-use Rattle.std.specs.Prelude.{Err, Ok, OnOk, Result, if◌then◌else◌, is_ok, unwrap_or}
+use Rattle.std.proofs.Common.{◌≡◌, ◌+◌, ◌<◌, ℕ, Bool, true, false, cond, List, [], ◌∷◌, Option, None, Some, is_some, refl, sym, ap, ◌∙◌, arith}
+use Rattle.std.specs.Prelude.{Err, Ok, OnErr, OnOk, Result, if◌then◌else◌, is_ok, unwrap_or}
 use Rattle.std.specs.Map.{lookup}
 use Rattle.lpc_base.proofs.Births.{birth-same}
 use Rattle.lpc_homes.specs.Counts.{count_in, one_for}
@@ -48,6 +48,19 @@ from_ok (Err e) ok p = absurd (cc)
 lookup_same : (o : Object) (es : List (Object × ℕ)) → lookup (the_impl.eq-value.it o) es ≡ lookup (λ key. is_object key o) es
 lookup_same o [] = refl
 lookup_same o (e ∷ es) = grind (arith, is_same e.0 o, lookup_same o es)
+
+-- an object that has a count is found
+pub has_count : (o : Object) (es : List (Object × ℕ)) → 0 < count_in es o → is_some (lookup (the_impl.eq-value.it o) es) ≡ true
+has_count o es has = ap is_some (lookup_same o es) ∙ by (lookup (λ key. is_object key o) es) has
+  where
+    by : (r : Option ℕ) → 0 < unwrap_or r 0 → is_some r ≡ true
+    by None has = absurd (omega (arith, has))
+    by (Some n) has = refl
+
+-- a call that fails only where none is found succeeds where one is
+pub ok_found : {A B : Type 0} (r : Result A B) (found : Option ℕ) → OnErr r (found ≡ None) → is_some found ≡ true → is_ok r ≡ true
+ok_found (Ok a) found absent some = refl
+ok_found (Err e) found absent some = absurd (cc)
 
 module _ (old new : List (Object × ℕ)) (object : Object) where
   -- the counts after a write or a removal

@@ -1,5 +1,5 @@
 // How many handles, or views, count for each object.
-ghost use Rattle.std.specs.Prelude.{◌≡◌, [], if◌then◌else◌, false, true, ℕ, IfNone, IfSome};
+ghost use Rattle.std.specs.Prelude.{◌≡◌, ◌<◌, [], if◌then◌else◌, false, true, ℕ, IfNone, IfSome};
 ghost use Rattle.lpc_homes.specs.Counts.{Gains, Loses, count_in};
 ghost use Rattle.lpc_homes.specs.Parts.{is_object};
 ghost use Rattle.lpc_homes.specs.declared.object.Object.{Object};
@@ -67,7 +67,8 @@ impl Counts {
 
     /// One less counts for the object, and its place is promised anew.
     pub fn take(&mut self, object: Object)
-        ensures { self.new.whole ≡ true → Loses object self.old self.new }
+        ensures loses { self.new.whole ≡ true → Loses object self.old self.new }
+        ensures kept { 0 < count_in self.old.entries object → self.new.whole ≡ self.old.whole }
     {
         self.promised = self.promised.saturating_add(1);
         match self.count_of(object) {
@@ -104,6 +105,7 @@ impl Counts {
         ensures whole { self.new.whole ≡ true → self.old.whole ≡ true }
         ensures counts { self.new.whole ≡ true → (o : Object) → count_in self.new.entries o
             ≡ (if is_object o object then count else count_in self.old.entries o) }
+        ensures kept { 0 < count_in self.old.entries object → self.new.whole ≡ self.old.whole }
     {
         let has_room = self.counts.len() < self.counts.capacity();
         let fits = has_room || self.counts.contains_key(&object);

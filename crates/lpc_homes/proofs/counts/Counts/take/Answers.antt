@@ -2,14 +2,14 @@ use Rattle.std.proofs.Common.{◌-◌, None, arith}
 use Rattle.lpc_homes.proofs.Keyed.{one_less, updated}
 use Rattle.lpc_homes.proofs.counts.Counts.take.Goals as goal
 
-pub returns-in-1 : goal.returns-in-1
-returns-in-1 c = rw (← c.self.view_is) (λ whole. record {
+pub returns-in-1-clause-loses : goal.returns-in-1-clause-loses
+returns-in-1-clause-loses c = rw (← c.self.view_is) (λ whole. record {
   whole = whole;
   counts = one_less c.self.inside.counts.entries c.swap_remove.new.self.entries c.args.object c.count_of.result 0 c.count_of.ensures (updated c.self.inside.counts.entries c.swap_remove.new.self.entries c.args.object None c.swap_remove.ensures.updates.0) (omega (arith, c.in-1.is));
 })
 
-pub returns-in_default : goal.returns-in_default
-returns-in_default c = rw (← c.self.view_is) (λ whole. record {
+pub returns-in_default-clause-loses : goal.returns-in_default-clause-loses
+returns-in_default-clause-loses c = rw (← c.self.view_is) (λ whole. record {
   whole = c.put.ensures.whole whole;
   counts = one_less c.self.inside.counts.entries c.put.new.self.entries c.args.object c.count_of.result (c.count_of.result - 1) c.count_of.ensures (c.put.ensures.counts whole) (omega (arith, c.in_default));
 })
