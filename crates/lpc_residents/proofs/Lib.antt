@@ -1,4 +1,5 @@
 mod Clients
+mod Gained
 mod Heard
 pub mod Kept
 mod Maps

@@ -13,7 +13,7 @@ ghost use Rattle.lpc_model.specs.World.{World};
 ghost use Rattle.lpc_subsys.specs.Requests.{request_of};
 ghost use Rattle.lpc_residents.specs.Kept.{AreClients, kept};
 ghost use Rattle.lpc_residents.specs.Shown.{fields_with};
-ghost use Rattle.lpc_residents.specs.Turns.{awaiting, behind_completion, bytes_wanted, is_reply, own_call, view_wanted, view_with, with_deed};
+ghost use Rattle.lpc_residents.specs.Turns.{awaiting, behind_completion, bytes_wanted, gains, is_reply, makes_connection, own_call, view_wanted, view_with, with_deed};
 
 use crate::fields::{handle_told, message, view};
 use arrayvec::ArrayVec;
@@ -109,8 +109,8 @@ impl Resident {
     /// bytes, and one for the groups of a token for whatever groups. It is that of its own call where it awaits one, and
     /// else nothing to it.
     ///
-    /// OutOfMemory comes where memory for a connection or its client is wanting; no clause tells more of when it does,
-    /// or of what is left then but the thread.
+    /// OutOfMemory comes only where it hears of a connection that came of its own answer to a connect; no clause tells
+    /// more of when it does, or of what is left then but the thread.
     pub(crate) fn hear(
         &mut self,
         status: Status,
@@ -120,6 +120,7 @@ impl Resident {
         ensures heard { (groups : List Sid) → OnOk result (self.new ≡
             heard_by kept status (fields_with read.now groups fields.now) self.old) }
         ensures thread { self.new.thread ≡ self.old.thread }
+        ensures wanting { OnErr result (gains fields.now self.old ≡ true) }
     {
         if self.awaits {
             self.resolve(status, fields, read)?;
@@ -210,6 +211,7 @@ impl Resident {
         ensures resolved { (groups : List Sid) → OnOk result (self.new ≡
             resolved kept self.old.deed status (fields_with read.now groups fields.now) self.old) }
         ensures thread { self.new.thread ≡ self.old.thread }
+        ensures wanting { OnErr result (makes_connection fields.now self.old.deed ≡ true) }
     {
         let deed = self.deed_behind(status, fields, read)?;
         self.deed = deed;
@@ -227,6 +229,7 @@ impl Resident {
         ensures resolved { (groups : List Sid) → IfOk result (λ deed. with_deed deed self.new ≡
             resolved kept self.old.deed status (fields_with read.now groups fields.now) self.old) }
         ensures thread { self.new.thread ≡ self.old.thread }
+        ensures wanting { OnErr result (makes_connection fields.now self.old.deed ≡ true) }
     {
         match &self.deed {
             Deed::Receives => Ok(next_deed(&self.connections, message(fields, read))),

@@ -3,7 +3,7 @@ ghost use Rattle.std.specs.Prelude.{List, ◌≡◌, [], ◌++◌, ◌∷◌, po
 ghost use Rattle.lpc_base.specs.Rows.{change, first, has};
 ghost use Rattle.std.specs.Option.{option_and_then, option_copied, option_map};
 ghost use Rattle.lpc_model.specs.World.{World};
-ghost use Rattle.lpc_residents.specs.Turns.{bytes_wanted_on, own_call, replies_on, view_wanted};
+ghost use Rattle.lpc_residents.specs.Turns.{bytes_wanted_on, gains_by, gains_on, may_want, own_call, replies_on, view_wanted};
 ghost use Rattle.lpc_sid.specs.declared.sid.Sid.{Sid};
 ghost use Rattle.lpc_model.specs.Residents as spec;
 ghost use Rattle.lpc_model.specs.Residents.{begun, heard_by, is_on, new_resident, next_call};
@@ -64,10 +64,11 @@ impl Residents {
 
     /// The servers hear what a line told: each the wake of its own call, and in the line of a turn the answer too.
     ///
-    /// OutOfMemory comes where memory for a connection or a client is wanting; no clause tells more of when it does, or
-    /// of what is left then.
+    /// OutOfMemory comes only where, behind some of its entries, a server hears by the next one of a connection that
+    /// came of its own answer to a connect; no clause tells more of when it does, or of what is left then.
     pub fn hear(&mut self, out: &Entries, in_turn: bool) -> Result<(), OutOfMemory>
-        ensures { OnOk result (self.new ≡ heard_in kept in_turn self.old (out.now).list) }
+        ensures heard { OnOk result (self.new ≡ heard_in kept in_turn self.old (out.now).list) }
+        ensures wanting { OnErr result (may_want in_turn self.old (out.now).list ≡ true) }
     {
         let entries = out.list();
         for entry in entries {
@@ -135,8 +136,9 @@ impl Residents {
     // The servers hear what an entry tells, whose mark for a memory read stands for these bytes, and one for the groups of
     // a token for whatever groups.
     fn hear_entry(&mut self, entry: &Entry, read: &[u8], in_turn: bool) -> Result<(), OutOfMemory>
-        ensures { (groups : List Sid) → OnOk result
+        ensures heard { (groups : List Sid) → OnOk result
             (self.new ≡ heard_one kept in_turn self.old (entry_with read.now groups entry.now)) }
+        ensures wanting { OnErr result (gains_by in_turn self.old entry.now ≡ true) }
     {
         match entry {
             Entry::Answer {
@@ -168,10 +170,11 @@ impl Residents {
         fields: &Fields,
         read: &[u8],
     ) -> Result<(), OutOfMemory>
-        ensures { (groups : List Sid) →
+        ensures heard { (groups : List Sid) →
             let shown = fields_with read.now groups fields.now in
             OnOk result
             (self.new ≡ change (is_on thread) (heard_by kept status shown) self.old) }
+        ensures wanting { OnErr result (gains_on thread fields.now self.old ≡ true) }
     {
         match place_of(&self.list, thread) {
             Some(place) => self.list[place].hear(status, fields, read),

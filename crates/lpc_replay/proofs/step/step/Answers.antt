@@ -11,7 +11,7 @@ returns-in_ok-hear-in_default-clause-rows c = c.in_ok-step-in_default.ensures.ro
 
 pub returns-in_ok-hear-in_default-clause-residents : goal.returns-in_ok-hear-in_default-clause-residents
 returns-in_ok-hear-in_default-clause-residents c =
-    c.in_ok-hear-in_default.ensures ∙ (ap (λ (es : List Entry). heard_in kept false c.args.residents.now es) c.in_ok-step-in_default.ensures.told
+    c.in_ok-hear-in_default.ensures.heard ∙ (ap (λ (es : List Entry). heard_in kept false c.args.residents.now es) c.in_ok-step-in_default.ensures.told
     ∙ sym (plain_heard c.args.machine.now.rows c.args.residents.now (line_of c.args.line.now) (is_plain c.args.line.now c.in_default.not-Resident c.in_default.not-Turn)))
 
 pub returns-in_ok-hear-in_default-clause-told : goal.returns-in_ok-hear-in_default-clause-told
