@@ -84,8 +84,9 @@ PLACES = {
 }
 # A program that replays one script, whose transcript is its second word. The first says how well.
 STAND_IN = """
-import os, sys
+import os, stat, sys
 how, told, kept, number = sys.argv[1], open(sys.argv[2], "rb").read().splitlines(True), b"", 0
+keeps = "of a file" in how and stat.S_ISREG(os.fstat(0).st_mode) or how == "keeps back what it told too long"
 
 def flush():
     global kept
@@ -108,7 +109,7 @@ def tell(text):
         flush()
 
 while True:
-    if how != "keeps back what it told too long":
+    if not keeps:
         flush()
     try:
         piece = os.read(0, 4096)
@@ -120,6 +121,8 @@ while True:
         else:
             if how == "tells a last line behind a failed read":
                 tell(told[-1])
+            if not how.endswith("loses that"):
+                flush()
             os._exit(4 if how == "tells a failed read as a failed write" else 3)
     if not piece:
         break
@@ -129,7 +132,11 @@ while True:
 tell(told[-1])
 flush()
 """
-GOOD = "writes what each line tells", "keeps back what it told until it reads"
+GOOD = (
+    "writes what each line tells",
+    "keeps back what it told until it reads",
+    "keeps back what it told of a file",
+)
 BAD = (
     "tries a failed read again",
     "takes a failed read as the end",
@@ -139,6 +146,7 @@ BAD = (
     "passes over a failed write",
     "tells a failed write as a failed read",
     "keeps back what it told too long",
+    "keeps back what it told of a file, and behind a failed read loses that",
 )
 # How the text of an example in the form of states is made wrong: by a pattern, and what is put in its place.
 STATES = "11-a-client-dies"
@@ -412,7 +420,7 @@ def edge_finds(how):
         script.write_text(STAND_IN, encoding="ascii")
         transcript = ROOT / "examples" / f"{edge.SMALLEST}.transcript"
         with failing.failing([sys.executable, "-IS", str(script), how, str(transcript)]) as it:
-            found = (edge.reads(it, smallest, 20), edge.writes(it, smallest), edge.writes_of_all(it, smallest))
+            found = edge.reads(it, smallest, 20), edge.writes_by_line(it, smallest), edge.writes_of_all(it, smallest)
             return any(wrong for _, wrong in itertools.chain(*found))
 
 

@@ -6,9 +6,11 @@
 - A read that fails is not tried again. What the whole lines read before tell is printed, without a last line, and the
   status is 3; where one of them is faulty, it is 2, and the transcript ends with its `stop` line.
 - A write that fails is not tried again, and nothing is written behind it: what the writes before it took was sent, and
-  the status is 4. How the output is cut into writes is the program's own, but that what a line tells is written before
-  more is read. So where the input gives a byte at a time, each write is what one line of the script tells, or the last
-  line; one that is taken in parts is sent on.
+  the status is 4. A write that is taken in parts is sent on.
+- Over a pipe what a line tells is written before more is read; how the output is cut into writes is else the program's
+  own. So where a pipe gives a byte at a time, each write is what one line of the script tells, or the last line.
+- Over a file what lines tell is kept back, so one write is made for each 65,536 bytes; what is kept back at the end is
+  written then, however the replay ended.
 - A disk that gets full has taken as many bytes as it has room for, also inside what one line tells.
 - Input and output that give or take few bytes at a time change nothing. An input that gives none is at its end, and an
   output that takes none has failed.
@@ -35,8 +37,10 @@ STATED = "07-a-connection", "examples/exercises"
 PIECES, USAGE, STORM = 7, b"usage: ntlpc COMMAND [WORDS]\n", ("storm", "2", "0")
 STORM_BEGINS = b"storm lines=58 entries=67 objects=0 replies=1 mismatches=1 sum="
 ERRORS = {it: getattr(errno, it) for it in ("EIO", "EAGAIN", "ENOSPC", "EBADF", "EPIPE", "EINTR")}
-# The most that is read at once.
-PIECE = 4_096
+# The most that is read at once, and the most that is kept back where the input is a file.
+PIECE, MOST_KEPT = 4_096, 65_536
+# An input that is a pipe and gives a byte at a time.
+BYTE_BY_BYTE = {"piped": True, "READ_PIECE": 1}
 
 
 # The number of the script's line, in an entry and in what is told of a row.
@@ -56,10 +60,14 @@ class Example:
         return program.run(self.form, source=self.script, **given)
 
     def pieces(self):
-        """What is written at once where a byte is read at a time: what each line of the script tells, and the last
+        """What is written at once where a pipe gives a byte at a time: what each line of the script tells, and the last
         line."""
         found = [list(it) for _, it in itertools.groupby(self.lines[:-1], lambda it: NUMBER.match(it)[1])]
         return [b"".join(it) for it in found] + self.lines[-1:]
+
+    def blocks(self):
+        """What is written at once where the input is a file."""
+        return cut([self.transcript], MOST_KEPT)
 
     def reads(self, piece):
         """How many reads are made of an input that gives so many bytes at a time: to its end, and one more that gives
@@ -76,6 +84,11 @@ class Example:
             return 2, self.transcript
         told = [it for it in self.lines[:-1] if int(NUMBER.match(it)[1]) <= whole]
         return 3, b"".join(told)
+
+
+def cut(texts, size):
+    """Texts in parts of so many bytes at most."""
+    return [text[at : at + size] for text in texts for at in range(0, len(text), size)]
 
 
 def example(name, folder="examples"):
@@ -101,57 +114,69 @@ def wrong_with(run, status, text, **counts):
     )
 
 
-def reads(program, it, piece):
+def reads(program, it, piece, **how):
     """Each read fails in turn, of an input that gives so many bytes at a time."""
     count = it.reads(piece)
     for number in range(1, count + 1):
-        run = it.run(program, READ_PIECE=piece, FAIL_READ=number)
+        run = it.run(program, READ_PIECE=piece, FAIL_READ=number, **how)
         status, text = it.broken_off((number - 1) * piece)
         yield f"{it.name}: read {number} of {count} fails", wrong_with(run, status, text, reads=number)
-    run = it.run(program, READ_PIECE=piece, FAIL_READ=count + 1)
+    run = it.run(program, READ_PIECE=piece, FAIL_READ=count + 1, **how)
     whole = wrong_with(run, it.status, it.transcript, reads=count)
     yield f"{it.name}: no read fails, {piece} bytes at a time", whole
 
 
 def few_bytes(program, it):
-    """An input that gives few bytes at a time changes nothing."""
-    for piece in 1, 7:
-        run = it.run(program, READ_PIECE=piece)
+    """An input that gives few bytes at a time changes nothing, also where it is a pipe."""
+    for piece, piped in (1, False), (7, False), (7, True):
+        run = it.run(program, READ_PIECE=piece, piped=piped)
         whole = wrong_with(run, it.status, it.transcript)
         yield f"{it.name}: an input that gives {piece} bytes at a time", whole
 
 
 def no_bytes(program, it):
     """An input that gives no byte is at its end, and an output that takes none has failed."""
-    run = it.run(program, READ_PIECE=0)
-    yield f"{it.name}: an input that gives nothing", wrong_with(run, 0, b"end 0 0 0\n", reads=1)
-    run = it.run(program, WRITE_PIECE=0)
-    yield f"{it.name}: an output that takes nothing", wrong_with(run, 4, b"", writes=1)
+    for piped in False, True:
+        run = it.run(program, READ_PIECE=0, piped=piped)
+        yield f"{it.name}: an input that gives nothing", wrong_with(run, 0, b"end 0 0 0\n", reads=1)
+        run = it.run(program, WRITE_PIECE=0, piped=piped)
+        yield f"{it.name}: an output that takes nothing", wrong_with(run, 4, b"", writes=1)
 
 
-def writes(program, it):
-    """Each write fails in turn, where a byte is read at a time."""
-    pieces = it.pieces()
+def writes(program, it, pieces, **how):
+    """Each write fails in turn, of those that are made of such an input."""
     for number in range(1, len(pieces) + 1):
         for more in {}, {"FAIL_FROM": 1}:
-            run = it.run(program, READ_PIECE=1, FAIL_WRITE=number, **more)
+            run = it.run(program, FAIL_WRITE=number, **how, **more)
             sent = b"".join(pieces[: number - 1])
             yield f"{it.name}: write {number} of {len(pieces)} fails", wrong_with(run, 4, sent, writes=number)
-    run = it.run(program, READ_PIECE=1, FAIL_WRITE=len(pieces) + 1)
+    run = it.run(program, FAIL_WRITE=len(pieces) + 1, **how)
     whole = wrong_with(run, it.status, it.transcript, writes=len(pieces))
     yield f"{it.name}: a write fails that isn't made", whole
 
 
+def writes_by_line(program, it):
+    """Each write fails in turn, of a pipe that gives a byte at a time: what a line tells is written before more is
+    read."""
+    yield from writes(program, it, it.pieces(), **BYTE_BY_BYTE)
+
+
+def writes_by_block(program, it):
+    """Each write fails in turn, of a file: as much is kept back as may be."""
+    yield from writes(program, it, it.blocks())
+
+
 def writes_in_parts(program, it, part):
     """An output that takes so many bytes at a time: all is sent; and each write fails in turn."""
-    parts = [it[at : at + part] for it in it.pieces() for at in range(0, len(it), part)]
-    run = it.run(program, READ_PIECE=1, WRITE_PIECE=part)
-    whole = wrong_with(run, it.status, it.transcript, writes=len(parts))
-    yield f"{it.name}: an output that takes {part} bytes at a time", whole
-    for number in range(1, len(parts) + 1):
-        run = it.run(program, READ_PIECE=1, WRITE_PIECE=part, FAIL_WRITE=number)
-        sent = b"".join(parts[: number - 1])
-        yield f"{it.name}: write {number} of {part} bytes fails", wrong_with(run, 4, sent, writes=number)
+    for pieces, how in (it.pieces(), BYTE_BY_BYTE), (it.blocks(), {}):
+        parts = cut(pieces, part)
+        run = it.run(program, WRITE_PIECE=part, **how)
+        whole = wrong_with(run, it.status, it.transcript, writes=len(parts))
+        yield f"{it.name}: an output that takes {part} bytes at a time", whole
+        for number in range(1, len(parts) + 1):
+            run = it.run(program, WRITE_PIECE=part, FAIL_WRITE=number, **how)
+            sent = b"".join(parts[: number - 1])
+            yield f"{it.name}: write {number} of {part} bytes fails", wrong_with(run, 4, sent, writes=number)
 
 
 def writes_of_all(program, it, numbers=None, **how):
@@ -170,12 +195,12 @@ def writes_of_all(program, it, numbers=None, **how):
         yield f"{it.name}: write {number} of {whole.writes} fails, all read at once", found
 
 
-def full_disks(program, it, rooms=None):
+def full_disks(program, it, rooms=None, **how):
     """A disk that gets full takes the bytes that it has room for."""
     for room in range(len(it.transcript)) if rooms is None else rooms:
-        run = it.run(program, WRITE_ROOM=room)
+        run = it.run(program, WRITE_ROOM=room, **how)
         yield f"{it.name}: a disk with room for {room} bytes", wrong_with(run, 4, it.transcript[:room])
-    run = it.run(program, WRITE_ROOM=len(it.transcript))
+    run = it.run(program, WRITE_ROOM=len(it.transcript), **how)
     whole = wrong_with(run, it.status, it.transcript)
     yield f"{it.name}: a disk with room for all", whole
 
@@ -208,11 +233,15 @@ def storm(program):
 
 
 def both(program, it):
-    """A read and a write are to fail: what fails first is told."""
+    """A read and a write are to fail: over a pipe what fails first is told; over a file a read fails first, and where
+    what is kept back can't be written behind it, that is told."""
+    run = it.run(program, piped=True, READ_PIECE=20, FAIL_READ=3, FAIL_WRITE=1)
+    yield f"{it.name}: a write fails before a read", wrong_with(run, 4, b"", reads=1, writes=1)
     run = it.run(program, READ_PIECE=20, FAIL_READ=3, FAIL_WRITE=1)
-    yield f"{it.name}: a write fails before a read", wrong_with(run, 4, b"", writes=1)
-    run = it.run(program, READ_PIECE=20, FAIL_READ=2, FAIL_WRITE=2)
-    yield f"{it.name}: a read fails before a write", wrong_with(run, *it.broken_off(20), reads=2, writes=1)
+    yield f"{it.name}: a write fails behind a read", wrong_with(run, 4, b"", reads=3, writes=1)
+    for piped in False, True:
+        run = it.run(program, piped=piped, READ_PIECE=20, FAIL_READ=2, FAIL_WRITE=2)
+        yield f"{it.name}: a read fails before a write", wrong_with(run, *it.broken_off(20), reads=2, writes=1)
 
 
 def errors(program, it):
@@ -220,8 +249,10 @@ def errors(program, it):
     for name, number in ERRORS.items():
         run = it.run(program, READ_PIECE=20, FAIL_READ=3, FAIL_ERROR=number)
         yield f"{name} of a read", wrong_with(run, *it.broken_off(40), reads=3)
-        run = it.run(program, READ_PIECE=1, FAIL_WRITE=3, FAIL_ERROR=number)
+        run = it.run(program, FAIL_WRITE=3, FAIL_ERROR=number, **BYTE_BY_BYTE)
         yield f"{name} of a write", wrong_with(run, 4, b"".join(it.pieces()[:2]), writes=3)
+        run = it.run(program, FAIL_WRITE=1, FAIL_ERROR=number)
+        yield f"{name} of the last write", wrong_with(run, 4, b"", reads=it.reads(PIECE), writes=1)
 
 
 def long_output(program):
@@ -230,7 +261,9 @@ def long_output(program):
     it = Example(*worlds.one_long_line(25, 63))
     it.name = "long output"
     yield from reads(program, it, PIECE)
-    yield from writes_of_all(program, it, (0, 0.1, 0.5, 0.9, 1))
+    yield from writes_of_all(program, it, (0, 0.1, 0.5, 0.9, 1), piped=True)
+    yield "long output: some blocks", [] if len(it.blocks()) > 2 else [f"there are {len(it.blocks())}"]
+    yield from writes_by_block(program, it)
     close = it.transcript.rindex(b" NtClose ")
     begin, end = it.transcript.rindex(b"\n", 0, close) + 1, len(it.transcript)
     rooms = (0, 1, begin - 1, begin, begin + 1, begin + 65_535, begin + 65_536, begin + 65_537, end - 1)
@@ -244,8 +277,9 @@ def states(program):
     it = stated(*STATED)
     yield from few_bytes(program, it)
     yield from reads(program, it, 7)
-    yield from writes(program, it)
-    yield from writes_of_all(program, it)
+    yield from writes_by_line(program, it)
+    yield from writes_by_block(program, it)
+    yield from writes_of_all(program, it, piped=True)
     ends = list(itertools.accumulate(map(len, it.lines)))
     yield from full_disks(program, it, sorted({0, *ends[:-1], *(end - 1 for end in ends)}))
 
@@ -256,18 +290,22 @@ def checks(program):
     count = len(smallest.pieces())
     yield f"there are {PIECES} pieces", [] if count == PIECES else [f"there are {count}"]
     yield from reads(program, smallest, 1)
+    yield from reads(program, smallest, 1, piped=True)
     yield from reads(program, smallest, 7)
     yield from reads(program, faulty, 1)
+    yield from reads(program, faulty, 1, piped=True)
     for script in sorted((ROOT / WORKED).glob("*.script")):
         yield from few_bytes(program, example(script.stem, WORKED))
     yield from no_bytes(program, smallest)
-    yield from writes(program, smallest)
-    yield from writes(program, faulty)
+    for it in smallest, faulty:
+        yield from writes_by_line(program, it)
+        yield from writes_by_block(program, it)
     yield from writes_in_parts(program, smallest, 5)
-    yield from writes_of_all(program, smallest)
-    yield from writes_of_all(program, faulty)
-    yield from writes_of_all(program, smallest, WRITE_PIECE=5)
-    yield from full_disks(program, smallest)
+    for piped in False, True:
+        yield from writes_of_all(program, smallest, piped=piped)
+        yield from writes_of_all(program, faulty, piped=piped)
+        yield from writes_of_all(program, smallest, piped=piped, WRITE_PIECE=5)
+        yield from full_disks(program, smallest, piped=piped)
     yield from full_disks(program, faulty)
     yield from other_words(program)
     yield from storm(program)

@@ -33,17 +33,20 @@ class Failing:
         build = [compiler(), "-shared", "-fPIC", "-O1", "-o", self.library, str(SOURCE)]
         subprocess.run(build, check=True, timeout=SECONDS)
 
-    def run(self, *words, source=b"", **given):
-        """Runs the program with these words over a source; `given` is the library's environment, as FAIL_READ=2."""
+    def run(self, *words, source=b"", piped=False, **given):
+        """Runs the program with these words over a source, a file or a pipe; `given` is the library's environment, as
+        FAIL_READ=2."""
         with open(self.counts, "wb") as file:
             file.write(bytes(COUNTS.size))
         told = {name: str(value) for name, value in given.items()}
         env = {**os.environ, **told, "LD_PRELOAD": self.library, "FAILING_COUNTS": self.counts}
+        how = {"capture_output": True, "timeout": SECONDS, "env": env}
         # A file gives as many bytes as are asked for; a pipe gives what has come.
         with tempfile.TemporaryFile() as script:
             script.write(source)
             script.seek(0)
-            done = subprocess.run([*self.command, *words], stdin=script, capture_output=True, timeout=SECONDS, env=env)
+            how |= {"input": source} if piped else {"stdin": script}
+            done = subprocess.run([*self.command, *words], **how)
         with open(self.counts, "rb") as file:
             return Run(done.returncode, done.stdout, done.stderr, COUNTS.unpack(file.read(COUNTS.size)))
 

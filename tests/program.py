@@ -95,6 +95,13 @@ class Program:
     def replay(self, source=b"", **how):
         return self.run("replay", source=source, **how)
 
+    def replay_file(self, script, **how):
+        """The same of a file, where bytes are given through a pipe."""
+        with tempfile.TemporaryFile() as source:
+            source.write(script)
+            source.seek(0)
+            return self.replay(source, **how)
+
     @contextlib.contextmanager
     def started(self, script, sink):
         """Starts it over a script in pieces, for as long as a check may take; gives the running program."""
@@ -164,13 +171,27 @@ def replays(script, status, printed):
     return lambda program: program.replay(script).should(status, printed)
 
 
+def replays_file(script, status, printed):
+    """The check that a script which is a file ends and prints so, into a file."""
+
+    def check(program):
+        with tempfile.TemporaryFile() as sink:
+            ended = program.replay_file(script, sink=sink)
+            sink.seek(0)
+            Ended(ended.status, sink.read(), ended.said).should(status, printed)
+
+    return check
+
+
 def examples():
     """Each example and exercise prints its transcript, with status 2 where that ends with `stop`."""
     folder = ROOT / "examples"
     for script in sorted([*folder.glob("*.script"), *folder.glob("exercises/*.script")]):
         transcript = script.with_suffix(".transcript").read_bytes()
         status = 2 if transcript.splitlines()[-1].startswith(b"stop ") else 0
-        yield script.relative_to(ROOT).as_posix(), replays(script.read_bytes(), status, transcript)
+        name = script.relative_to(ROOT).as_posix()
+        yield name, replays(script.read_bytes(), status, transcript)
+        yield f"{name}, from a file into a file", replays_file(script.read_bytes(), status, transcript)
 
 
 def words():
@@ -271,6 +292,8 @@ def ends_of_input():
     yield "an input that ends inside a line", replays(LINES[:-1], 0, TOLD + b"end 2 2 3\n")
     yield "an input that ends inside a faulty line", replays(LINES + b"thread 28", 2, TOLD + b"stop 3 4\n")
     yield "an input that comes byte by byte", pieces
+    yield "an empty input, a file", replays_file(b"", 0, b"end 0 0 0\n")
+    yield "an input that ends inside a line, a file", replays_file(LINES[:-1], 0, TOLD + b"end 2 2 3\n")
 
 
 def inputs_that_fail():
@@ -329,6 +352,13 @@ def outputs_that_fail():
 
         return check
 
+    def full_file(script):
+        def check(program):
+            with open("/dev/full", "wb") as sink:
+                program.replay_file(script, sink=sink).should(4)
+
+        return check
+
     def both_fail(program):
         with open(reset_after(LINES), "rb", buffering=0) as source, open("/dev/full", "wb") as sink:
             program.replay(source, sink=sink).should(4)
@@ -377,6 +407,10 @@ def outputs_that_fail():
     yield "the disk is full: the last line alone", full("replay", source=b"")
     yield "the disk is full: a faulty line alone", full("replay", source=b"unknown\n")
     yield "the disk is full: other words", full()
+    yield "the disk is full, and the script is a file", full_file(EXAMPLE)
+    yield "the disk is full, and an empty script is a file", full_file(b"")
+    yield "the disk is full, and a faulty script is a file", full_file(b"unknown\n")
+    yield "the output is closed, and the script is a file", lambda it: it.replay_file(EXAMPLE, closed=">&-").should(4)
     yield "the disk is full, and the input fails", both_fail
     yield "the reader of the output is gone", reader_gone
     yield "the reader of the output goes", reader_goes
@@ -385,29 +419,64 @@ def outputs_that_fail():
     yield "the output is open for reading alone", for_reading
 
 
-def conversations():
-    """A line that is asked over a pipe is answered before the next one is sent."""
+def pipe():
+    """The two sides of a pipe, for reading and for writing."""
+    return os.pipe()
 
-    def talk(program):
+
+def socket_pair():
+    """Two sockets that are joined."""
+    return [it.detach() for it in socket.socketpair()]
+
+
+def named_pipe():
+    """The two sides of a pipe that was opened by its name."""
+    with tempfile.TemporaryDirectory() as folder:
+        name = os.path.join(folder, "script")
+        os.mkfifo(name)
+        near = os.open(name, os.O_RDONLY | os.O_NONBLOCK)
+        far = os.open(name, os.O_WRONLY)
+        os.set_blocking(near, True)
+        return near, far
+
+
+def terminal():
+    """A pseudo terminal, and its other side. What it is given it doesn't print."""
+    far, near = pty.openpty()
+    tty.setraw(near)
+    return near, far
+
+
+def conversations():
+    """A line that is asked is answered before the next one is sent, over each input that waits for more."""
+
+    def talks(joined):
+        def check(program):
+            near, far = joined()
+            with subprocess.Popen([*program.command, "replay"], stdin=near, stdout=subprocess.PIPE) as child:
+                os.close(near)
+                watch = threading.Timer(SECONDS, child.kill)
+                watch.start()
+                try:
+                    talk(child, far)
+                finally:
+                    watch.cancel()
+                    child.kill()
+
+        return check
+
+    def talk(child, far):
         asked = EXAMPLE.splitlines(keepends=True)
         told = (ROOT / "examples" / "first-request.transcript").read_bytes().splitlines(keepends=True)
-        with subprocess.Popen([*program.command, "replay"], stdin=subprocess.PIPE, stdout=subprocess.PIPE) as child:
-            watch = threading.Timer(SECONDS, child.kill)
-            watch.start()
-            try:
-                for number, line in enumerate(asked, 1):
-                    child.stdin.write(line)
-                    child.stdin.flush()
-                    for wanted in (it for it in told if it.split()[0] == b"%d" % number):
-                        answered = child.stdout.readline()
-                        if answered != wanted:
-                            raise Wrong(f"line {number} was answered by {brief(answered)}, {brief(wanted)} is wanted")
-                child.stdin.close()
-                last = child.stdout.read()
-                child.wait()
-            finally:
-                watch.cancel()
-                child.kill()
+        for number, line in enumerate(asked, 1):
+            os.write(far, line)
+            for wanted in (it for it in told if it.split()[0] == b"%d" % number):
+                answered = child.stdout.readline()
+                if answered != wanted:
+                    raise Wrong(f"line {number} was answered by {brief(answered)}, {brief(wanted)} is wanted")
+        os.close(far)
+        last = child.stdout.read()
+        child.wait()
         Ended(child.returncode, last).should(0, told[-1])
 
     def leave(program):
@@ -430,7 +499,10 @@ def conversations():
                 child.stdin.close()
         Ended(child.returncode, first).should(4, b"1 - boot 00000000\n")
 
-    yield "a conversation over a pipe", talk
+    yield "a conversation over a pipe", talks(pipe)
+    yield "a conversation over a named pipe", talks(named_pipe)
+    yield "a conversation over a socket", talks(socket_pair)
+    yield "a conversation at a terminal", talks(terminal)
     yield "a conversation whose reader goes", leave
 
 
@@ -450,6 +522,7 @@ def limits():
     yield "1,000,000 lines and a byte", replays(most + b"#", 2, told + b"stop 1000001 10\n")
     yield "a million comments in bounded memory", memory_of_comments
     yield "memory runs out", memory_runs_out
+    yield "memory runs out, and the script is a file", lambda it: memory_runs_out(it, Program.replay_file)
 
 
 def memory_of_comments(program):
@@ -473,20 +546,20 @@ def limited(program, size):
     return Program(["sh", "-c", f'ulimit -v {size} && exec "$@"', "sh", *program.command])
 
 
-def least_memory(program):
+def least_memory(program, replay):
     """The KiB of address space in which the program replays an empty script, to 1,000."""
     for size in range(2_000, 100_000, 1_000):
-        ended = limited(program, size).replay()
+        ended = replay(limited(program, size), b"")
         if (ended.status, ended.printed) == (0, b"end 0 0 0\n"):
             return size
     raise Wrong("it replays no empty script in 100,000 KiB")
 
 
-def memory_runs_out(program):
+def memory_runs_out(program, replay=Program.replay):
     """Status 5, and the beginning of the transcript up to a line's end: as many lines at least as have room."""
     numbers = range(1, 20_001)
     script = b"".join(b"boot %d %d\n" % (it, it) for it in numbers)
-    ended = limited(program, least_memory(program) + LEFT).replay(script)
+    ended = replay(limited(program, least_memory(program, replay) + LEFT), script)
     told = [b"%d - boot 00000000\n" % it for it in numbers]
     count = ended.printed.count(b"\n")
     ended.should(5, b"".join(told[:count]))

@@ -1,16 +1,21 @@
 //! Replays scripts of system calls on a model of Windows NT's local procedure call.
 #![tactic(auto)]
 
+ghost use Rattle.std.specs.Prelude.{◌≡◌, ◌⊎◌};
+
 mod edge;
 
-use edge::{Input, Output};
-use lpc_replay::run_words;
+use edge::run;
 use std::alloc::AllocError;
+use std::fs::{self, Files};
 use std::process::ExitCode;
 use std::{env, io};
 
 /// Memory ran out before the words were known.
 const OUT_OF_MEMORY: u8 = 5;
+
+/// The most bytes of text that are kept back.
+const MOST_KEPT: usize = 65_536;
 
 /// The words behind the program's name.
 fn words_of(rt: &HostRuntime) -> io::Result<Vec<String>> {
@@ -21,6 +26,17 @@ fn words_of(rt: &HostRuntime) -> io::Result<Vec<String>> {
     Ok(words)
 }
 
+/// How much text may be kept back: a file is read to its end without waiting for anybody. Of another input, or where the
+/// system doesn't tell what it is, nothing is.
+fn room_for(files: &impl Files) -> usize
+    ensures { (result ≡ MOST_KEPT) ⊎ (result ≡ 0) }
+{
+    match fs::metadata(files, "/dev/stdin") {
+        Ok(input) if input.is_file() => MOST_KEPT,
+        _ => 0,
+    }
+}
+
 fn main(rt: HostRuntime) -> ExitCode {
     let words = match words_of(&rt) {
         Ok(words) => words,
@@ -28,7 +44,6 @@ fn main(rt: HostRuntime) -> ExitCode {
         Err(error) if error.kind() == io::ErrorKind::InvalidData => Vec::new(rt.alloc()),
         Err(_) => return ExitCode::from(OUT_OF_MEMORY),
     };
-    let mut source = Input::new(rt.stdin());
-    let mut sink = Output::new(rt.stdout());
-    ExitCode::from(run_words(rt.alloc(), &words, &mut source, &mut sink))
+    let (input, output) = (rt.stdin(), rt.stdout());
+    ExitCode::from(run(rt.alloc(), &words, input, output, room_for(&rt)))
 }
