@@ -15,6 +15,7 @@ import socket
 import subprocess
 import sys
 import tempfile
+import termios
 import threading
 import tty
 
@@ -31,6 +32,8 @@ USAGE = b"usage: ntlpc COMMAND [WORDS]\n"
 NO_ROUND = b"storm lines=52 entries=60 objects=0 replies=0 mismatches=0 sum=000263b8\n"
 FIRST, FIRST_TOLD = b"boot 20 24\n", b"1 - boot 00000000\n"
 LINES, TOLD = FIRST + b"24 NtCreatePort -\n", FIRST_TOLD + b"2 24 NtCreatePort 00000000 h=4\n"
+# Ctrl-D, by which the input ends at a terminal.
+END_AT_TERMINAL = b"\x04"
 EXAMPLE = (ROOT / "examples" / "first-request.script").read_bytes()
 # How many lines are told at least where as many KiB are left behind the program's start.
 LEFT, TOLD_AT_LEAST = 40_000, 1_000
@@ -419,11 +422,6 @@ def outputs_that_fail():
     yield "the output is open for reading alone", for_reading
 
 
-def pipe():
-    """The two sides of a pipe, for reading and for writing."""
-    return os.pipe()
-
-
 def socket_pair():
     """Two sockets that are joined."""
     return [it.detach() for it in socket.socketpair()]
@@ -441,9 +439,11 @@ def named_pipe():
 
 
 def terminal():
-    """A pseudo terminal, and its other side. What it is given it doesn't print."""
+    """A pseudo terminal, which doesn't print what is typed, and its other side."""
     far, near = pty.openpty()
-    tty.setraw(near)
+    modes = termios.tcgetattr(near)
+    modes[3] &= ~termios.ECHO
+    termios.tcsetattr(near, termios.TCSANOW, modes)
     return near, far
 
 
@@ -453,6 +453,7 @@ def conversations():
     def talks(joined):
         def check(program):
             near, far = joined()
+            far = open(far, "wb", buffering=0)
             with subprocess.Popen([*program.command, "replay"], stdin=near, stdout=subprocess.PIPE) as child:
                 os.close(near)
                 watch = threading.Timer(SECONDS, child.kill)
@@ -462,6 +463,7 @@ def conversations():
                 finally:
                     watch.cancel()
                     child.kill()
+                    far.close()
 
         return check
 
@@ -469,12 +471,15 @@ def conversations():
         asked = EXAMPLE.splitlines(keepends=True)
         told = (ROOT / "examples" / "first-request.transcript").read_bytes().splitlines(keepends=True)
         for number, line in enumerate(asked, 1):
-            os.write(far, line)
+            far.write(line)
             for wanted in (it for it in told if it.split()[0] == b"%d" % number):
                 answered = child.stdout.readline()
                 if answered != wanted:
                     raise Wrong(f"line {number} was answered by {brief(answered)}, {brief(wanted)} is wanted")
-        os.close(far)
+        if far.isatty():
+            far.write(END_AT_TERMINAL)
+        else:
+            far.close()
         last = child.stdout.read()
         child.wait()
         Ended(child.returncode, last).should(0, told[-1])
@@ -499,7 +504,7 @@ def conversations():
                 child.stdin.close()
         Ended(child.returncode, first).should(4, b"1 - boot 00000000\n")
 
-    yield "a conversation over a pipe", talks(pipe)
+    yield "a conversation over a pipe", talks(os.pipe)
     yield "a conversation over a named pipe", talks(named_pipe)
     yield "a conversation over a socket", talks(socket_pair)
     yield "a conversation at a terminal", talks(terminal)

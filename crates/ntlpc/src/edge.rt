@@ -121,6 +121,8 @@ impl<W: Write> Output<W> {
     pub fn finish(&mut self, status: u8) -> u8
         ensures status { result ≡ (if nat_lt 0 self.new.faults then UNWRITTEN else status) }
         ensures written { self.new.faults ≡ 0 → self.new.text ≡ [] }
+        ensures whole { self.new.faults ≡ 0 →
+            Keeps (sent_to W.contents self.old) (W.contents self.new.stream) }
         ensures writer { Keeps (sent_to W.contents self.old) (sent_to W.contents self.new) }
         ensures behind { 0 < self.old.faults → self.new ≡ self.old }
         ensures once { self.old.faults ≡ 0 → self.new.faults ≤ 1 }
@@ -215,8 +217,8 @@ impl<W: Write> Sink for Output<W> {
 
     ghost sure = { λ _. 0 };
 
-    /// What the writer holds and what is kept back behind it then are what was answered as sent, behind what they were.
-    /// A write that fails adds nothing. It is counted once, and not tried again; behind it the writer isn't asked.
+    /// What the writer holds, and behind that what is kept back, grow by the bytes that are answered as sent. A write that
+    /// fails adds none. It is counted once, and not tried again, and behind it the writer isn't asked.
     fn write(&mut self, from: &[u8]) -> Result<usize, Failed>
         requires { 0 < length from.now }
         ensures some { IfOk result (λ n. 1 ≤ n) }
