@@ -220,7 +220,8 @@ def follow(program, script, transcript):
                 # A long script has many rows to tell of: they are followed as they come, and not kept.
                 followed(child.stdout, transcript)
                 child.wait()
-            except Wrong:
+            except (Wrong, ValueError):
+                # What a program that was ended has printed may end inside a line.
                 if watch.finished.is_set():
                     raise Wrong(f"it did not end within {tried.SECONDS} seconds") from None
                 raise
