@@ -1,5 +1,5 @@
 -- What becomes of rows in a line: which came, which changed, and which went.
-use Rattle.std.specs.Prelude.{ℕ, Bool, List, [], ◌++◌, Option, None, Some, codes, decimal, if◌then◌else◌}
+use Rattle.std.specs.Prelude.{ℕ, Bool, List, [], ◌∷◌, ◌++◌, Option, None, Some, codes, decimal, if◌then◌else◌}
 use Rattle.std.specs.List.{flat_map}
 use Rattle.std.specs.Str.{bytes_eq}
 use Rattle.lpc_base.specs.Rows.{has}
@@ -7,6 +7,7 @@ use Rattle.lpc_model.specs.Script.{script_lines}
 use Rattle.lpc_model.specs.Words.{split_once}
 use Rattle.lpc_model.specs.World.{World}
 use Rattle.lpc_states.specs.Rows.{rows_text}
+use Rattle.lpc_states.specs.Values.{joined}
 
 -- the name of a row: what stands before its first comma
 abbrev pub before : List ℕ → Option (List ℕ × List ℕ) → List ℕ
@@ -24,8 +25,14 @@ abbrev pub is_named : List ℕ → List ℕ → Bool
 is_named name other = bytes_eq (name_of other) name
 
 -- the line that tells of a row: the number of the script's line, what became of the row, and the row, or its name
-abbrev pub told_as : ℕ → List ℕ → List ℕ → List ℕ
-told_as n word row = codes "{\"line\":" ++ decimal n ++ codes ",\"" ++ word ++ codes "\":" ++ row ++ codes "}\n"
+unfoldable pub told_as : ℕ → List ℕ → List ℕ → List ℕ
+told_as n word row = joined (
+    codes "{\"line\":" ∷ decimal n
+    ∷ codes ",\"" ∷ word
+    ∷ codes "\":" ∷ row
+    ∷ codes "}\n"
+    ∷ []
+    )
 
 -- a row that stands behind a line whose world before had these rows: it came, or changed; or nothing is told
 unfoldable pub came_or_changed : ℕ → List (List ℕ) → List ℕ → List ℕ

@@ -8,7 +8,7 @@ use Rattle.lpc_names.specs.declared.names.Found.TheVariants.{Directory, Item}
 use Rattle.lpc_model.specs.Found.{content_of, handle_count, pointer_count, port_name, process_name, section_name, thread_name, token_name}
 use Rattle.lpc_model.specs.Text.{call_text, eight_digits}
 use Rattle.lpc_model.specs.World.{Accepted, Connect, Event, HandleRow, Listen, MessageRow, ObjectName, PortRow, ProcessRow, Receive, Request, SectionRow, ThreadRow, TokenName, TokenRow, ViewRow, WaitKind, WaitRow, World}
-use Rattle.lpc_states.specs.Values.{acceptance_text, birth_text, bytes_text, creator_text, flag, hex, impersonation_text, joined, listed, message_fields, message_text, object_text, offer_text, or_null, path_text, port_kind_text, port_text, quoted, raised_text, security_text, spelled, token_text}
+use Rattle.lpc_states.specs.Values.{acceptance_text, birth_text, bytes_text, creator_text, flag, hex, impersonation_text, joined, listed, message_fields, message_text, object_text, offer_text, or_null, path_text, port_kind_text, port_text, raised_text, security_text, spelled, token_text}
 
 -- how many handles name an object, and how many rows count for it
 unfoldable pub counts : World → ObjectName → List ℕ
@@ -52,12 +52,20 @@ thread_row w t = joined (
 -- what a wait is for: the reply to a request, a message, a connection request, the answer to a connect and, once that was
 -- accepted, its completion, or what is made of an event; with what the wait keeps
 unfoldable pub awaited : WaitKind → List ℕ
-awaited (Request m) = codes ",\"for\":\"reply\",\"message\":" ++ message_text m
+awaited (Request m) = joined (codes ",\"for\":\"reply\",\"message\":" ∷ message_text m ∷ [])
 awaited Receive = codes ",\"for\":\"message\""
 awaited Listen = codes ",\"for\":\"connection request\""
-awaited (Connect m offer) = codes ",\"for\":\"answer\",\"message\":" ++ message_text m ++ codes ",\"offer\":" ++ or_null offer_text offer
-awaited (Accepted m a) = codes ",\"for\":\"completion\",\"message\":" ++ message_text m ++ codes ",\"accepted\":" ++ acceptance_text a
-awaited (Event r) = codes ",\"for\":\"event\",\"exception\":" ++ raised_text r
+awaited (Connect m offer) = joined (
+    codes ",\"for\":\"answer\",\"message\":" ∷ message_text m
+    ∷ codes ",\"offer\":" ∷ or_null offer_text offer
+    ∷ []
+    )
+awaited (Accepted m a) = joined (
+    codes ",\"for\":\"completion\",\"message\":" ∷ message_text m
+    ∷ codes ",\"accepted\":" ∷ acceptance_text a
+    ∷ []
+    )
+awaited (Event r) = joined (codes ",\"for\":\"event\",\"exception\":" ∷ raised_text r ∷ [])
 
 -- The wait of a thread, named by the thread's number and the identifier of what it sent, 0 where it sent nothing. A thread
 -- has one wait at most.
@@ -145,7 +153,7 @@ message_row m = joined (
 abbrev pub node_text : Node Birth → List ℕ
 node_text (Stands Directory) = codes ",\"is\":\"directory\""
 node_text (Stands (Item b)) = codes ",\"is\":\"port\",\"port\":" ++ port_text b
-node_text (LinkTo path) = codes ",\"is\":\"link\",\"target\":" ++ quoted (path_text path)
+node_text (LinkTo path) = joined (codes ",\"is\":\"link\",\"target\":\"" ∷ path_text path ∷ codes "\"" ∷ [])
 
 -- a name of the name space
 unfoldable pub name_row : Path × Node Birth → List ℕ

@@ -49,7 +49,7 @@ behind_comma show x = codes "," ++ show x
 
 abbrev pub listed : {A : Type 0} → (A → List ℕ) → List A → List ℕ
 listed show [] = codes "[]"
-listed show (x ∷ xs) = codes "[" ++ show x ++ flat_map (behind_comma show) xs ++ codes "]"
+listed show (x ∷ xs) = joined (codes "[" ∷ show x ∷ flat_map (behind_comma show) xs ∷ codes "]" ∷ [])
 
 -- A byte of a name. A printed sign stands for itself, with a backslash in front of a quote and of a backslash; any other
 -- byte is told by its number, and so is a comma: a comma ends the name of a row.
@@ -88,11 +88,21 @@ abbrev pub sid_text : Sid → List ℕ
 sid_text sid = quoted (spelling sid)
 
 unfoldable pub token_text : Token → List ℕ
-token_text t = codes "{\"user\":" ++ sid_text t.user ++ codes ",\"groups\":" ++ listed sid_text t.groups.items ++ codes "}"
+token_text t = joined (
+    codes "{\"user\":" ∷ sid_text t.user
+    ∷ codes ",\"groups\":" ∷ listed sid_text t.groups.items
+    ∷ codes "}"
+    ∷ []
+    )
 
 -- the token of a client, as which a thread acts; a token with the level of an impersonation token
 unfoldable pub leveled_text : Token → Option ℕ → List ℕ
-leveled_text t level = codes "{\"token\":" ++ token_text t ++ codes ",\"level\":" ++ or_null decimal level ++ codes "}"
+leveled_text t level = joined (
+    codes "{\"token\":" ∷ token_text t
+    ∷ codes ",\"level\":" ∷ or_null decimal level
+    ∷ codes "}"
+    ∷ []
+    )
 
 abbrev pub impersonation_text : Impersonation → List ℕ
 impersonation_text i = leveled_text i.token (Some i.level)
@@ -102,7 +112,13 @@ effective_text e = leveled_text e.token e.level
 
 -- an entry of an access list
 unfoldable pub ace_text : Ace → List ℕ
-ace_text a = codes "{\"allow\":" ++ flag a.allow ++ codes ",\"mask\":" ++ hex a.mask ++ codes ",\"sid\":" ++ sid_text a.sid ++ codes "}"
+ace_text a = joined (
+    codes "{\"allow\":" ∷ flag a.allow
+    ∷ codes ",\"mask\":" ∷ hex a.mask
+    ∷ codes ",\"sid\":" ∷ sid_text a.sid
+    ∷ codes "}"
+    ∷ []
+    )
 
 -- which of a client's tokens its server gets
 abbrev pub tracking_text : Tracking → List ℕ

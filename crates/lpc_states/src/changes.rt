@@ -1,14 +1,16 @@
-// What becomes of rows in a line.
-ghost use Rattle.std.specs.Prelude.{◌≡◌, true, false, not, Option, IfOk, IfSome, is_some, None};
+// What becomes of rows in a line. What puts text wants for memory only where there was no room for it behind the text;
+// what stood before still begins the text then. The text's capacity never shrinks.
+ghost use Rattle.std.specs.Prelude.{◌≡◌, ◌≤◌, OnErr, vec_capacity, true, false, not, Option, IfOk, IfSome, is_some, None};
 ghost use Rattle.std.specs.List.{flat_map};
 ghost use Rattle.lpc_base.specs.Rows.{has};
 ghost use Rattle.lpc_model.specs.Script.{script_lines};
-ghost use Rattle.lpc_transcript.specs.Printing.{Puts};
+ghost use Rattle.lpc_transcript.specs.Printing.{BeginsWith, LacksRoom, Puts};
 ghost use Rattle.lpc_states.specs.Changes.{came_or_changed, changes, is_row, name_of, told_as, went};
 ghost use Rattle.lpc_states.specs.Searching.{IsBehind, is_sought};
 
+use crate::values::put_decimal;
 use lpc_base::OutOfMemory;
-use lpc_transcript::{put, put_number};
+use lpc_transcript::put;
 use lpc_words::{next_line, split_once};
 
 /// What a row is looked for by.
@@ -75,12 +77,14 @@ fn find<'a>(rows: &'a [u8], ahead: &'a [u8], by: Sought, wanted: &[u8]) -> Optio
 }
 
 // The line that tells what became of a row.
-#[tactic(auto, using(std::proofs::Common::append_assoc))]
 fn put_told(into: &mut Vec<u8>, line: u32, word: &[u8], row: &[u8]) -> Result<(), OutOfMemory>
-    ensures { Puts into.old.items into.new.items (told_as line word.now row.now) result }
+    ensures ok { Puts into.old.items into.new.items (told_as line word.now row.now) result }
+    ensures err { OnErr result (BeginsWith into.new.items into.old.items) }
+    ensures capacity { vec_capacity into.old ≤ vec_capacity into.new }
+    ensures wanting { OnErr result (LacksRoom into.old (told_as line word.now row.now)) }
 {
     put(into, b"{\"line\":")?;
-    put_number(into, u64::from(line))?;
+    put_decimal(into, line)?;
     put(into, b",\"")?;
     put(into, word)?;
     put(into, b"\":")?;
@@ -97,8 +101,12 @@ fn put_if_went<'a>(
     row: &[u8],
 ) -> Result<&'a [u8], OutOfMemory>
     requires place { IsBehind after.now ahead.now }
-    ensures text { Puts into.old.items into.new.items
+    ensures ok { Puts into.old.items into.new.items
         (went line (script_lines after.now) row.now) result }
+    ensures err { OnErr result (BeginsWith into.new.items into.old.items) }
+    ensures capacity { vec_capacity into.old ≤ vec_capacity into.new }
+    ensures wanting { OnErr result (LacksRoom into.old
+        (went line (script_lines after.now) row.now)) }
     ensures place { IfOk result (λ next. IsBehind after.now next.now) }
 {
     let name = name_of(row);
@@ -111,8 +119,12 @@ fn put_if_went<'a>(
 
 // The rows that went.
 fn put_went(into: &mut Vec<u8>, line: u32, before: &[u8], after: &[u8]) -> Result<(), OutOfMemory>
-    ensures { Puts into.old.items into.new.items
+    ensures ok { Puts into.old.items into.new.items
         (flat_map (went line (script_lines after.now)) (script_lines before.now)) result }
+    ensures err { OnErr result (BeginsWith into.new.items into.old.items) }
+    ensures capacity { vec_capacity into.old ≤ vec_capacity into.new }
+    ensures wanting { OnErr result (LacksRoom into.old
+        (flat_map (went line (script_lines after.now)) (script_lines before.now))) }
 {
     let mut rest = before;
     let mut ahead = after;
@@ -127,8 +139,12 @@ fn put_went(into: &mut Vec<u8>, line: u32, before: &[u8], after: &[u8]) -> Resul
 // Tells of a row that stands behind a line and not before it: it came, or changed where one before has its name.
 fn put_new(into: &mut Vec<u8>, line: u32, before: &[u8], row: &[u8]) -> Result<(), OutOfMemory>
     requires new { has (is_row row.now) (script_lines before.now) ≡ false }
-    ensures { Puts into.old.items into.new.items
+    ensures ok { Puts into.old.items into.new.items
         (came_or_changed line (script_lines before.now) row.now) result }
+    ensures err { OnErr result (BeginsWith into.new.items into.old.items) }
+    ensures capacity { vec_capacity into.old ≤ vec_capacity into.new }
+    ensures wanting { OnErr result (LacksRoom into.old
+        (came_or_changed line (script_lines before.now) row.now)) }
 {
     match walk(before, Sought::Name, name_of(row)) {
         Some(_) => put_told(into, line, b"changed", row),
@@ -145,8 +161,12 @@ fn put_if_new<'a>(
     row: &[u8],
 ) -> Result<&'a [u8], OutOfMemory>
     requires place { IsBehind before.now ahead.now }
-    ensures text { Puts into.old.items into.new.items
+    ensures ok { Puts into.old.items into.new.items
         (came_or_changed line (script_lines before.now) row.now) result }
+    ensures err { OnErr result (BeginsWith into.new.items into.old.items) }
+    ensures capacity { vec_capacity into.old ≤ vec_capacity into.new }
+    ensures wanting { OnErr result (LacksRoom into.old
+        (came_or_changed line (script_lines before.now) row.now)) }
     ensures place { IfOk result (λ next. IsBehind before.now next.now) }
 {
     if let Some(behind) = find(before, ahead, Sought::Row, row) {
@@ -158,9 +178,13 @@ fn put_if_new<'a>(
 
 // The rows that came or changed.
 fn put_news(into: &mut Vec<u8>, line: u32, before: &[u8], after: &[u8]) -> Result<(), OutOfMemory>
-    ensures { Puts into.old.items into.new.items
+    ensures ok { Puts into.old.items into.new.items
         (flat_map (came_or_changed line (script_lines before.now)) (script_lines after.now))
         result }
+    ensures err { OnErr result (BeginsWith into.new.items into.old.items) }
+    ensures capacity { vec_capacity into.old ≤ vec_capacity into.new }
+    ensures wanting { OnErr result (LacksRoom into.old
+        (flat_map (came_or_changed line (script_lines before.now)) (script_lines after.now))) }
 {
     let mut rest = after;
     let mut ahead = before;
@@ -175,16 +199,21 @@ fn put_news(into: &mut Vec<u8>, line: u32, before: &[u8], after: &[u8]) -> Resul
 /// Appends what a line of this number tells of rows: first those that went, by their names, and then those that came or
 /// changed, whole. Before it these rows stood, and behind it those, each a line of its text.
 ///
-/// OutOfMemory comes where memory for the text is wanting; no clause tells more of when it does, or of what it leaves.
-#[tactic(auto, using(std::proofs::Common::append_assoc), unfolding(crate::specs::Changes::changes))]
+/// OutOfMemory comes only where there was no room for that behind the text; the text begins as it was then. Its
+/// capacity never shrinks.
+#[tactic(auto, using(std::proofs::Common::append_assoc, lpc_transcript::proofs::Begins::begins_before), unfolding(crate::specs::Changes::changes))]
 pub fn print_changes(
     line: u32,
     before: &[u8],
     after: &[u8],
     into: &mut Vec<u8>,
 ) -> Result<(), OutOfMemory>
-    ensures { Puts into.old.items into.new.items
+    ensures ok { Puts into.old.items into.new.items
         (changes line (script_lines before.now) (script_lines after.now)) result }
+    ensures err { OnErr result (BeginsWith into.new.items into.old.items) }
+    ensures capacity { vec_capacity into.old ≤ vec_capacity into.new }
+    ensures wanting { OnErr result (LacksRoom into.old
+        (changes line (script_lines before.now) (script_lines after.now))) }
 {
     put_went(into, line, before, after)?;
     put_news(into, line, before, after)

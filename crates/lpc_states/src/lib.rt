@@ -8,8 +8,9 @@ mod values;
 
 pub use changes::print_changes;
 pub use messages::{header_in, put_message_fields};
-pub use tokens::{put_leveled, put_security, put_token};
+pub use tokens::{put_leveled, put_security, put_token, put_token_under};
 pub use values::{
-    put_birth, put_decimal, put_flag, put_hex, put_hex_bytes, put_hex_or_null, put_name,
-    put_number_or_null, put_object, put_port_kind, put_port_or_null,
+    put_birth, put_decimal, put_decimal_under, put_flag, put_flag_under, put_hex, put_hex_bytes,
+    put_hex_or_null, put_hex_or_null_under, put_hex_under, put_name, put_number_or_null,
+    put_number_or_null_under, put_object, put_port_kind, put_port_or_null, put_port_or_null_under,
 };

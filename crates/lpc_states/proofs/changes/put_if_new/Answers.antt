@@ -5,8 +5,8 @@ use Rattle.lpc_states.specs.Changes.{is_row}
 use Rattle.lpc_states.proofs.Searching.{by_row, new_there, none_found}
 use Rattle.lpc_states.proofs.changes.put_if_new.Goals as goal
 
-pub returns-in-Some-clause-text : goal.returns-in-Some-clause-text
-returns-in-Some-clause-text c =
+pub returns-in-Some-clause-ok : goal.returns-in-Some-clause-ok
+returns-in-Some-clause-ok c =
     let there : has (is_row c.args.row.now) (script_lines c.args.before.now) ≡ true = sym (by_row c.args.row.now (script_lines c.args.before.now)) ∙ (sym c.find.ensures.found ∙ ap is_some c.in-Some.is) in
     rw (new_there c.args.line (script_lines c.args.before.now) c.args.row.now there) (sym (append-nil c.args.into.now.items))
 

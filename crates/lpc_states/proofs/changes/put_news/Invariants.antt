@@ -1,6 +1,7 @@
-use Rattle.std.proofs.Common.{◌≡◌, ◌++◌, length}
+use Rattle.std.proofs.Common.{◌≡◌, ◌≤◌, ◌++◌, length, vec_capacity}
 use Rattle.std.specs.List.{flat_map}
 use Rattle.lpc_model.specs.Script.{script_lines}
+use Rattle.lpc_transcript.specs.Printing.{BeginsWith}
 use Rattle.lpc_states.specs.Changes.{came_or_changed}
 use Rattle.lpc_states.specs.Searching.{IsBehind}
 use Rattle.lpc_states.proofs.changes.put_news.Given as goal
@@ -9,6 +10,8 @@ use Rattle.lpc_states.proofs.changes.put_news.Given as goal
 abbrev pub invariant-loop-rest : goal.invariant-loop-rest
 invariant-loop-rest l = record {
   text : l.into.items ++ flat_map (came_or_changed l.line (script_lines l.before)) (script_lines l.rest) ≡ l.initial.into.items ++ flat_map (came_or_changed l.line (script_lines l.before)) (script_lines l.after);
+  begins : BeginsWith l.into.items l.initial.into.items;
+  room : vec_capacity l.initial.into ≤ vec_capacity l.into;
   behind : IsBehind l.before l.ahead;
 }
 
