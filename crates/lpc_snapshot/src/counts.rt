@@ -1,9 +1,9 @@
 // What rows show of objects: their names, and how many rows count for them.
-ghost use Rattle.std.specs.Prelude.{◌≡◌, true};
+ghost use Rattle.std.specs.Prelude.{◌≡◌, ◌≤◌, ◌++◌, true, OnErr, vec_capacity};
 ghost use Rattle.lpc_base.specs.Rows.{every};
 ghost use Rattle.lpc_rows.specs.Clauses.{name_at};
 ghost use Rattle.lpc_rows.specs.Shown.{birth_in, birth_of, kind_of, object_stands, ports_in};
-ghost use Rattle.lpc_transcript.specs.Printing.{Puts};
+ghost use Rattle.lpc_transcript.specs.Printing.{BeginsWith, LacksRoom, Puts};
 ghost use Rattle.lpc_states.specs.Rows.{counts};
 ghost use Rattle.lpc_states.specs.Values.{object_text};
 
@@ -21,8 +21,12 @@ pub(crate) fn put_counts(
     object: Object,
 ) -> Result<(), OutOfMemory>
     requires { object_stands world.now.births object ≡ true }
-    ensures { Puts into.old.items into.new.items
+    ensures ok { Puts into.old.items into.new.items
         (counts world.now.rows (name_at world.now object)) result }
+    ensures err { OnErr result (BeginsWith into.new.items into.old.items) }
+    ensures capacity { vec_capacity into.old ≤ vec_capacity into.new }
+    ensures wanting { OnErr result (LacksRoom into.old
+        (counts world.now.rows (name_at world.now object))) }
 {
     put(into, b",\"handles\":")?;
     put_number(into, world.handles_to(object) as u64)?;
@@ -60,8 +64,31 @@ pub(crate) fn put_name_of(
     object: Object,
 ) -> Result<(), OutOfMemory>
     requires { object_stands world.now.births object ≡ true }
-    ensures { Puts into.old.items into.new.items
+    ensures ok { Puts into.old.items into.new.items
         (object_text (name_at world.now object)) result }
+    ensures err { OnErr result (BeginsWith into.new.items into.old.items) }
+    ensures capacity { vec_capacity into.old ≤ vec_capacity into.new }
+    ensures wanting { OnErr result (LacksRoom into.old (object_text (name_at world.now object))) }
 {
     put_object(into, kind_of(object), world.birth_of(object))
+}
+
+/// A key, and the name of an object behind it.
+#[tactic(auto, using(std::proofs::Common::append_assoc, lpc_transcript::proofs::Begins::begins_before))]
+pub(crate) fn put_name_of_under(
+    into: &mut Vec<u8>,
+    key: &[u8],
+    world: &World,
+    object: Object,
+) -> Result<(), OutOfMemory>
+    requires { object_stands world.now.births object ≡ true }
+    ensures ok { Puts into.old.items into.new.items
+        (key.now ++ object_text (name_at world.now object)) result }
+    ensures err { OnErr result (BeginsWith into.new.items into.old.items) }
+    ensures capacity { vec_capacity into.old ≤ vec_capacity into.new }
+    ensures wanting { OnErr result (LacksRoom into.old
+        (key.now ++ object_text (name_at world.now object))) }
+{
+    put(into, key)?;
+    put_name_of(into, world, object)
 }

@@ -1,7 +1,8 @@
 //! The rows of a world as they stand, as text: a line each.
 #![tactic(auto)]
 
-ghost use Rattle.lpc_transcript.specs.Printing.{Puts};
+ghost use Rattle.std.specs.Prelude.{◌≤◌, OnErr, vec_capacity};
+ghost use Rattle.lpc_transcript.specs.Printing.{BeginsWith, LacksRoom, Puts};
 ghost use Rattle.lpc_states.specs.Rows.{rows_text};
 
 mod counts;
@@ -31,9 +32,13 @@ use waits::{put_marks, put_waits};
 /// sections, views, tokens, and the names of tokens; of each kind in the order in which the world has them. The form is
 /// this project's own.
 ///
-/// OutOfMemory comes where memory for the text is wanting; no clause tells more of when it does, or of what it leaves.
+/// OutOfMemory comes only where there was no room for that behind the text; the text begins as it was then. Its
+/// capacity never shrinks.
 pub fn print_rows(world: &World, into: &mut Vec<u8>) -> Result<(), OutOfMemory>
-    ensures { Puts into.old.items into.new.items (rows_text world.now.rows) result }
+    ensures ok { Puts into.old.items into.new.items (rows_text world.now.rows) result }
+    ensures err { OnErr result (BeginsWith into.new.items into.old.items) }
+    ensures capacity { vec_capacity into.old ≤ vec_capacity into.new }
+    ensures wanting { OnErr result (LacksRoom into.old (rows_text world.now.rows)) }
 {
     put_processes(into, world)?;
     put_threads(into, world)?;

@@ -1,8 +1,8 @@
 // Ports.
-ghost use Rattle.std.specs.Prelude.{◌≡◌, ◌<◌, Some, length, option_map, slice_get, true};
+ghost use Rattle.std.specs.Prelude.{◌≡◌, ◌<◌, ◌≤◌, Some, length, option_map, slice_get, true, OnErr, vec_capacity};
 ghost use Rattle.lpc_rows.specs.Names.{name_of, stands};
 ghost use Rattle.lpc_rows.specs.Shown.{all_pass, birth_of, object_stands, port_refs, shown_creator, shown_port};
-ghost use Rattle.lpc_transcript.specs.Printing.{Puts};
+ghost use Rattle.lpc_transcript.specs.Printing.{BeginsWith, LacksRoom, Puts};
 ghost use Rattle.lpc_states.specs.Rows.{lines, port_row};
 ghost use Rattle.lpc_states.specs.Values.{creator_text, or_null};
 
@@ -12,27 +12,32 @@ use lpc_model::ObjectKind;
 use lpc_ports::{Creator, Port};
 use lpc_slots::Key;
 use lpc_states::{
-    put_decimal, put_flag, put_hex, put_object, put_port_kind, put_port_or_null, put_security,
+    put_decimal_under, put_flag_under, put_hex_under, put_object, put_port_kind,
+    put_port_or_null_under, put_security,
 };
 use lpc_transcript::put;
 use lpc_world::{Object, World};
 
 // The connect that made a client port.
 fn put_creator(into: &mut Vec<u8>, creator: Creator) -> Result<(), OutOfMemory>
-    ensures { Puts into.old.items into.new.items (creator_text (shown_creator creator)) result }
+    ensures ok { Puts into.old.items into.new.items (creator_text (shown_creator creator)) result }
+    ensures err { OnErr result (BeginsWith into.new.items into.old.items) }
+    ensures capacity { vec_capacity into.old ≤ vec_capacity into.new }
+    ensures wanting { OnErr result (LacksRoom into.old (creator_text (shown_creator creator))) }
 {
-    put(into, b"{\"process\":")?;
-    put_decimal(into, creator.client.process)?;
-    put(into, b",\"thread\":")?;
-    put_decimal(into, creator.client.thread)?;
-    put(into, b",\"identifier\":")?;
-    put_decimal(into, creator.message_id)?;
+    put_decimal_under(into, b"{\"process\":", creator.client.process)?;
+    put_decimal_under(into, b",\"thread\":", creator.client.thread)?;
+    put_decimal_under(into, b",\"identifier\":", creator.message_id)?;
     put(into, b"}")
 }
 
 fn put_creator_or_null(into: &mut Vec<u8>, creator: Option<Creator>) -> Result<(), OutOfMemory>
-    ensures { Puts into.old.items into.new.items
+    ensures ok { Puts into.old.items into.new.items
         (or_null creator_text (option_map shown_creator creator)) result }
+    ensures err { OnErr result (BeginsWith into.new.items into.old.items) }
+    ensures capacity { vec_capacity into.old ≤ vec_capacity into.new }
+    ensures wanting { OnErr result (LacksRoom into.old
+        (or_null creator_text (option_map shown_creator creator))) }
 {
     match creator {
         Some(creator) => put_creator(into, creator),
@@ -44,21 +49,24 @@ fn put_port(into: &mut Vec<u8>, world: &World, key: Key, port: &Port) -> Result<
     requires stands { stands world.now.births.ports key ≡ true }
     requires name { name_of world.now.births.ports key ≡ (port.now).birth }
     requires refs { all_pass port_refs (object_stands world.now.births) (key, port.now) ≡ true }
-    ensures { Puts into.old.items into.new.items
-        (port_row world.now.rows (shown_port (birth_of world.now.births) (key, port.now)))
-        result }
+    ensures ok { Puts into.old.items into.new.items
+        (port_row world.now.rows (shown_port (birth_of world.now.births) (key, port.now))) result }
+    ensures err { OnErr result (BeginsWith into.new.items into.old.items) }
+    ensures capacity { vec_capacity into.old ≤ vec_capacity into.new }
+    ensures wanting { OnErr result (LacksRoom into.old
+        (port_row world.now.rows (shown_port (birth_of world.now.births) (key, port.now)))) }
 {
     put_object(into, ObjectKind::Port, port.birth)?;
     put(into, b",\"kind\":")?;
     put_port_kind(into, port.kind)?;
-    put(into, b",\"connection\":")?;
-    put_port_or_null(into, port_birth(world, port.connection))?;
-    put(into, b",\"pair\":")?;
-    put_port_or_null(into, port_birth(world, port.pair))?;
-    put(into, b",\"context\":")?;
-    put_hex(into, port.context)?;
-    put(into, b",\"completed\":")?;
-    put_flag(into, port.completed)?;
+    put_port_or_null_under(
+        into,
+        b",\"connection\":",
+        port_birth(world, port.connection),
+    )?;
+    put_port_or_null_under(into, b",\"pair\":", port_birth(world, port.pair))?;
+    put_hex_under(into, b",\"context\":", port.context)?;
+    put_flag_under(into, b",\"completed\":", port.completed)?;
     put(into, b",\"creator\":")?;
     put_creator_or_null(into, port.creator)?;
     put(into, b",\"security\":")?;
@@ -82,8 +90,12 @@ fn port_at(world: &World, place: usize) -> (Key, &Port)
 
 /// The ports, a line each.
 pub(crate) fn put_ports(into: &mut Vec<u8>, world: &World) -> Result<(), OutOfMemory>
-    ensures { Puts into.old.items into.new.items
+    ensures ok { Puts into.old.items into.new.items
         (lines (port_row world.now.rows) world.now.rows.ports) result }
+    ensures err { OnErr result (BeginsWith into.new.items into.old.items) }
+    ensures capacity { vec_capacity into.old ≤ vec_capacity into.new }
+    ensures wanting { OnErr result (LacksRoom into.old
+        (lines (port_row world.now.rows) world.now.rows.ports)) }
 {
     for place in 0..world.ports().count() {
         let (key, port) = port_at(world, place);

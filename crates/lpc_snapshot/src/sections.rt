@@ -1,9 +1,9 @@
 // Sections.
-ghost use Rattle.std.specs.Prelude.{◌≡◌, ◌<◌, Some, length, slice_get, true};
+ghost use Rattle.std.specs.Prelude.{◌≡◌, ◌<◌, ◌≤◌, Some, length, slice_get, true, OnErr, vec_capacity};
 ghost use Rattle.lpc_model.specs.Found.{content_of};
 ghost use Rattle.lpc_rows.specs.Names.{name_of, stands};
 ghost use Rattle.lpc_rows.specs.Shown.{shown_section};
-ghost use Rattle.lpc_transcript.specs.Printing.{Puts};
+ghost use Rattle.lpc_transcript.specs.Printing.{BeginsWith, LacksRoom, Puts};
 ghost use Rattle.lpc_states.specs.Rows.{lines, section_row, without_last_zeros};
 
 use crate::counts::put_counts;
@@ -11,7 +11,7 @@ use lpc_base::OutOfMemory;
 use lpc_model::ObjectKind;
 use lpc_sections::Section;
 use lpc_slots::Key;
-use lpc_states::{put_decimal, put_flag, put_hex_bytes, put_object};
+use lpc_states::{put_decimal_under, put_flag_under, put_hex_bytes, put_object};
 use lpc_transcript::put;
 use lpc_world::{Object, World};
 
@@ -36,16 +36,17 @@ fn put_section(
     requires name { name_of world.now.births.sections key ≡ (section.now).birth }
     requires content { content_of world.now.rows.contents (section.now).birth
         ≡ (section.now).bytes }
-    ensures { Puts into.old.items into.new.items
+    ensures ok { Puts into.old.items into.new.items
         (section_row world.now.rows (shown_section (key, section.now))) result }
+    ensures err { OnErr result (BeginsWith into.new.items into.old.items) }
+    ensures capacity { vec_capacity into.old ≤ vec_capacity into.new }
+    ensures wanting { OnErr result (LacksRoom into.old
+        (section_row world.now.rows (shown_section (key, section.now)))) }
 {
     put_object(into, ObjectKind::Section, section.birth())?;
-    put(into, b",\"process\":")?;
-    put_decimal(into, section.birth().process)?;
-    put(into, b",\"size\":")?;
-    put_decimal(into, section.size())?;
-    put(into, b",\"writable\":")?;
-    put_flag(into, section.writable())?;
+    put_decimal_under(into, b",\"process\":", section.birth().process)?;
+    put_decimal_under(into, b",\"size\":", section.size())?;
+    put_flag_under(into, b",\"writable\":", section.writable())?;
     put(into, b",\"bytes\":")?;
     put_hex_bytes(into, without_last_zeros(section.part(0, section.size())))?;
     put_counts(into, world, Object::Section(key))?;
@@ -67,8 +68,12 @@ fn section_at(world: &World, place: usize) -> (Key, &Section)
 
 /// The sections, a line each.
 pub(crate) fn put_sections(into: &mut Vec<u8>, world: &World) -> Result<(), OutOfMemory>
-    ensures { Puts into.old.items into.new.items
+    ensures ok { Puts into.old.items into.new.items
         (lines (section_row world.now.rows) world.now.rows.sections) result }
+    ensures err { OnErr result (BeginsWith into.new.items into.old.items) }
+    ensures capacity { vec_capacity into.old ≤ vec_capacity into.new }
+    ensures wanting { OnErr result (LacksRoom into.old
+        (lines (section_row world.now.rows) world.now.rows.sections)) }
 {
     for place in 0..world.sections().count() {
         let (key, section) = section_at(world, place);

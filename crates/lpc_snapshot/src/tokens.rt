@@ -1,8 +1,8 @@
 // Tokens, and the names of tokens.
-ghost use Rattle.std.specs.Prelude.{◌≡◌, ◌<◌, Some, length, slice_get, true};
+ghost use Rattle.std.specs.Prelude.{◌≡◌, ◌<◌, ◌≤◌, Some, length, slice_get, true, OnErr, vec_capacity};
 ghost use Rattle.lpc_rows.specs.Names.{name_of, stands};
 ghost use Rattle.lpc_rows.specs.Shown.{shown_token};
-ghost use Rattle.lpc_transcript.specs.Printing.{Puts};
+ghost use Rattle.lpc_transcript.specs.Printing.{BeginsWith, LacksRoom, Puts};
 ghost use Rattle.lpc_states.specs.Rows.{lines, token_name_row, token_row};
 
 use crate::counts::put_counts;
@@ -10,7 +10,7 @@ use lpc_base::OutOfMemory;
 use lpc_model::ObjectKind;
 use lpc_sid::Token;
 use lpc_slots::Key;
-use lpc_states::{put_name, put_number_or_null, put_object, put_token};
+use lpc_states::{put_name, put_number_or_null_under, put_object, put_token_under};
 use lpc_tokens::TokenRow;
 use lpc_transcript::put;
 use lpc_world::{Object, World};
@@ -33,14 +33,16 @@ fn put_token_row(
 ) -> Result<(), OutOfMemory>
     requires stands { stands world.now.births.tokens key ≡ true }
     requires name { name_of world.now.births.tokens key ≡ (token.now).birth }
-    ensures { Puts into.old.items into.new.items
+    ensures ok { Puts into.old.items into.new.items
         (token_row world.now.rows (shown_token (key, token.now))) result }
+    ensures err { OnErr result (BeginsWith into.new.items into.old.items) }
+    ensures capacity { vec_capacity into.old ≤ vec_capacity into.new }
+    ensures wanting { OnErr result (LacksRoom into.old
+        (token_row world.now.rows (shown_token (key, token.now)))) }
 {
     put_object(into, ObjectKind::Token, token.birth)?;
-    put(into, b",\"token\":")?;
-    put_token(into, &token.token)?;
-    put(into, b",\"level\":")?;
-    put_number_or_null(into, level_of(token))?;
+    put_token_under(into, b",\"token\":", &token.token)?;
+    put_number_or_null_under(into, b",\"level\":", level_of(token))?;
     put_counts(into, world, Object::Token(key))?;
     put(into, b"\n")
 }
@@ -58,8 +60,12 @@ fn token_at(world: &World, place: usize) -> (Key, &TokenRow)
 
 /// The tokens, a line each.
 pub(crate) fn put_tokens(into: &mut Vec<u8>, world: &World) -> Result<(), OutOfMemory>
-    ensures { Puts into.old.items into.new.items
+    ensures ok { Puts into.old.items into.new.items
         (lines (token_row world.now.rows) world.now.rows.tokens) result }
+    ensures err { OnErr result (BeginsWith into.new.items into.old.items) }
+    ensures capacity { vec_capacity into.old ≤ vec_capacity into.new }
+    ensures wanting { OnErr result (LacksRoom into.old
+        (lines (token_row world.now.rows) world.now.rows.tokens)) }
 {
     for place in 0..world.tokens().count() {
         let (key, token) = token_at(world, place);
@@ -69,13 +75,16 @@ pub(crate) fn put_tokens(into: &mut Vec<u8>, world: &World) -> Result<(), OutOfM
 }
 
 fn put_token_name(into: &mut Vec<u8>, name: &[u8], token: &Token) -> Result<(), OutOfMemory>
-    ensures { Puts into.old.items into.new.items
+    ensures ok { Puts into.old.items into.new.items
         (token_name_row (record { name = name.now; token = token.now })) result }
+    ensures err { OnErr result (BeginsWith into.new.items into.old.items) }
+    ensures capacity { vec_capacity into.old ≤ vec_capacity into.new }
+    ensures wanting { OnErr result (LacksRoom into.old
+        (token_name_row (record { name = name.now; token = token.now }))) }
 {
     put(into, b"\"token_name ")?;
     put_name(into, name)?;
-    put(into, b"\",\"token\":")?;
-    put_token(into, token)?;
+    put_token_under(into, b"\",\"token\":", token)?;
     put(into, b"\n")
 }
 
@@ -90,8 +99,12 @@ fn token_name_at(world: &World, place: usize) -> (&[u8], &Token)
 
 /// The names of tokens, a line each.
 pub(crate) fn put_token_names(into: &mut Vec<u8>, world: &World) -> Result<(), OutOfMemory>
-    ensures { Puts into.old.items into.new.items
+    ensures ok { Puts into.old.items into.new.items
         (lines token_name_row world.now.rows.token_names) result }
+    ensures err { OnErr result (BeginsWith into.new.items into.old.items) }
+    ensures capacity { vec_capacity into.old ≤ vec_capacity into.new }
+    ensures wanting { OnErr result (LacksRoom into.old
+        (lines token_name_row world.now.rows.token_names)) }
 {
     for place in 0..world.token_names().count() {
         let (name, token) = token_name_at(world, place);

@@ -1,20 +1,20 @@
 // Waits, and the marks of events.
-ghost use Rattle.std.specs.Prelude.{◌≡◌, option_map, true};
+ghost use Rattle.std.specs.Prelude.{◌≡◌, ◌≤◌, option_map, true, OnErr, vec_capacity};
 ghost use Rattle.lpc_base.specs.Rows.{every};
 ghost use Rattle.lpc_model.specs.Message.{message_of};
 ghost use Rattle.lpc_rows.specs.Shown.{all_pass, birth_of, call_of_wait, object_stands, offer_refs, section_in, shown_acceptance, shown_chance, shown_connect, shown_offer, shown_raised, shown_wait, wait_refs};
 ghost use Rattle.lpc_rows.specs.Names.{stands};
 ghost use Rattle.lpc_waits.specs.declared.WaitKind.TheVariants as wait;
-ghost use Rattle.lpc_transcript.specs.Printing.{Puts};
+ghost use Rattle.lpc_transcript.specs.Printing.{BeginsWith, LacksRoom, Puts};
 ghost use Rattle.lpc_states.specs.Rows.{awaited, lines, mark_row, wait_row};
 ghost use Rattle.lpc_states.specs.Values.{acceptance_text, chance_text, message_text, offer_text, or_null, raised_text};
 
-use crate::counts::put_name_of;
+use crate::counts::put_name_of_under;
 use lpc_base::OutOfMemory;
 use lpc_model::CallName;
 use lpc_states::{
-    put_decimal, put_flag, put_hex, put_hex_bytes, put_hex_or_null, put_message_fields,
-    put_number_or_null,
+    put_decimal_under, put_flag_under, put_hex_bytes, put_hex_or_null_under, put_hex_under,
+    put_message_fields, put_number_or_null_under,
 };
 use lpc_transcript::put;
 use lpc_waits::{Accepted, Chance, Offer, Raised, WaitKind, WaitRow};
@@ -33,9 +33,12 @@ fn call_of(kind: WaitKind) -> CallName
     }
 }
 
-#[tactic(auto, using(std::proofs::Common::append_assoc))]
+#[tactic(auto, using(std::proofs::Common::append_assoc, lpc_transcript::proofs::Begins::begins_before))]
 fn put_message(into: &mut Vec<u8>, bytes: &[u8]) -> Result<(), OutOfMemory>
-    ensures { Puts into.old.items into.new.items (message_text (message_of bytes.now)) result }
+    ensures ok { Puts into.old.items into.new.items (message_text (message_of bytes.now)) result }
+    ensures err { OnErr result (BeginsWith into.new.items into.old.items) }
+    ensures capacity { vec_capacity into.old ≤ vec_capacity into.new }
+    ensures wanting { OnErr result (LacksRoom into.old (message_text (message_of bytes.now))) }
 {
     put(into, b"{")?;
     put_message_fields(into, bytes)?;
@@ -44,15 +47,21 @@ fn put_message(into: &mut Vec<u8>, bytes: &[u8]) -> Result<(), OutOfMemory>
 
 fn put_offer(into: &mut Vec<u8>, world: &World, offer: &Offer) -> Result<(), OutOfMemory>
     requires { stands world.now.births.sections (offer.now).section ≡ true }
-    ensures { Puts into.old.items into.new.items
+    ensures ok { Puts into.old.items into.new.items
         (offer_text (shown_offer (birth_of world.now.births) offer.now)) result }
+    ensures err { OnErr result (BeginsWith into.new.items into.old.items) }
+    ensures capacity { vec_capacity into.old ≤ vec_capacity into.new }
+    ensures wanting { OnErr result (LacksRoom into.old
+        (offer_text (shown_offer (birth_of world.now.births) offer.now))) }
 {
-    put(into, b"{\"section\":")?;
-    put_name_of(into, world, Object::Section(offer.section))?;
-    put(into, b",\"offset\":")?;
-    put_decimal(into, offer.offset)?;
-    put(into, b",\"size\":")?;
-    put_decimal(into, offer.size)?;
+    put_name_of_under(
+        into,
+        b"{\"section\":",
+        world,
+        Object::Section(offer.section),
+    )?;
+    put_decimal_under(into, b",\"offset\":", offer.offset)?;
+    put_decimal_under(into, b",\"size\":", offer.size)?;
     put(into, b"}")
 }
 
@@ -62,9 +71,13 @@ fn put_offer_or_null(
     offer: &Option<Offer>,
 ) -> Result<(), OutOfMemory>
     requires { every (object_stands world.now.births) (section_in offer.now) ≡ true }
-    ensures { Puts into.old.items into.new.items
+    ensures ok { Puts into.old.items into.new.items
         (or_null offer_text (option_map (shown_offer (birth_of world.now.births)) offer.now))
         result }
+    ensures err { OnErr result (BeginsWith into.new.items into.old.items) }
+    ensures capacity { vec_capacity into.old ≤ vec_capacity into.new }
+    ensures wanting { OnErr result (LacksRoom into.old
+        (or_null offer_text (option_map (shown_offer (birth_of world.now.births)) offer.now))) }
 {
     match offer {
         Some(offer) => put_offer(into, world, offer),
@@ -73,22 +86,26 @@ fn put_offer_or_null(
 }
 
 fn put_acceptance(into: &mut Vec<u8>, accepted: &Accepted) -> Result<(), OutOfMemory>
-    ensures { Puts into.old.items into.new.items
+    ensures ok { Puts into.old.items into.new.items
         (acceptance_text (shown_acceptance accepted.now)) result }
+    ensures err { OnErr result (BeginsWith into.new.items into.old.items) }
+    ensures capacity { vec_capacity into.old ≤ vec_capacity into.new }
+    ensures wanting { OnErr result (LacksRoom into.old
+        (acceptance_text (shown_acceptance accepted.now))) }
 {
     put(into, b"{\"info\":")?;
     put_hex_bytes(into, accepted.reply.as_slice())?;
-    put(into, b",\"target\":")?;
-    put_hex_or_null(into, accepted.target)?;
-    put(into, b",\"vbase\":")?;
-    put_hex_or_null(into, accepted.vbase)?;
-    put(into, b",\"vsize\":")?;
-    put_number_or_null(into, accepted.vsize)?;
+    put_hex_or_null_under(into, b",\"target\":", accepted.target)?;
+    put_hex_or_null_under(into, b",\"vbase\":", accepted.vbase)?;
+    put_number_or_null_under(into, b",\"vsize\":", accepted.vsize)?;
     put(into, b"}")
 }
 
 fn put_chance(into: &mut Vec<u8>, chance: Chance) -> Result<(), OutOfMemory>
-    ensures { Puts into.old.items into.new.items (chance_text (shown_chance chance)) result }
+    ensures ok { Puts into.old.items into.new.items (chance_text (shown_chance chance)) result }
+    ensures err { OnErr result (BeginsWith into.new.items into.old.items) }
+    ensures capacity { vec_capacity into.old ≤ vec_capacity into.new }
+    ensures wanting { OnErr result (LacksRoom into.old (chance_text (shown_chance chance))) }
 {
     match chance {
         Chance::FirstDebug => put(into, b"\"first debug\""),
@@ -98,19 +115,19 @@ fn put_chance(into: &mut Vec<u8>, chance: Chance) -> Result<(), OutOfMemory>
 }
 
 fn put_raised(into: &mut Vec<u8>, raised: Raised) -> Result<(), OutOfMemory>
-    ensures { Puts into.old.items into.new.items (raised_text (shown_raised raised)) result }
+    ensures ok { Puts into.old.items into.new.items (raised_text (shown_raised raised)) result }
+    ensures err { OnErr result (BeginsWith into.new.items into.old.items) }
+    ensures capacity { vec_capacity into.old ≤ vec_capacity into.new }
+    ensures wanting { OnErr result (LacksRoom into.old (raised_text (shown_raised raised))) }
 {
-    put(into, b"{\"code\":")?;
-    put_hex(into, raised.code)?;
-    put(into, b",\"handled\":")?;
-    put_flag(into, raised.handled)?;
+    put_hex_under(into, b"{\"code\":", raised.code)?;
+    put_flag_under(into, b",\"handled\":", raised.handled)?;
     put(into, b",\"chance\":")?;
     put_chance(into, raised.chance)?;
     put(into, b"}")
 }
 
 // What a connect waits for: its answer, or, once it is accepted, its completion.
-#[tactic(auto, using(std::proofs::Common::append_assoc), unfolding(lpc_states::specs::Rows::awaited))]
 fn put_connect(
     into: &mut Vec<u8>,
     world: &World,
@@ -120,9 +137,14 @@ fn put_connect(
 ) -> Result<(), OutOfMemory>
     requires { every (object_stands world.now.births)
         (offer_refs wait.Connect offer.now accepted.now) ≡ true }
-    ensures { let offered = option_map (shown_offer (birth_of world.now.births)) offer.now in
+    ensures ok { let offered = option_map (shown_offer (birth_of world.now.births)) offer.now in
         Puts into.old.items into.new.items
         (awaited (shown_connect bytes.now offered accepted.now)) result }
+    ensures err { OnErr result (BeginsWith into.new.items into.old.items) }
+    ensures capacity { vec_capacity into.old ≤ vec_capacity into.new }
+    ensures wanting { let offered = option_map (shown_offer (birth_of world.now.births)) offer.now in
+        OnErr result (LacksRoom into.old
+        (awaited (shown_connect bytes.now offered accepted.now))) }
 {
     match accepted {
         None => {
@@ -141,11 +163,15 @@ fn put_connect(
 }
 
 // What a wait is for, and what it keeps.
-#[tactic(auto, using(std::proofs::Common::append_assoc), unfolding(lpc_states::specs::Rows::awaited))]
+#[tactic(auto, using(std::proofs::Common::append_assoc, lpc_transcript::proofs::Begins::begins_before), unfolding(lpc_states::specs::Rows::awaited))]
 fn put_awaited(into: &mut Vec<u8>, world: &World, row: &WaitRow) -> Result<(), OutOfMemory>
     requires { all_pass wait_refs (object_stands world.now.births) row.now ≡ true }
-    ensures { Puts into.old.items into.new.items
+    ensures ok { Puts into.old.items into.new.items
         (awaited (shown_wait (birth_of world.now.births) row.now).kind) result }
+    ensures err { OnErr result (BeginsWith into.new.items into.old.items) }
+    ensures capacity { vec_capacity into.old ≤ vec_capacity into.new }
+    ensures wanting { OnErr result (LacksRoom into.old
+        (awaited (shown_wait (birth_of world.now.births) row.now).kind)) }
 {
     match row.wait.kind {
         WaitKind::Request => {
@@ -170,35 +196,33 @@ fn put_awaited(into: &mut Vec<u8>, world: &World, row: &WaitRow) -> Result<(), O
 
 fn put_wait(into: &mut Vec<u8>, world: &World, row: &WaitRow) -> Result<(), OutOfMemory>
     requires { all_pass wait_refs (object_stands world.now.births) row.now ≡ true }
-    ensures { Puts into.old.items into.new.items
+    ensures ok { Puts into.old.items into.new.items
         (wait_row (shown_wait (birth_of world.now.births) row.now)) result }
+    ensures err { OnErr result (BeginsWith into.new.items into.old.items) }
+    ensures capacity { vec_capacity into.old ≤ vec_capacity into.new }
+    ensures wanting { OnErr result (LacksRoom into.old
+        (wait_row (shown_wait (birth_of world.now.births) row.now))) }
 {
-    put(into, b"\"wait ")?;
-    put_decimal(into, row.thread)?;
-    put(into, b".")?;
-    put_decimal(into, row.wait.identifier)?;
-    put(into, b"\",\"process\":")?;
-    put_decimal(into, row.wait.process)?;
-    put(into, b",\"thread\":")?;
-    put_decimal(into, row.thread)?;
+    put_decimal_under(into, b"\"wait ", row.thread)?;
+    put_decimal_under(into, b".", row.wait.identifier)?;
+    put_decimal_under(into, b"\",\"process\":", row.wait.process)?;
+    put_decimal_under(into, b",\"thread\":", row.thread)?;
     put(into, b",\"call\":\"")?;
     put(into, call_of(row.wait.kind).name())?;
-    put(into, b"\",\"port\":")?;
-    put_name_of(into, world, Object::Port(row.wait.port))?;
-    put(into, b",\"queue\":")?;
-    put_name_of(into, world, Object::Port(row.wait.queue))?;
-    put(into, b",\"identifier\":")?;
-    put_decimal(into, row.wait.identifier)?;
-    put(into, b",\"received\":")?;
-    put_flag(into, row.wait.received)?;
+    put_name_of_under(into, b"\",\"port\":", world, Object::Port(row.wait.port))?;
+    put_name_of_under(into, b",\"queue\":", world, Object::Port(row.wait.queue))?;
+    put_decimal_under(into, b",\"identifier\":", row.wait.identifier)?;
+    put_flag_under(into, b",\"received\":", row.wait.received)?;
     put_awaited(into, world, row)?;
     put(into, b"\n")
 }
 
 /// The waits, a line each.
 pub(crate) fn put_waits(into: &mut Vec<u8>, world: &World) -> Result<(), OutOfMemory>
-    ensures { Puts into.old.items into.new.items
-        (lines wait_row world.now.rows.waits) result }
+    ensures ok { Puts into.old.items into.new.items (lines wait_row world.now.rows.waits) result }
+    ensures err { OnErr result (BeginsWith into.new.items into.old.items) }
+    ensures capacity { vec_capacity into.old ≤ vec_capacity into.new }
+    ensures wanting { OnErr result (LacksRoom into.old (lines wait_row world.now.rows.waits)) }
 {
     let rows = world.waits().rows();
     for row in rows {
@@ -208,19 +232,22 @@ pub(crate) fn put_waits(into: &mut Vec<u8>, world: &World) -> Result<(), OutOfMe
 }
 
 fn put_mark(into: &mut Vec<u8>, tid: u32) -> Result<(), OutOfMemory>
-    ensures { Puts into.old.items into.new.items (mark_row tid) result }
+    ensures ok { Puts into.old.items into.new.items (mark_row tid) result }
+    ensures err { OnErr result (BeginsWith into.new.items into.old.items) }
+    ensures capacity { vec_capacity into.old ≤ vec_capacity into.new }
+    ensures wanting { OnErr result (LacksRoom into.old (mark_row tid)) }
 {
-    put(into, b"\"mark ")?;
-    put_decimal(into, tid)?;
-    put(into, b"\",\"thread\":")?;
-    put_decimal(into, tid)?;
+    put_decimal_under(into, b"\"mark ", tid)?;
+    put_decimal_under(into, b"\",\"thread\":", tid)?;
     put(into, b"\n")
 }
 
 /// The marks, a line each.
 pub(crate) fn put_marks(into: &mut Vec<u8>, world: &World) -> Result<(), OutOfMemory>
-    ensures { Puts into.old.items into.new.items
-        (lines mark_row world.now.rows.marks) result }
+    ensures ok { Puts into.old.items into.new.items (lines mark_row world.now.rows.marks) result }
+    ensures err { OnErr result (BeginsWith into.new.items into.old.items) }
+    ensures capacity { vec_capacity into.old ≤ vec_capacity into.new }
+    ensures wanting { OnErr result (LacksRoom into.old (lines mark_row world.now.rows.marks)) }
 {
     let marks = world.marks();
     for tid in marks {

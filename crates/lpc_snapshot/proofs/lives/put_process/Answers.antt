@@ -1,24 +1,105 @@
+use Rattle.std.proofs.Common.{ap, vec_capacity}
+use Rattle.lpc_rows.specs.Shown.{shown_process}
 use Rattle.lpc_states.specs.Values.{or_null, port_text}
 use Rattle.lpc_states.specs.Rows.{process_row}
-use Rattle.lpc_states.proofs.Puts.{puts_last, puts_more}
-use Rattle.lpc_snapshot.proofs.Pieces.{same_piece}
+use Rattle.lpc_states.proofs.Puts.{IsPut, as_two, put_last, put_more, put_stops, second_same}
 use Rattle.lpc_snapshot.proofs.lives.put_process.Goals as goal
+
+pub returns-in_err-put_object : goal.returns-in_err-put_object
+unfolding process_row
+returns-in_err-put_object c =
+    let all : IsPut c.args.into.now.items (vec_capacity c.args.into.now) c.put_object.new.into.items (vec_capacity c.put_object.new.into) (process_row c.args.world.now.rows (shown_process c.args.process.now)) c.from_residual.result =
+    put_stops _ _ _ c.from_residual.ensures.0 c.in_err-put_object.ensures.err c.in_err-put_object.ensures.capacity c.in_err-put_object.ensures.wanting in
+    record { ok = all.ok; err = all.err; capacity = all.capacity; wanting = all.wanting }
+
+pub returns-in_err-put_decimal_under : goal.returns-in_err-put_decimal_under
+unfolding process_row
+returns-in_err-put_decimal_under c =
+    let all : IsPut c.args.into.now.items (vec_capacity c.args.into.now) c.put_decimal_under.new.into.items (vec_capacity c.put_decimal_under.new.into) (process_row c.args.world.now.rows (shown_process c.args.process.now)) c.from_residual-in_err-put_decimal_under.result =
+    put_more _ _ c.in_ok-put_object.ensures.ok c.in_ok-put_object.ensures.capacity
+    (as_two _ _ _ (put_stops _ _ _ c.from_residual-in_err-put_decimal_under.ensures.0 c.in_err-put_decimal_under.ensures.err c.in_err-put_decimal_under.ensures.capacity c.in_err-put_decimal_under.ensures.wanting)) in
+    record { ok = all.ok; err = all.err; capacity = all.capacity; wanting = all.wanting }
+
+pub returns-in_err-put_number_or_null_under : goal.returns-in_err-put_number_or_null_under
+unfolding process_row
+returns-in_err-put_number_or_null_under c =
+    let all : IsPut c.args.into.now.items (vec_capacity c.args.into.now) c.put_number_or_null_under.new.into.items (vec_capacity c.put_number_or_null_under.new.into) (process_row c.args.world.now.rows (shown_process c.args.process.now)) c.from_residual-in_err-put_number_or_null_under.result =
+    put_more _ _ c.in_ok-put_object.ensures.ok c.in_ok-put_object.ensures.capacity
+    (as_two _ _ _ (put_more _ _ c.in_ok-put_decimal_under.ensures.ok c.in_ok-put_decimal_under.ensures.capacity
+    (as_two _ _ _ (put_stops _ _ _ c.from_residual-in_err-put_number_or_null_under.ensures.0 c.in_err-put_number_or_null_under.ensures.err c.in_err-put_number_or_null_under.ensures.capacity c.in_err-put_number_or_null_under.ensures.wanting)))) in
+    record { ok = all.ok; err = all.err; capacity = all.capacity; wanting = all.wanting }
+
+pub returns-in_err-put_token_under : goal.returns-in_err-put_token_under
+unfolding process_row
+returns-in_err-put_token_under c =
+    let all : IsPut c.args.into.now.items (vec_capacity c.args.into.now) c.put_token_under.new.into.items (vec_capacity c.put_token_under.new.into) (process_row c.args.world.now.rows (shown_process c.args.process.now)) c.from_residual-in_err-put_token_under.result =
+    put_more _ _ c.in_ok-put_object.ensures.ok c.in_ok-put_object.ensures.capacity
+    (as_two _ _ _ (put_more _ _ c.in_ok-put_decimal_under.ensures.ok c.in_ok-put_decimal_under.ensures.capacity
+    (as_two _ _ _ (put_more _ _ c.in_ok-put_number_or_null_under.ensures.ok c.in_ok-put_number_or_null_under.ensures.capacity
+    (as_two _ _ _ (put_stops _ _ _ c.from_residual-in_err-put_token_under.ensures.0 c.in_err-put_token_under.ensures.err c.in_err-put_token_under.ensures.capacity c.in_err-put_token_under.ensures.wanting)))))) in
+    record { ok = all.ok; err = all.err; capacity = all.capacity; wanting = all.wanting }
+
+pub returns-in_err-put_port_or_null_under : goal.returns-in_err-put_port_or_null_under
+unfolding process_row
+returns-in_err-put_port_or_null_under c =
+    let all : IsPut c.args.into.now.items (vec_capacity c.args.into.now) c.put_port_or_null_under.new.into.items (vec_capacity c.put_port_or_null_under.new.into) (process_row c.args.world.now.rows (shown_process c.args.process.now)) c.from_residual-in_err-put_port_or_null_under.result =
+    put_more _ _ c.in_ok-put_object.ensures.ok c.in_ok-put_object.ensures.capacity
+    (as_two _ _ _ (put_more _ _ c.in_ok-put_decimal_under.ensures.ok c.in_ok-put_decimal_under.ensures.capacity
+    (as_two _ _ _ (put_more _ _ c.in_ok-put_number_or_null_under.ensures.ok c.in_ok-put_number_or_null_under.ensures.capacity
+    (as_two _ _ _ (put_more _ _ c.in_ok-put_token_under.ensures.ok c.in_ok-put_token_under.ensures.capacity
+    (second_same _ _ _ _ (ap (or_null port_text) c.event_port.ensures) (as_two _ _ _ (put_stops _ _ _ c.from_residual-in_err-put_port_or_null_under.ensures.0 c.in_err-put_port_or_null_under.ensures.err c.in_err-put_port_or_null_under.ensures.capacity c.in_err-put_port_or_null_under.ensures.wanting))))))))) in
+    record { ok = all.ok; err = all.err; capacity = all.capacity; wanting = all.wanting }
+
+pub returns-in_err-put_port_or_null_under-2 : goal.returns-in_err-put_port_or_null_under-2
+unfolding process_row
+returns-in_err-put_port_or_null_under-2 c =
+    let all : IsPut c.args.into.now.items (vec_capacity c.args.into.now) c.put_port_or_null_under-2.new.into.items (vec_capacity c.put_port_or_null_under-2.new.into) (process_row c.args.world.now.rows (shown_process c.args.process.now)) c.from_residual-in_err-put_port_or_null_under-2.result =
+    put_more _ _ c.in_ok-put_object.ensures.ok c.in_ok-put_object.ensures.capacity
+    (as_two _ _ _ (put_more _ _ c.in_ok-put_decimal_under.ensures.ok c.in_ok-put_decimal_under.ensures.capacity
+    (as_two _ _ _ (put_more _ _ c.in_ok-put_number_or_null_under.ensures.ok c.in_ok-put_number_or_null_under.ensures.capacity
+    (as_two _ _ _ (put_more _ _ c.in_ok-put_token_under.ensures.ok c.in_ok-put_token_under.ensures.capacity
+    (second_same _ _ _ _ (ap (or_null port_text) c.event_port.ensures) (as_two _ _ _ (put_more _ _ c.in_ok-put_port_or_null_under.ensures.ok c.in_ok-put_port_or_null_under.ensures.capacity
+    (second_same _ _ _ _ (ap (or_null port_text) c.event_port-2.ensures) (as_two _ _ _ (put_stops _ _ _ c.from_residual-in_err-put_port_or_null_under-2.ensures.0 c.in_err-put_port_or_null_under-2.ensures.err c.in_err-put_port_or_null_under-2.ensures.capacity c.in_err-put_port_or_null_under-2.ensures.wanting)))))))))))) in
+    record { ok = all.ok; err = all.err; capacity = all.capacity; wanting = all.wanting }
+
+pub returns-in_err-put_hex_or_null_under : goal.returns-in_err-put_hex_or_null_under
+unfolding process_row
+returns-in_err-put_hex_or_null_under c =
+    let all : IsPut c.args.into.now.items (vec_capacity c.args.into.now) c.put_hex_or_null_under.new.into.items (vec_capacity c.put_hex_or_null_under.new.into) (process_row c.args.world.now.rows (shown_process c.args.process.now)) c.from_residual-in_err-put_hex_or_null_under.result =
+    put_more _ _ c.in_ok-put_object.ensures.ok c.in_ok-put_object.ensures.capacity
+    (as_two _ _ _ (put_more _ _ c.in_ok-put_decimal_under.ensures.ok c.in_ok-put_decimal_under.ensures.capacity
+    (as_two _ _ _ (put_more _ _ c.in_ok-put_number_or_null_under.ensures.ok c.in_ok-put_number_or_null_under.ensures.capacity
+    (as_two _ _ _ (put_more _ _ c.in_ok-put_token_under.ensures.ok c.in_ok-put_token_under.ensures.capacity
+    (second_same _ _ _ _ (ap (or_null port_text) c.event_port.ensures) (as_two _ _ _ (put_more _ _ c.in_ok-put_port_or_null_under.ensures.ok c.in_ok-put_port_or_null_under.ensures.capacity
+    (second_same _ _ _ _ (ap (or_null port_text) c.event_port-2.ensures) (as_two _ _ _ (put_more _ _ c.in_ok-put_port_or_null_under-2.ensures.ok c.in_ok-put_port_or_null_under-2.ensures.capacity
+    (as_two _ _ _ (put_stops _ _ _ c.from_residual-in_err-put_hex_or_null_under.ensures.0 c.in_err-put_hex_or_null_under.ensures.err c.in_err-put_hex_or_null_under.ensures.capacity c.in_err-put_hex_or_null_under.ensures.wanting)))))))))))))) in
+    record { ok = all.ok; err = all.err; capacity = all.capacity; wanting = all.wanting }
+
+pub returns-in_err-put_counts : goal.returns-in_err-put_counts
+unfolding process_row
+returns-in_err-put_counts c =
+    let all : IsPut c.args.into.now.items (vec_capacity c.args.into.now) c.put_counts.new.into.items (vec_capacity c.put_counts.new.into) (process_row c.args.world.now.rows (shown_process c.args.process.now)) c.from_residual-in_err-put_counts.result =
+    put_more _ _ c.in_ok-put_object.ensures.ok c.in_ok-put_object.ensures.capacity
+    (as_two _ _ _ (put_more _ _ c.in_ok-put_decimal_under.ensures.ok c.in_ok-put_decimal_under.ensures.capacity
+    (as_two _ _ _ (put_more _ _ c.in_ok-put_number_or_null_under.ensures.ok c.in_ok-put_number_or_null_under.ensures.capacity
+    (as_two _ _ _ (put_more _ _ c.in_ok-put_token_under.ensures.ok c.in_ok-put_token_under.ensures.capacity
+    (second_same _ _ _ _ (ap (or_null port_text) c.event_port.ensures) (as_two _ _ _ (put_more _ _ c.in_ok-put_port_or_null_under.ensures.ok c.in_ok-put_port_or_null_under.ensures.capacity
+    (second_same _ _ _ _ (ap (or_null port_text) c.event_port-2.ensures) (as_two _ _ _ (put_more _ _ c.in_ok-put_port_or_null_under-2.ensures.ok c.in_ok-put_port_or_null_under-2.ensures.capacity
+    (as_two _ _ _ (put_more _ _ c.in_ok-put_hex_or_null_under.ensures.ok c.in_ok-put_hex_or_null_under.ensures.capacity
+    (put_stops _ _ _ c.from_residual-in_err-put_counts.ensures.0 c.in_err-put_counts.ensures.err c.in_err-put_counts.ensures.capacity c.in_err-put_counts.ensures.wanting))))))))))))))) in
+    record { ok = all.ok; err = all.err; capacity = all.capacity; wanting = all.wanting }
 
 pub returns : goal.returns
 unfolding process_row
 returns c =
-    puts_more _ _ _ _ _ _ c.in_ok-put_object.ensures
-    (puts_more _ _ _ _ _ _ c.in_ok-put.ensures.ok
-    (puts_more _ _ _ _ _ _ c.in_ok-put_decimal.ensures
-    (puts_more _ _ _ _ _ _ c.in_ok-put-2.ensures.ok
-    (puts_more _ _ _ _ _ _ c.in_ok-put_number_or_null.ensures
-    (puts_more _ _ _ _ _ _ c.in_ok-put-3.ensures.ok
-    (puts_more _ _ _ _ _ _ c.in_ok-put_token.ensures
-    (puts_more _ _ _ _ _ _ c.in_ok-put-4.ensures.ok
-    (puts_more _ _ _ _ _ _ (same_piece (or_null port_text) _ _ _ _ c.in_ok-put_port_or_null.ensures c.event_port.ensures)
-    (puts_more _ _ _ _ _ _ c.in_ok-put-5.ensures.ok
-    (puts_more _ _ _ _ _ _ (same_piece (or_null port_text) _ _ _ _ c.in_ok-put_port_or_null-2.ensures c.event_port-2.ensures)
-    (puts_more _ _ _ _ _ _ c.in_ok-put-6.ensures.ok
-    (puts_more _ _ _ _ _ _ c.in_ok-put_hex_or_null.ensures
-    (puts_more _ _ _ _ _ _ c.in_ok-put_counts.ensures
-    (puts_last _ _ _ _ c.put-7.ensures.ok))))))))))))))
+    let all : IsPut c.args.into.now.items (vec_capacity c.args.into.now) c.put.new.into.items (vec_capacity c.put.new.into) (process_row c.args.world.now.rows (shown_process c.args.process.now)) c.put.result =
+    put_more _ _ c.in_ok-put_object.ensures.ok c.in_ok-put_object.ensures.capacity
+    (as_two _ _ _ (put_more _ _ c.in_ok-put_decimal_under.ensures.ok c.in_ok-put_decimal_under.ensures.capacity
+    (as_two _ _ _ (put_more _ _ c.in_ok-put_number_or_null_under.ensures.ok c.in_ok-put_number_or_null_under.ensures.capacity
+    (as_two _ _ _ (put_more _ _ c.in_ok-put_token_under.ensures.ok c.in_ok-put_token_under.ensures.capacity
+    (second_same _ _ _ _ (ap (or_null port_text) c.event_port.ensures) (as_two _ _ _ (put_more _ _ c.in_ok-put_port_or_null_under.ensures.ok c.in_ok-put_port_or_null_under.ensures.capacity
+    (second_same _ _ _ _ (ap (or_null port_text) c.event_port-2.ensures) (as_two _ _ _ (put_more _ _ c.in_ok-put_port_or_null_under-2.ensures.ok c.in_ok-put_port_or_null_under-2.ensures.capacity
+    (as_two _ _ _ (put_more _ _ c.in_ok-put_hex_or_null_under.ensures.ok c.in_ok-put_hex_or_null_under.ensures.capacity
+    (put_more _ _ c.in_ok-put_counts.ensures.ok c.in_ok-put_counts.ensures.capacity
+    (put_last _ c.put.ensures.ok c.put.ensures.err c.put.ensures.capacity c.put.ensures.wanting)))))))))))))))) in
+    record { ok = all.ok; err = all.err; capacity = all.capacity; wanting = all.wanting }

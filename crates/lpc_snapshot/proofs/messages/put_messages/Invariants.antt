@@ -1,8 +1,9 @@
-use Rattle.std.proofs.Common.{◌≡◌, ◌++◌, take}
+use Rattle.std.proofs.Common.{◌≡◌, ◌≤◌, ◌++◌, take, vec_capacity}
 use Rattle.lpc_states.specs.Rows.{lines, message_row}
 use Rattle.lpc_snapshot.proofs.messages.put_messages.Given as goal
 
 abbrev pub invariant-loop-place : goal.invariant-loop-place
 invariant-loop-place l = record {
   text : l.into.items ≡ l.initial.into.items ++ lines message_row (take l.place l.world.rows.messages);
+  room : vec_capacity l.initial.into ≤ vec_capacity l.into;
 }

@@ -1,8 +1,18 @@
+use Rattle.std.proofs.Common.{arith}
 use Rattle.lpc_states.specs.Rows.{token_name_row}
-use Rattle.lpc_snapshot.proofs.Loops.{more_text}
+use Rattle.lpc_states.proofs.Puts.{begins_more}
+use Rattle.lpc_snapshot.proofs.Loops.{lacks_row, more_text}
 use Rattle.lpc_snapshot.proofs.tokens.put_token_names.Goals as goal
 
 pub loop-place-preserved : goal.loop-place-preserved
 loop-place-preserved c = record {
-  text = more_text token_name_row c.args.world.now.rows.token_names c.loop-place.place _ _ _ _ c.token_name_at.ensures c.loop-place.invariant.text c.in_ok-put_token_name.ensures;
+  text = more_text token_name_row c.args.world.now.rows.token_names c.loop-place.place _ _ _ _ c.token_name_at.ensures c.loop-place.invariant.text c.in_ok-put_token_name.ensures.ok;
+  room = omega (arith, c.loop-place.invariant.room, c.in_ok-put_token_name.ensures.capacity);
 }
+
+pub returns-in_err-put_token_name-clause-err : goal.returns-in_err-put_token_name-clause-err
+returns-in_err-put_token_name-clause-err c = begins_more _ _ _ _ _ c.loop-place.invariant.text c.in_err-put_token_name.ensures.err
+
+pub returns-in_err-put_token_name-clause-wanting : goal.returns-in_err-put_token_name-clause-wanting
+returns-in_err-put_token_name-clause-wanting c =
+    lacks_row token_name_row c.args.world.now.rows.token_names c.loop-place.place _ _ _ _ _ _ c.token_name_at.ensures c.loop-place.invariant.text c.loop-place.invariant.room c.in_err-put_token_name.ensures.wanting

@@ -1,8 +1,9 @@
-use Rattle.std.proofs.Common.{◌≡◌, ◌++◌, take}
+use Rattle.std.proofs.Common.{◌≡◌, ◌≤◌, ◌++◌, take, vec_capacity}
 use Rattle.lpc_states.specs.Rows.{lines, token_row}
 use Rattle.lpc_snapshot.proofs.tokens.put_tokens.Given as goal
 
 abbrev pub invariant-loop-place : goal.invariant-loop-place
 invariant-loop-place l = record {
   text : l.into.items ≡ l.initial.into.items ++ lines (token_row l.world.rows) (take l.place l.world.rows.tokens);
+  room : vec_capacity l.initial.into ≤ vec_capacity l.into;
 }
