@@ -134,7 +134,7 @@ fn serve(
         handle_places world.new.capacity pid ≤ grown_handles world.old pid 2 }
 {
     match call {
-        Call::CreatePort { name, dacl } => nt_create_port(world, by, *name, dacl.as_ref(), out),
+        Call::CreatePort { name, dacl } => nt_create_port(world, by, *name, *dacl, out),
         Call::ConnectPort {
             name,
             quality,

@@ -65,9 +65,9 @@ pub data ScriptLine : Type 0 where
   of_resident : ℕ → ResidentLine → Bool → ScriptLine
   run : ℕ → ScriptCall → ScriptLine
 
--- a call without the bytes that it is lent
+-- a call without what it is lent
 abbrev pub call_of : Call → ScriptCall
-call_of (call.CreatePort name dacl) = create_port (option_copied name) dacl
+call_of (call.CreatePort name dacl) = create_port (option_copied name) (option_copied dacl)
 call_of (call.ConnectPort name quality view info) = connect_port name.now quality view info.now
 call_of (call.ListenPort handle) = listen_port handle
 call_of (call.AcceptConnectPort context message accept view) = accept_connect_port context message.now accept view
@@ -102,7 +102,7 @@ call_of (call.Raise code handled) = raise code handled
 abbrev pub line_of : Line → ScriptLine
 line_of (line.Boot pid tid name) = boot pid tid (option_copied name)
 line_of (line.Thread tid pid) = thread tid pid
-line_of (line.Token name content) = token name.now content
+line_of (line.Token name content) = token name.now content.now
 line_of (line.Dir path) = dir path.now
 line_of (line.Link path target) = link path.now target.now
 line_of (line.Resident tid kind handle) = of_resident tid (hosts kind handle) false

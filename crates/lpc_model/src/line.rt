@@ -1,5 +1,5 @@
-// A line of a script. Its messages, and what it writes, lie in a buffer that is lent, its names in the line itself; access
-// lists and tokens stand in it by value.
+// A line of a script. Its messages, what it writes, its access list and its token lie in room that is lent, its names in the
+// line itself, so that a line is small and cheap to hand on.
 use lpc_sid::{Dacl, Token};
 use lpc_tokens::Qos;
 
@@ -34,7 +34,7 @@ pub enum Call<'a> {
     /// list grants it, if one is given; or an unnamed port where the word is `-`.
     CreatePort {
         name: Option<&'a [u8]>,
-        dacl: Option<Dacl>,
+        dacl: Option<&'a Dacl>,
     },
     /// `NtConnectPort NAME QOS VIEW INFO`: asks the connection port of a name for a connection, with the bytes of INFO,
     /// none where the word is `-`, offers a view, none where VIEW is `-`, and waits until the server completes or refuses
@@ -221,7 +221,7 @@ pub enum Line<'a> {
     /// `token NAME USER [GROUP] ..`: gives a token a name.
     Token {
         name: &'a [u8],
-        token: Token,
+        token: &'a Token,
     },
     /// `dir PATH`: makes a directory of the name space.
     Dir(&'a [u8]),

@@ -6,6 +6,7 @@ ghost use Rattle.lpc_model.specs.Grammar as grammar;
 ghost use Rattle.lpc_script.specs.Entries.{entry_word, is_read, seen_form};
 ghost use Rattle.lpc_words.specs.Gives.{Gives};
 
+use crate::scratch::Scratch;
 use crate::tokens::sid;
 use arrayvec::ArrayVec;
 use lpc_model::LineFault;
@@ -114,13 +115,16 @@ fn dacl(word: &[u8]) -> Result<Dacl, LineFault>
 }
 
 /// An access list, where a word is given for it.
-pub(crate) fn given_dacl(word: Option<&[u8]>) -> Result<Option<Dacl>, LineFault>
-    ensures { Gives (λ dacl. dacl) result (grammar.given_dacl (option_copied word.entry)) }
+pub(crate) fn given_dacl<'a>(
+    word: Option<&[u8]>,
+    scratch: &'a mut Scratch,
+) -> Result<Option<&'a Dacl>, LineFault>
+    ensures { Gives option_copied result (grammar.given_dacl (option_copied word.entry)) }
 {
     match word {
         Some(word) => {
             let dacl = dacl(word)?;
-            Ok(Some(dacl))
+            Ok(Some(scratch.hold_dacl(dacl)))
         }
         None => Ok(None),
     }

@@ -249,12 +249,12 @@ fn handle_and_reply<'a>(
 }
 
 #[tactic(auto, unfolding(lpc_model::specs::Grammar::call_words))]
-fn create_port(text: &[u8]) -> Result<Call<'_>, LineFault>
+fn create_port<'a>(text: &'a [u8], scratch: &'a mut Scratch) -> Result<Call<'a>, LineFault>
     ensures value { Gives call_of result (call_words NtCreatePort (words text.now)) }
     ensures ids { IfOk result (λ call. IsTrue (has_call_ids (call_of call))) }
 {
     let (word, dacl) = one_or_two_words(text)?;
-    let dacl = given_dacl(dacl)?;
+    let dacl = given_dacl(dacl, scratch)?;
     if word == b"-".as_slice() {
         return Ok(Call::CreatePort { name: None, dacl });
     }
@@ -486,7 +486,7 @@ fn call<'a>(name: CallName, text: &'a [u8], scratch: &'a mut Scratch) -> Result<
     ensures ids { IfOk result (λ call. IsTrue (has_call_ids (call_of call))) }
 {
     match name {
-        CallName::NtCreatePort => create_port(text),
+        CallName::NtCreatePort => create_port(text, scratch),
         CallName::NtConnectPort => connect_port(text, scratch),
         CallName::NtListenPort => {
             let handle = one_handle(text)?;
@@ -577,11 +577,12 @@ fn thread(text: &[u8]) -> Result<Line<'_>, LineFault>
 
 /// A token and its name.
 #[tactic(auto, unfolding(lpc_model::specs::Grammar::directive_words))]
-fn token(text: &[u8]) -> Result<Line<'_>, LineFault>
+fn token<'a>(text: &'a [u8], scratch: &'a mut Scratch) -> Result<Line<'a>, LineFault>
     ensures value { Gives line_of result (directive_words Token (words text.now)) }
     ensures ids { IfOk result (λ line. IsTrue (has_ids (line_of line))) }
 {
     let (name, token) = token_words(text)?;
+    let token = scratch.hold_token(token);
     Ok(Line::Token { name, token })
 }
 
@@ -611,14 +612,18 @@ fn resident(text: &[u8]) -> Result<Line<'_>, LineFault>
 
 /// A directive by the words behind it.
 #[tactic(auto, unfolding(lpc_model::specs::Grammar::directive_words))]
-fn directive(word: Word, text: &[u8]) -> Result<Line<'_>, LineFault>
+fn directive<'a>(
+    word: Word,
+    text: &'a [u8],
+    scratch: &'a mut Scratch,
+) -> Result<Line<'a>, LineFault>
     ensures value { Gives line_of result (directive_words word (words text.now)) }
     ensures ids { IfOk result (λ line. IsTrue (has_ids (line_of line))) }
 {
     match word {
         Word::Boot => boot(text),
         Word::Thread => thread(text),
-        Word::Token => token(text),
+        Word::Token => token(text, scratch),
         Word::Dir => {
             let path = one_word(text)?;
             Ok(Line::Dir(path))
@@ -658,12 +663,16 @@ fn call_line<'a>(
 
 /// The directive whose word the front is.
 #[tactic(auto, unfolding(lpc_model::specs::Grammar::directive_line))]
-fn directive_line<'a>(front: &[u8], text: &'a [u8]) -> Result<Line<'a>, LineFault>
+fn directive_line<'a>(
+    front: &[u8],
+    text: &'a [u8],
+    scratch: &'a mut Scratch,
+) -> Result<Line<'a>, LineFault>
     ensures value { Gives line_of result (grammar.directive_line front.now (words text.now)) }
     ensures ids { IfOk result (λ line. IsTrue (has_ids (line_of line))) }
 {
     let word = directive_name(front).ok_or(LineFault::Word)?;
-    directive(word, text)
+    directive(word, text, scratch)
 }
 
 fn starts_call(word: &[u8]) -> bool
@@ -699,17 +708,17 @@ fn words_line<'a>(text: &'a [u8], scratch: &'a mut Scratch) -> Result<Option<Lin
         let line = call_line(front, rest, scratch)?;
         return Ok(Some(line));
     }
-    let line = directive_line(front, rest)?;
+    let line = directive_line(front, rest, scratch)?;
     Ok(Some(line))
 }
 
 /// What a line says, none where it is a comment or has no word, or its first fault.
 ///
-/// The line is given without the byte 10 that ends it. Its messages, and what it writes, lie in the
-/// scratch, its names and paths in the line itself. A byte past the 16,384th is found before all
-/// else (`Long`), then a byte outside 32 to 126 (`Byte`), then the faults of the words from left to
-/// right: the first word, the call's name, the count of words and the words themselves. The grammar
-/// and the order of the faults are this project's own.
+/// The line is given without the byte 10 that ends it. Its messages, what it writes, its access list
+/// and its token lie in the scratch, its names and paths in the line itself. A byte past the
+/// 16,384th is found before all else (`Long`), then a byte outside 32 to 126 (`Byte`), then the
+/// faults of the words from left to right: the first word, the call's name, the count of words and
+/// the words themselves. The grammar and the order of the faults are this project's own.
 #[tactic(auto, unfolding(lpc_model::specs::Grammar::read_line))]
 pub fn read_line<'a>(
     bytes: &'a [u8],

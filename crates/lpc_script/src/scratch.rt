@@ -10,16 +10,19 @@ use lpc_base::OutOfMemory;
 use lpc_base::limits::{HEADER_SIZE, LINE_LIMIT};
 use lpc_message::{ClientId, Header, write_header};
 use lpc_model::LineFault;
+use lpc_sid::{Dacl, Token};
 use lpc_words::{number, split_once, three_parts};
 use std::alloc::Global;
 use std::marker::Model;
 
-/// Room for the bytes that the hexadecimal words of a line stand for.
+/// Room for the bytes that the hexadecimal words of a line stand for, for its access list, and for its token.
 ///
 /// It is made once and lent to each line in turn.
 #[derive(Drop)]
 pub struct Scratch {
     room: Vec<u8>,
+    dacl: Dacl,
+    token: Token,
 }
 
 impl Model for Scratch {
@@ -34,7 +37,7 @@ impl Model for Scratch {
 }
 
 impl Scratch {
-    /// Room for 16,384 bytes.
+    /// Room for 16,384 bytes, an access list and a token.
     ///
     /// OutOfMemory comes where memory for it is wanting; no clause tells more of when it does.
     pub fn new(alloc: Global) -> Result<Scratch, OutOfMemory>
@@ -43,7 +46,11 @@ impl Scratch {
         let Ok(room) = vec![in alloc; 0u8; LINE_LIMIT] else {
             return Err(OutOfMemory);
         };
-        Ok(Scratch { room })
+        Ok(Scratch {
+            room,
+            dacl: Dacl::default(),
+            token: Token::default(),
+        })
     }
 
     /// The message that a word spells.
@@ -103,6 +110,22 @@ impl Scratch {
     {
         let end = fill(&mut self.room, &[], word)?;
         Ok(&self.room[..end])
+    }
+
+    /// Holds an access list for a line, and lends it.
+    pub(crate) fn hold_dacl(&mut self, dacl: Dacl) -> &Dacl
+        ensures { result.now ≡ dacl }
+    {
+        self.dacl = dacl;
+        &self.dacl
+    }
+
+    /// Holds a token for a line, and lends it.
+    pub(crate) fn hold_token(&mut self, token: Token) -> &Token
+        ensures { result.now ≡ token }
+    {
+        self.token = token;
+        &self.token
     }
 }
 

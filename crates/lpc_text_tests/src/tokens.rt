@@ -58,7 +58,7 @@ const NO_SIDS: &[u8] = b"token A S-1-5\n\
     token A S-1-5-18 S-1-1-0 S-1-1";
 
 // The name and the token of a line.
-fn named<'a>(rt: &impl Abort, scratch: &'a mut Scratch, line: &'a [u8]) -> (&'a [u8], Token) {
+fn named<'a>(rt: &impl Abort, scratch: &'a mut Scratch, line: &'a [u8]) -> (&'a [u8], &'a Token) {
     match read_line(line, scratch) {
         Ok(Some(Line::Token { name, token })) => (name, token),
         _ => panic!(rt; "no token"),
@@ -140,7 +140,7 @@ fn has_faults_of_lists(rt: &impl Abort, scratch: &mut Scratch) {
 }
 
 // The access list of the port that a line makes.
-fn list_of(rt: &impl Abort, scratch: &mut Scratch, line: &[u8]) -> Option<Dacl> {
+fn list_of<'a>(rt: &impl Abort, scratch: &'a mut Scratch, line: &'a [u8]) -> Option<&'a Dacl> {
     match run_of(rt, scratch, line).1 {
         Call::CreatePort { dacl, .. } => dacl,
         _ => panic!(rt; "no port"),
@@ -148,7 +148,7 @@ fn list_of(rt: &impl Abort, scratch: &mut Scratch, line: &[u8]) -> Option<Dacl> 
 }
 
 // A list has these entries.
-fn has_entries(rt: &impl Abort, dacl: Option<Dacl>, entries: &[Ace]) {
+fn has_entries(rt: &impl Abort, dacl: Option<&Dacl>, entries: &[Ace]) {
     match dacl {
         Some(dacl) => assert!(rt; dacl.list.as_slice() == entries),
         None => assert!(rt; false, "no list"),
