@@ -1,9 +1,12 @@
 -- Some row counts for each thread and each process, behind each change as before it.
-use Rattle.std.proofs.Common.{Bool, false, List, [], ◌∷◌, ap, arith, refl, true, ℕ, ◌+◌, ◌≡◌, ◌≤◌, subst, sym, ◌∙◌, Option}
-use Rattle.std.specs.Prelude.{◌||◌, is_none, IfOk, OnErr, IfSome, Result, Ok, Err, Some, None}
-use Rattle.lpc_base.specs.Rows.{change, count, differ_by}
+use Rattle.std.proofs.Common.{Bool, false, List, [], ◌∷◌, ap, arith, not, refl, true, ℕ, ◌+◌, ◌≡◌, ◌≤◌, subst, sym, ◌∙◌, Option}
+use Rattle.std.specs.Prelude.{◌==◌, ◌&&◌, ◌||◌, is_none, IfOk, OnErr, IfSome, Result, Ok, Err, Some, None}
+use Rattle.lpc_base.specs.Rows.{change, count, differ_by, every, has, without}
 use Rattle.lpc_base.specs.Places.{least_handle}
+use Rattle.lpc_base.proofs.Births.{birth-same, birth-self, birth-turned}
+use Rattle.lpc_base.proofs.Bools.{first-true, second-true}
 use Rattle.lpc_base.proofs.Differ.{one-row}
+use Rattle.lpc_base.proofs.RowWords.{count-has, count-without, every-push, every-without, has-push}
 use Rattle.lpc_handles.specs.Handles.{values}
 use Rattle.lpc_handles.specs.declared.table.Row.{Row}
 use Rattle.lpc_handles.specs.declared.table.TableFault.{TableFault}
@@ -11,20 +14,23 @@ use Rattle.lpc_homes.specs.Parts.{handed, is_part, rows_at}
 use Rattle.lpc_homes.specs.declared.object.Object.{Object}
 use Rattle.lpc_homes.specs.declared.parts.Part.{Part}
 use Rattle.lpc_model.specs.World as model
-use Rattle.lpc_model.specs.World.{Birth, HandleRow, HandleTable, ObjectName, World}
-use Rattle.lpc_model.specs.Found.{free_handle, handle_at, is_table, process_name, same_object, thread_name}
-use Rattle.lpc_model.specs.Basics.{AddsHandle, Basic, DropsHandle, Maps, Writes, basic}
+use Rattle.lpc_model.specs.World.{Birth, HandleRow, HandleTable, ObjectName, ProcessRow, ThreadRow, World}
+use Rattle.lpc_model.specs.Found.{free_handle, handle_at, handle_count, is_born_process, is_born_thread, is_life, is_table, lives_by, process_name, same_birth, same_object, thread_name}
+use Rattle.lpc_model.specs.Basics.{AddsHandle, AddsThread, Basic, DropsHandle, Maps, Unmaps, Writes, basic}
 use Rattle.lpc_model.specs.Linked.{AreLivesHeld}
+use Rattle.lpc_model.specs.Sweep.{is_unheld}
 use Rattle.lpc_model.specs.Memory.{place_in}
 use Rattle.lpc_model.specs.Tests.{handle_row}
-use Rattle.lpc_model.proofs.Held.Steps.{keeps_lives, lives-all, lives-handle, lives-more}
+use Rattle.lpc_model.proofs.Held.Steps.{held-some, keeps_lives, lives-all, lives-handle, lives-more, push-more}
 use Rattle.lpc_slots.specs.declared.Key.{Key}
-use Rattle.lpc_rows.specs.Clauses.{written_through}
+use Rattle.lpc_rows.specs.Clauses.{unmapped_at, written_through}
+use Rattle.lpc_rows.specs.Held.{has_holders}
 use Rattle.lpc_rows.specs.Kept.{rows_by}
 use Rattle.lpc_rows.specs.Lawful.{AreLawful}
 use Rattle.lpc_rows.specs.Shown.{Tables, birth_of, births_of, name_by, shown_handle}
 use Rattle.lpc_rows.specs.Suspects.{NamesNoLife}
 use Rattle.lpc_rows.proofs.Claims.{handle-taken}
+use Rattle.lpc_rows.proofs.Counted.{zero_has}
 use Rattle.lpc_rows.proofs.Suspected.{off-table}
 use Rattle.lpc_rows.proofs.Tables as tables
 
@@ -35,6 +41,34 @@ plainly w v threads processes handles held =
     subst (λ (ts : List model.ThreadRow). AreLivesHeld (record v { threads = ts })) (sym threads)
     (subst (λ (ps : List model.ProcessRow). AreLivesHeld (record v { threads = w.threads; processes = ps })) (sym processes)
     (subst (λ (hs : List HandleTable). AreLivesHeld (record v { threads = w.threads; processes = w.processes; handles = hs })) (sym handles) same))
+
+-- rows behind a number don't fall, where the number stays
+back-more : (a b c : ℕ) → b ≤ c → a + b ≤ a + c
+back-more a b c is = omega (arith, is)
+
+back-some : (a b : ℕ) → 1 ≤ b → 1 ≤ a + b
+back-some a b is = omega (arith, is)
+
+not-less : (a b : ℕ) → b ≡ a → a ≤ b
+not-less a b is = omega (arith, is)
+
+-- rows that go pass no further test: whether one passes stays
+has-apart : {X : Type 0} (p goes : X → Bool) → ((x : X) → goes x ≡ true → p x ≡ false) → (xs : List X) → has p (without goes xs) ≡ has p xs
+has-apart p goes off [] = refl
+has-apart p goes off (x ∷ xs) = at (goes x) refl (has-apart p goes off xs)
+  where
+    at : (c : Bool) → goes x ≡ c → has p (without goes xs) ≡ has p xs → has p (without goes (x ∷ xs)) ≡ has p (x ∷ xs)
+    at true is rest = let none = off x is in grind (arith, is, none, rest)
+    at false is rest = grind (arith, is, rest)
+
+-- and of those that stay a test tells as another did
+every-apart : {X : Type 0} (p q goes : X → Bool) → ((x : X) → goes x ≡ false → q x ≡ p x) → (xs : List X) → every p xs ≡ true → every q (without goes xs) ≡ true
+every-apart p q goes same [] all = refl
+every-apart p q goes same (x ∷ xs) all = at (goes x) refl (every-apart p q goes same xs (second-true _ _ all))
+  where
+    at : (c : Bool) → goes x ≡ c → every q (without goes xs) ≡ true → every q (without goes (x ∷ xs)) ≡ true
+    at true is rest = rw (is) rest
+    at false is rest = let here = same x is ∙ first-true _ _ all in rw (is, here) rest
 
 module _ (w : World) (held : AreLivesHeld w) where
   pub same-to : (v : World) → v ≡ w → AreLivesHeld v
@@ -50,6 +84,58 @@ module _ (w : World) (held : AreLivesHeld w) where
   pub written-to : (v : World) (address : ℕ) (bytes : List ℕ) (o : Option model.ViewRow) → v ≡ written_through w address bytes o → AreLivesHeld v
   written-to v address bytes None is = same-to v is
   written-to v address bytes (Some r) is = step-to v (Writes r.section (place_in r address) bytes) is refl
+
+  pub unmapped-to : (v : World) (pid : ℕ) (o : Option model.ViewRow) → v ≡ unmapped_at w pid o → AreLivesHeld v
+  unmapped-to v pid None is = same-to v is
+  unmapped-to v pid (Some r) is = step-to v (Unmaps pid r.base) is refl
+
+  -- a live thread holds itself
+  pub thread-to : (v : World) (t : ThreadRow) → t.live ≡ true → v ≡ basic w (AddsThread t) → AreLivesHeld v
+  thread-to v t live is =
+      let after : World = basic w (AddsThread t) in
+      let more = lives-more w after (λ b. back-more (handle_count w (thread_name b)) _ _ (push-more (is_life b) w.threads t)) (λ b. back-more (handle_count w (process_name b)) _ _ (push-more (lives_by w b) w.threads t)) held in
+      let own : is_life t.birth t ≡ true = rw (live) (birth-self t.birth) in
+      let some = count-has (is_life t.birth) after.threads (has-push (is_life t.birth) w.threads t own) in
+      subst AreLivesHeld (sym is) (record {
+        threads = every-push _ w.threads t more.0 (held-some _ (back-some (handle_count after (thread_name t.birth)) _ some));
+        processes = more.1;
+      })
+
+  -- a thread that has ended counts for no thread and for no process
+  pub thread-gone-to : (v : World) (b : Birth) → has_holders w (thread_name b) ≡ false → v ≡ record w { threads = without (is_born_thread b) w.threads } → AreLivesHeld v
+  thread-gone-to v b none is =
+      let after : World = record w { threads = without (is_born_thread b) w.threads } in
+      let over : has (is_life b) w.threads ≡ false = sym (zero_has (is_life b) w.threads) ∙ none in
+      let more = lives-more w after
+      (λ c. back-more (handle_count w (thread_name c)) _ _ (not-less _ _ (count-without (is_life c) (is_born_thread b) (is_life b) (λ t is off. ended t.live (is_born_thread b t) (is_born_thread c t) is off) w.threads over)))
+      (λ c. back-more (handle_count w (process_name c)) _ _ (not-less _ _ (count-without (lives_by w c) (is_born_thread b) (is_life b) (λ t is off. ended t.live (is_born_thread b t) (has (λ (p : ProcessRow). same_birth p.birth c && (p.number == t.process)) w.processes) is off) w.threads over))) held in
+      subst AreLivesHeld (sym is) (record { threads = every-without _ (is_born_thread b) w.threads more.0; processes = more.1 })
+    where
+      ended : (l s q : Bool) → s ≡ true → (l && s) ≡ false → (l && q) ≡ false
+      ended l s q is off = grind arith
+
+  -- a process counts for nothing
+  pub process-gone-to : (v : World) (b : Birth) → v ≡ record w { processes = without (is_born_process b) w.processes } → AreLivesHeld v
+  process-gone-to v b is =
+      subst AreLivesHeld (sym is) (record {
+        threads = held.threads;
+        processes = every-apart (λ (p : ProcessRow). not (is_unheld w (process_name p.birth))) (λ (p : ProcessRow). not (is_unheld after (process_name p.birth))) (is_born_process b)
+            (λ p stays. ap (λ k. not ((handle_count w (process_name p.birth) + k) == 0)) (same p.birth stays)) w.processes held.processes;
+      })
+    where
+      after : World
+      after = record w { processes = without (is_born_process b) w.processes }
+
+      other : (c : Birth) → same_birth c b ≡ false → (p : ProcessRow) (n : ℕ) → is_born_process b p ≡ true → (same_birth p.birth c && (p.number == n)) ≡ false
+      other c off p n goes =
+          let away : same_birth p.birth c ≡ false = ap (λ d. same_birth d c) (birth-same p.birth b goes) ∙ (birth-turned b c ∙ off) in
+          rw (away) refl
+
+      home : (c : Birth) → same_birth c b ≡ false → (n : ℕ) → has (λ (p : ProcessRow). same_birth p.birth c && (p.number == n)) after.processes ≡ has (λ (p : ProcessRow). same_birth p.birth c && (p.number == n)) w.processes
+      home c off n = has-apart (λ (p : ProcessRow). same_birth p.birth c && (p.number == n)) (is_born_process b) (λ p goes. other c off p n goes) w.processes
+
+      same : (c : Birth) → same_birth c b ≡ false → count (lives_by after c) w.threads ≡ count (lives_by w c) w.threads
+      same c off = λ i. count (λ (t : ThreadRow). t.live && home c off t.process i) w.threads
 
   pub handle-to : (v : World) (pid : ℕ) (object : ObjectName) (access : ℕ) → count (is_table pid) w.handles ≤ 1 → v ≡ basic w (AddsHandle pid (handle_row (free_handle w pid) object access)) → AreLivesHeld v
   handle-to v pid object access one is = subst AreLivesHeld (sym is) (lives-handle w pid object access one held)

@@ -256,7 +256,6 @@ impl World {
         ensures capacity { self.new.capacity ≡ self.old.capacity }
     {
         self.made += 1;
-        self.lives = true;
         self.procs.add_thread(tid, pid, birth);
     }
 

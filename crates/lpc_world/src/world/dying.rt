@@ -57,7 +57,6 @@ impl World {
         self.loose = true;
         self.procs.unregister(tid, birth);
         self.suspects.add_any();
-        self.lives = true;
     }
 
     /// A live thread ends, which doesn't wait.

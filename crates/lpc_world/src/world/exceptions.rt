@@ -119,7 +119,6 @@ impl World {
         self.loose = true;
         self.procs.set_debug_port(pid, port, birth);
         self.suspects.add_any();
-        self.lives = true;
     }
 
     /// A process gets its exception port.
@@ -135,7 +134,6 @@ impl World {
         self.loose = true;
         self.procs.set_exception_port(pid, port, birth);
         self.suspects.add_any();
-        self.lives = true;
     }
 
     /// A process lets both ports go.
@@ -148,7 +146,6 @@ impl World {
         self.loose = true;
         self.procs.let_go(pid);
         self.suspects.add_any();
-        self.lives = true;
     }
 
     // Processes that are to end.

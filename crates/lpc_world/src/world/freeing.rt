@@ -136,7 +136,6 @@ impl World {
         ensures lives { GainsNoLives self.old self.new }
     {
         self.loose = true;
-        self.lives = true;
         self.procs.free_thread_born(birth);
     }
 
@@ -158,7 +157,6 @@ impl World {
         self.loose = true;
         self.procs.free_process_born(birth);
         self.suspects.add_any();
-        self.lives = true;
     }
 
     /// A port that no row names goes. Its room is spare then.

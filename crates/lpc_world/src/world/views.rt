@@ -154,7 +154,6 @@ impl World {
     {
         self.loose = true;
         self.suspects.add_any();
-        self.lives = true;
         self.parts.unmap_view(pid, address)
     }
 
@@ -168,7 +167,6 @@ impl World {
         self.loose = true;
         self.parts.drop_views(pid);
         self.suspects.add_any();
-        self.lives = true;
     }
 
     /// All views that go with a port go, of whatever process they are.

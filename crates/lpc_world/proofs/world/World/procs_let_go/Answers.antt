@@ -3,6 +3,9 @@ use Rattle.lpc_rows.specs.Shown.{tables_of}
 use Rattle.lpc_rows.proofs.Raising as raising
 use Rattle.lpc_rows.proofs.Rooms as rooms
 use Rattle.lpc_rows.proofs.Steps as steps
+use Rattle.lpc_rows.proofs.Lived as lived
+use Rattle.lpc_model.specs.Basics.{LetsGo}
+use Rattle.lpc_rows.specs.Kept.{rows_by}
 use Rattle.lpc_world.proofs.world.World.procs_let_go.Goals as goal
 
 pub let_go-requires : goal.let_go-requires
@@ -13,7 +16,7 @@ invariant_of-self c = record {
   kept =
       rw c.let_go.ensures.table (raising.let-go-lawful (tables_of c.self.inside.procs c.self.inside.parts.items c.self.inside.ports c.self.inside.waits c.self.inside.names c.self.inside.sections c.self.inside.tokens c.self.inside.token_names c.self.inside.marks) c.self.inside.calls c.self.inside.made c.self.invariant.kept c.args.pid);
   watched = rw (c.add_any.ensures) (λ calm. absurd (cc));
-  lived = λ calm. absurd (cc);
+  lived = rw (c.let_go.ensures.table) (λ calm. lived.step-to (rows_by (tables_of c.self.inside.procs c.self.inside.parts.items c.self.inside.ports c.self.inside.waits c.self.inside.names c.self.inside.sections c.self.inside.tokens c.self.inside.token_names c.self.inside.marks)) (c.self.invariant.lived calm) _ (LetsGo c.args.pid) (raising.lets-go (tables_of c.self.inside.procs c.self.inside.parts.items c.self.inside.ports c.self.inside.waits c.self.inside.names c.self.inside.sections c.self.inside.tokens c.self.inside.token_names c.self.inside.marks) c.self.inside.calls c.self.inside.made c.self.invariant.kept c.args.pid) refl);
 }
 
 pub returns-clause-step : goal.returns-clause-step

@@ -4,7 +4,8 @@ use Rattle.lpc_rows.specs.Kept.{registered_ports, rows_by}
 use Rattle.lpc_rows.specs.Shown.{tables_of}
 use Rattle.lpc_rows.proofs.Dying.{fewer-registered}
 use Rattle.lpc_rows.proofs.Enrolling as enrolling
-use Rattle.lpc_model.specs.Basics.{unregistering}
+use Rattle.lpc_model.specs.Basics.{Unregisters, unregistering}
+use Rattle.lpc_rows.proofs.Lived as lived
 use Rattle.lpc_world.proofs.world.World.procs_unregister.Goals as goal
 use Rattle.lpc_rows.proofs.Lawful.{alive-change}
 
@@ -18,7 +19,7 @@ invariant_of-self c = record {
   kept =
       rw c.unregister.ensures.table (enrolling.unregistering-lawful (tables_of c.self.inside.procs c.self.inside.parts.items c.self.inside.ports c.self.inside.waits c.self.inside.names c.self.inside.sections c.self.inside.tokens c.self.inside.token_names c.self.inside.marks) c.self.inside.calls c.self.inside.made c.self.invariant.kept c.args.tid c.args.birth);
   watched = rw (c.add_any.ensures) (λ calm. absurd (cc));
-  lived = λ calm. absurd (cc);
+  lived = rw (c.unregister.ensures.table) (λ calm. lived.step-to (rows_by (tables_of c.self.inside.procs c.self.inside.parts.items c.self.inside.ports c.self.inside.waits c.self.inside.names c.self.inside.sections c.self.inside.tokens c.self.inside.token_names c.self.inside.marks)) (c.self.invariant.lived calm) _ (Unregisters c.args.tid c.args.birth) (enrolling.unregisters (tables_of c.self.inside.procs c.self.inside.parts.items c.self.inside.ports c.self.inside.waits c.self.inside.names c.self.inside.sections c.self.inside.tokens c.self.inside.token_names c.self.inside.marks) c.self.inside.calls c.self.inside.made c.self.invariant.kept c.args.tid c.args.birth) refl);
 }
 
 pub returns-clause-rows : goal.returns-clause-rows

@@ -1,11 +1,13 @@
 use Rattle.std.proofs.Common.{◌+◌, refl, ap, sym, ◌∙◌}
 use Rattle.lpc_homes.specs.Parts.{emptying}
-use Rattle.lpc_rows.specs.Kept.{owed_rows}
+use Rattle.lpc_rows.specs.Kept.{owed_rows, rows_by}
 use Rattle.lpc_rows.specs.Shown.{tables_of}
 use Rattle.lpc_rows.proofs.Capacities as capacities
 use Rattle.lpc_rows.proofs.Tables as tables
 use Rattle.lpc_rows.proofs.ViewRooms as rooms
 use Rattle.lpc_rows.proofs.Views as views
+use Rattle.lpc_rows.proofs.Lived as lived
+use Rattle.lpc_model.specs.Basics.{DropsViewsOf}
 use Rattle.lpc_world.proofs.world.World.views_drop.Goals as goal
 
 pub drop_views-requires-clause-one : goal.drop_views-requires-clause-one
@@ -19,7 +21,7 @@ invariant_of-self c = record {
   kept =
       rw c.drop_views.ensures.parts (views.dropped_lawful (tables_of c.self.inside.procs c.self.inside.parts.items c.self.inside.ports c.self.inside.waits c.self.inside.names c.self.inside.sections c.self.inside.tokens c.self.inside.token_names c.self.inside.marks) c.self.inside.calls c.self.inside.made c.self.invariant.kept c.args.pid);
   watched = rw (c.add_any.ensures) (λ calm. absurd (cc));
-  lived = λ calm. absurd (cc);
+  lived = rw (c.drop_views.ensures.parts) (λ calm. lived.step-to (rows_by (tables_of c.self.inside.procs c.self.inside.parts.items c.self.inside.ports c.self.inside.waits c.self.inside.names c.self.inside.sections c.self.inside.tokens c.self.inside.token_names c.self.inside.marks)) (c.self.invariant.lived calm) _ (DropsViewsOf c.args.pid) (views.drops (tables_of c.self.inside.procs c.self.inside.parts.items c.self.inside.ports c.self.inside.waits c.self.inside.names c.self.inside.sections c.self.inside.tokens c.self.inside.token_names c.self.inside.marks) c.self.inside.calls c.self.inside.made c.self.invariant.kept c.args.pid) refl);
 }
 
 pub returns-clause-step : goal.returns-clause-step

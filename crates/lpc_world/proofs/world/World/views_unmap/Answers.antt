@@ -5,6 +5,9 @@ use Rattle.lpc_rows.proofs.Readings as readings
 use Rattle.lpc_rows.proofs.Tables as tables
 use Rattle.lpc_rows.proofs.Views as views
 use Rattle.lpc_rows.proofs.UnmappedViews as unmapped
+use Rattle.lpc_rows.proofs.Lived as lived
+use Rattle.lpc_rows.specs.Clauses.{view_at}
+use Rattle.lpc_rows.specs.Kept.{rows_by}
 use Rattle.lpc_world.proofs.world.World.views_unmap.Goals as goal
 
 pub unmap_view-requires-clause-one : goal.unmap_view-requires-clause-one
@@ -18,7 +21,7 @@ invariant_of-self c = record {
   kept =
       (views.is_unmapped (tables_of c.self.inside.procs c.self.inside.parts.items c.self.inside.ports c.self.inside.waits c.self.inside.names c.self.inside.sections c.self.inside.tokens c.self.inside.token_names c.self.inside.marks) c.self.inside.calls c.self.inside.made c.args.pid c.args.address c.self.inside.parts.room c.self.invariant.kept c.unmap_view.new.self.items c.unmap_view.result c.unmap_view.ensures.view c.unmap_view.ensures.parts c.unmap_view.ensures.same).lawful;
   watched = rw (c.add_any.ensures) (λ calm. absurd (cc));
-  lived = λ calm. absurd (cc);
+  lived = λ calm. lived.unmapped-to (rows_by (tables_of c.self.inside.procs c.self.inside.parts.items c.self.inside.ports c.self.inside.waits c.self.inside.names c.self.inside.sections c.self.inside.tokens c.self.inside.token_names c.self.inside.marks)) (c.self.invariant.lived calm) _ c.args.pid (view_at (rows_by (tables_of c.self.inside.procs c.self.inside.parts.items c.self.inside.ports c.self.inside.waits c.self.inside.names c.self.inside.sections c.self.inside.tokens c.self.inside.token_names c.self.inside.marks)) c.args.pid c.args.address) (views.is_unmapped (tables_of c.self.inside.procs c.self.inside.parts.items c.self.inside.ports c.self.inside.waits c.self.inside.names c.self.inside.sections c.self.inside.tokens c.self.inside.token_names c.self.inside.marks) c.self.inside.calls c.self.inside.made c.args.pid c.args.address c.self.inside.parts.room c.self.invariant.kept c.unmap_view.new.self.items c.unmap_view.result c.unmap_view.ensures.view c.unmap_view.ensures.parts c.unmap_view.ensures.same).rows;
 }
 
 pub returns-clause-view : goal.returns-clause-view
