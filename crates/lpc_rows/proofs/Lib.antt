@@ -64,3 +64,4 @@ pub mod Claims
 pub mod Suspected
 pub mod Suspecting
 pub mod Lived
+pub mod NamedObjects

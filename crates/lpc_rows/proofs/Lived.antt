@@ -1,6 +1,6 @@
 -- Some row counts for each thread and each process, behind each change as before it.
 use Rattle.std.proofs.Common.{Bool, false, List, [], ◌∷◌, ap, arith, not, refl, true, ℕ, ◌+◌, ◌≡◌, ◌≤◌, subst, sym, ◌∙◌, Option}
-use Rattle.std.specs.Prelude.{◌==◌, ◌&&◌, ◌||◌, is_none, IfOk, OnErr, IfSome, Result, Ok, Err, Some, None}
+use Rattle.std.specs.Prelude.{◌==◌, ◌&&◌, ◌||◌, IfOk, OnErr, Result, Ok, Err, Some, None}
 use Rattle.lpc_base.specs.Rows.{change, count, differ_by, every, has, without}
 use Rattle.lpc_base.specs.Places.{least_handle}
 use Rattle.lpc_base.proofs.Births.{birth-same, birth-self, birth-turned}
@@ -22,7 +22,6 @@ use Rattle.lpc_model.specs.Sweep.{is_unheld}
 use Rattle.lpc_model.specs.Memory.{place_in}
 use Rattle.lpc_model.specs.Tests.{handle_row}
 use Rattle.lpc_model.proofs.Held.Steps.{held-some, keeps_lives, lives-all, lives-handle, lives-more, push-more}
-use Rattle.lpc_slots.specs.declared.Key.{Key}
 use Rattle.lpc_rows.specs.Clauses.{unmapped_at, written_through}
 use Rattle.lpc_rows.specs.Held.{has_holders}
 use Rattle.lpc_rows.specs.Kept.{rows_by}
@@ -163,15 +162,12 @@ module _ (it : Tables) (calls made : ℕ) (is : AreLawful it calls made) (held :
   handed-to pid row (Ok value) new least parts none = given-to pid value row _ least (tables.hands_or_not it calls made is pid row (Ok value) new parts)
   handed-to pid row (Err e) new least parts none = same-to (rows_by it) held _ (ap (λ ps. rows_by (record it { parts = ps })) none)
 
--- a handle goes, and threads and processes are suspected unless it named a port
-pub closed-if : (w : World) (before : Bool) → (before ≡ false → AreLivesHeld w) → (v : World) (pid value : ℕ) → differ_by (λ (t : HandleTable). t.process) w.handles ≡ true → (port : Option Key) → IfSome port (λ key. NamesNoLife (handle_at w pid value)) → v ≡ basic w (DropsHandle pid value) → (before || is_none port) ≡ false → AreLivesHeld v
-closed-if w before held v pid value single None names is calm = absurd (no before calm)
+-- a handle goes, and threads and processes are suspected where it named one
+pub closed-unless : (w : World) (before so : Bool) → (before ≡ false → AreLivesHeld w) → (v : World) (pid value : ℕ) → differ_by (λ (t : HandleTable). t.process) w.handles ≡ true → (so ≡ false → NamesNoLife (handle_at w pid value)) → v ≡ basic w (DropsHandle pid value) → (before || so) ≡ false → AreLivesHeld v
+closed-unless w before so held v pid value single names is calm = closed-to w (held (front before so calm)) v pid value single (names (back before so calm)) is
   where
-    no : (c : Bool) → (c || true) ≡ false → ⊥
-    no true is = absurd (cc)
-    no false is = absurd (cc)
-closed-if w before held v pid value single (Some key) names is calm = closed-to w (held (yes before calm)) v pid value single names is
-  where
-    yes : (c : Bool) → (c || false) ≡ false → c ≡ false
-    yes true is = absurd (cc)
-    yes false is = refl
+    front : (a b : Bool) → (a || b) ≡ false → a ≡ false
+    front a b off = grind arith
+
+    back : (a b : Bool) → (a || b) ≡ false → b ≡ false
+    back a b off = grind arith

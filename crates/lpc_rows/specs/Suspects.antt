@@ -2,6 +2,9 @@
 use Rattle.std.specs.Prelude.{◌≡◌, ℕ, ◌&&◌, ◌||◌, ◌++◌, ◌∷◌, [], Bool, true, false, List, Option, Some, None, length, nat_lt, if◌then◌else◌}
 use Rattle.lpc_base.specs.declared.birth.Birth.{Birth}
 use Rattle.lpc_base.specs.Rows.{has, passes}
+use Rattle.lpc_handles.specs.declared.table.Row.{Row}
+use Rattle.lpc_homes.specs.declared.object.Object.{Object}
+use Rattle.lpc_homes.specs.declared.object.Object.TheVariants as object
 use Rattle.lpc_model.specs.Found.{is_port, port_name, process_name, same_birth, same_object, thread_name}
 use Rattle.lpc_model.specs.Linked.{AreLivesHeld}
 use Rattle.lpc_model.specs.Sweep.{is_unheld}
@@ -57,6 +60,15 @@ pub record IsWatched (it : Tables) (calls made : ℕ) (s : SuspectTable) (lives 
 abbrev pub NamesPort : Names → Option HandleRow → Option Key → Type 0
 NamesPort names handle port =
     (b : Birth) → passes port (λ key. same_birth (name_of names key) b) ≡ false → passes handle (λ h. same_object h.object (port_name b)) ≡ false
+
+-- an object is a thread or a process; a handle names one
+abbrev pub is_thread_or_process : Object → Bool
+is_thread_or_process (object.Thread birth) = true
+is_thread_or_process (object.Process birth) = true
+is_thread_or_process o = false
+
+abbrev pub names_life : Row Object → Bool
+names_life row = is_thread_or_process row.object
 
 -- what was found names no thread and no process
 abbrev pub NamesNoLife : Option HandleRow → Type 0

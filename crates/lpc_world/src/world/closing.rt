@@ -1,20 +1,22 @@
 // What goes when a handle is closed, and what is counted of its object.
-ghost use Rattle.std.specs.Prelude.{◌||◌, is_none, IfSome, ◌≡◌, ◌+◌, ◌*◌, ◌≤◌, true};
-ghost use Rattle.lpc_base.specs.Rows.{count, has};
+ghost use Rattle.std.specs.Prelude.{◌||◌, ◌≡◌, ◌+◌, ◌*◌, ◌≤◌, true, option_and_then};
+ghost use Rattle.lpc_base.specs.Rows.{count, has, passes};
 ghost use Rattle.lpc_base.specs.declared.limits.TheConstants.{VIEW_LIMIT};
+ghost use Rattle.lpc_homes.specs.Parts.{port_of};
 ghost use Rattle.lpc_model.specs.Basics.{Cuts, DropsHandle, Empties, Unbinds};
-ghost use Rattle.lpc_model.specs.Found.{all_registrations, all_views, event_ports, handle_at, handle_count, holders, is_owned_by, is_table, pointer_count, same_birth};
+ghost use Rattle.lpc_model.specs.Found.{all_registrations, all_views, event_ports, handle_count, holders, is_owned_by, is_table, pointer_count, same_birth};
 ghost use Rattle.lpc_model.specs.declared.entry.ObjectKind.TheVariants as kind;
 ghost use Rattle.lpc_rows.specs.Closing.{HasMutualPairs};
 ghost use Rattle.lpc_rows.specs.Capacity.{but_names};
 ghost use Rattle.lpc_rows.specs.Held.{has_handles};
 ghost use Rattle.lpc_rows.specs.Kept.{IsStep, Roomy, owed_rows};
-ghost use Rattle.lpc_rows.specs.Names.{some_stands, stands};
-ghost use Rattle.lpc_rows.specs.Suspects.{NamesNoLife, NamesPort};
+ghost use Rattle.lpc_rows.specs.Names.{stands};
+ghost use Rattle.lpc_rows.specs.Suspects.{names_life};
 ghost use Rattle.lpc_rows.specs.Shown.{object_stands};
 ghost use Rattle.lpc_rows.specs.Clauses.{after, birth_at, name_at};
 
 use crate::world::World;
+use lpc_handles::Row;
 use lpc_homes::Object;
 use lpc_slots::Key;
 
@@ -71,22 +73,11 @@ impl World {
         ensures room { Roomy self.old.room self.new.room }
         ensures capacity { self.new.capacity ≡ self.old.capacity }
     {
-        let port = self.port_of_handle(pid, value);
+        let handle = self.handle(pid, value);
         self.loose = true;
-        self.lives = lives_are_suspected(self.lives, port);
+        self.lives = lives_are_suspected(self.lives, handle);
         self.parts.close_handle(pid, value);
-        self.suspects.add_some(port);
-    }
-
-    /// The port that a handle of a process names: None where it names none, and where there is no such handle.
-    fn port_of_handle(&self, pid: u32, value: u32) -> Option<Key>
-        requires { has (is_table pid) self.now.rows.handles ≡ true }
-        ensures stands { some_stands self.now.births.ports result ≡ true }
-        ensures names { let handle = handle_at self.now.rows pid value in
-            NamesPort self.now.births.ports handle result }
-        ensures no_life { IfSome result (λ port. NamesNoLife (handle_at self.now.rows pid value)) }
-    {
-        self.handle(pid, value)?.object.port()
+        self.suspects.add_some(port_of_handle(handle));
     }
 
     /// A handle names an object.
@@ -175,10 +166,22 @@ impl World {
     }
 }
 
-// Threads and processes are suspected, once a handle went that named the port at a key, or no port: where they were, and
-// where it named none.
-fn lives_are_suspected(before: bool, port: Option<Key>) -> bool
-    ensures { result ≡ (before || is_none port) }
+// The key of the port that a handle names: None where it names none, and where there is no such handle.
+fn port_of_handle(handle: Option<Row<Object>>) -> Option<Key>
+    ensures { result ≡ option_and_then (λ row. port_of row.object) handle }
 {
-    before || port.is_none()
+    handle?.object.port()
+}
+
+// Threads and processes are suspected, once a handle went: where they were, and where it named one.
+fn lives_are_suspected(before: bool, handle: Option<Row<Object>>) -> bool
+    ensures { result ≡ (before || passes handle names_life) }
+{
+    match handle {
+        Some(row) => match row.object {
+            Object::Thread(_) | Object::Process(_) => true,
+            Object::Port(_) | Object::Section(_) | Object::Token(_) => before,
+        },
+        None => before,
+    }
 }
