@@ -142,7 +142,8 @@ fn put_connect(
         (awaited (shown_connect bytes.now offered accepted.now)) result }
     ensures err { OnErr result (BeginsWith into.new.items into.old.items) }
     ensures capacity { vec_capacity into.old ≤ vec_capacity into.new }
-    ensures wanting { let offered = option_map (shown_offer (birth_of world.now.births)) offer.now in
+    ensures wanting { let births = birth_of world.now.births in
+        let offered = option_map (shown_offer births) offer.now in
         OnErr result (LacksRoom into.old
         (awaited (shown_connect bytes.now offered accepted.now))) }
 {
