@@ -14,7 +14,7 @@ use Rattle.lpc_waits.specs.Table as waits
 use Rattle.lpc_waits.specs.declared.Accepted.{Accepted}
 use Rattle.lpc_waits.specs.declared.WaitKind.{WaitKind}
 use Rattle.lpc_waits.specs.declared.WaitKind.TheVariants as wait
-use Rattle.lpc_waits.specs.declared.WaitRow.{WaitRow}
+use Rattle.lpc_waits.specs.Table.{WaitingThread}
 use Rattle.lpc_rows.specs.Kept.{Roomy, StaysReady, StaysUnqueued, goes_once, goes_twice, is_pending, owed_rows, room_by, rows_by}
 use Rattle.lpc_rows.specs.Lawful.{AreLawful, IsLawful, are_single, is_quiet, IsPromised}
 use Rattle.lpc_rows.specs.Ready.{wait_in, waiter}
@@ -69,10 +69,10 @@ none_accepted who (x ∷ xs) one off =
 
 -- a row that is accepted, or isn't, as it is shown
 module _ (f : Object → Birth) where
-  accepts_row : (a : Accepted) (row : WaitRow) → is_accepted (shown_wait f row) ≡ false → shown_wait f (waits.with_accepted (Some a) row) ≡ basics.accepted (shown_acceptance a) (shown_wait f row)
+  accepts_row : (a : Accepted) (row : WaitingThread) → is_accepted (shown_wait f row) ≡ false → shown_wait f (waits.with_accepted (Some a) row) ≡ basics.accepted (shown_acceptance a) (shown_wait f row)
   accepts_row a row off = by row.wait.kind row.accepted off
     where
-      by : (kind : WaitKind) (old : Option Accepted) → let before : WaitRow = record row { wait = record row.wait { kind = kind }; accepted = old } in is_accepted (shown_wait f before) ≡ false → shown_wait f (waits.with_accepted (Some a) before) ≡ basics.accepted (shown_acceptance a) (shown_wait f before)
+      by : (kind : WaitKind) (old : Option Accepted) → let before : WaitingThread = record row { wait = record row.wait { kind = kind }; accepted = old } in is_accepted (shown_wait f before) ≡ false → shown_wait f (waits.with_accepted (Some a) before) ≡ basics.accepted (shown_acceptance a) (shown_wait f before)
       by wait.Request old off = refl
       by wait.Receive old off = refl
       by wait.Listen old off = refl
@@ -80,10 +80,10 @@ module _ (f : Object → Birth) where
       by wait.Connect (Some b) off = absurd (cc)
       by (wait.Event r) old off = refl
 
-  leaves_row : (row : WaitRow) → is_accepted (shown_wait f row) ≡ false → shown_wait f (waits.with_accepted None row) ≡ shown_wait f row
+  leaves_row : (row : WaitingThread) → is_accepted (shown_wait f row) ≡ false → shown_wait f (waits.with_accepted None row) ≡ shown_wait f row
   leaves_row row off = by row.wait.kind row.accepted off
     where
-      by : (kind : WaitKind) (old : Option Accepted) → let before : WaitRow = record row { wait = record row.wait { kind = kind }; accepted = old } in is_accepted (shown_wait f before) ≡ false → shown_wait f (waits.with_accepted None before) ≡ shown_wait f before
+      by : (kind : WaitKind) (old : Option Accepted) → let before : WaitingThread = record row { wait = record row.wait { kind = kind }; accepted = old } in is_accepted (shown_wait f before) ≡ false → shown_wait f (waits.with_accepted None before) ≡ shown_wait f before
       by wait.Request old off = refl
       by wait.Receive old off = refl
       by wait.Listen old off = refl
@@ -92,10 +92,10 @@ module _ (f : Object → Birth) where
       by (wait.Event r) old off = refl
 
   -- what it names stood
-  accepted_refs : (ok : Object → Bool) (new : Option Accepted) (row : WaitRow) → is_accepted (shown_wait f row) ≡ false → every ok (wait_refs row) ≡ true → every ok (wait_refs (waits.with_accepted new row)) ≡ true
+  accepted_refs : (ok : Object → Bool) (new : Option Accepted) (row : WaitingThread) → is_accepted (shown_wait f row) ≡ false → every ok (wait_refs row) ≡ true → every ok (wait_refs (waits.with_accepted new row)) ≡ true
   accepted_refs ok new row off all = by row.wait.kind row.accepted new off all
     where
-      by : (kind : WaitKind) (old now : Option Accepted) → let before : WaitRow = record row { wait = record row.wait { kind = kind }; accepted = old } in is_accepted (shown_wait f before) ≡ false → every ok (wait_refs before) ≡ true → every ok (wait_refs (waits.with_accepted now before)) ≡ true
+      by : (kind : WaitKind) (old now : Option Accepted) → let before : WaitingThread = record row { wait = record row.wait { kind = kind }; accepted = old } in is_accepted (shown_wait f before) ≡ false → every ok (wait_refs before) ≡ true → every ok (wait_refs (waits.with_accepted now before)) ≡ true
       by wait.Request old now off all = all
       by wait.Receive old now off all = all
       by wait.Listen old now off all = all
@@ -159,10 +159,10 @@ module _ (it : Tables) (calls made who : ℕ) (is : AreLawful it calls made) whe
   abbrev after : Option Accepted → Tables
   after new = record it { waits = record it.waits { rows = change (waits.is_of who) (waits.with_accepted new) it.waits.rows } }
 
-  abbrev offers : WaitRow → Bool
+  abbrev offers : WaitingThread → Bool
   offers row = isnt_accepted_for who (shown_wait f row)
 
-  offer_is : (row : WaitRow) → offers row ≡ true → waits.is_of who row ≡ true → is_accepted (shown_wait f row) ≡ false
+  offer_is : (row : WaitingThread) → offers row ≡ true → waits.is_of who row ≡ true → is_accepted (shown_wait f row) ≡ false
   offer_is row one own = by (is_accepted (shown_wait f row)) (waits.is_of who row) one own
     where
       by : (a b : Bool) → not (b && a) ≡ true → b ≡ true → a ≡ false

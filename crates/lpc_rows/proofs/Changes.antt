@@ -27,7 +27,7 @@ use Rattle.lpc_waits.specs.Table as waits
 use Rattle.lpc_waits.specs.declared.Accepted.{Accepted}
 use Rattle.lpc_waits.specs.declared.WaitKind.{WaitKind}
 use Rattle.lpc_waits.specs.declared.WaitKind.TheVariants as wait
-use Rattle.lpc_waits.specs.declared.WaitRow.{WaitRow}
+use Rattle.lpc_waits.specs.Table.{WaitingThread}
 use Rattle.lpc_rows.specs.Kept.{goes_once, goes_twice, is_pending, owed_rows}
 use Rattle.lpc_rows.specs.Lawful.{IsLawful, is_quiet}
 use Rattle.lpc_rows.proofs.Lawful.{lawful-keep, owed-kept}
@@ -77,7 +77,7 @@ module _ (it : Tables) (is : AreNamed (births_of it) it) where
   takes key room there = rw (without_first-map (shown_message f) (all_pass message_refs ok) (ports.is_in key) (is_queued (name_of n.ports key)) (queue_same it is key there) it.ports.messages is.refs.in_messages) refl
 
   -- waits
-  pub awaited : (row : WaitRow) (spare made : ℕ) → all_pass wait_refs ok row ≡ true → AreNamed n (record it { waits = record { rows = it.waits.rows ++ row ∷ []; spare = spare; made = made } })
+  pub awaited : (row : WaitingThread) (spare made : ℕ) → all_pass wait_refs ok row ≡ true → AreNamed n (record it { waits = record { rows = it.waits.rows ++ row ∷ []; spare = spare; made = made } })
   awaited row spare made there = record {
     ports_apart = is.ports_apart;
     sections_apart = is.sections_apart;
@@ -85,7 +85,7 @@ module _ (it : Tables) (is : AreNamed (births_of it) it) where
     refs = record { in_handles = is.refs.in_handles; in_ports = is.refs.in_ports; in_messages = is.refs.in_messages; in_waits = every-push (all_pass wait_refs ok) it.waits.rows row is.refs.in_waits there; in_names = is.refs.in_names; in_views = is.refs.in_views };
   }
 
-  pub awaits : (row : WaitRow) (spare made : ℕ) → shown_by n (record it { waits = record { rows = it.waits.rows ++ row ∷ []; spare = spare; made = made } }) ≡ basic rows (Awaits (shown_wait f row))
+  pub awaits : (row : WaitingThread) (spare made : ℕ) → shown_by n (record it { waits = record { rows = it.waits.rows ++ row ∷ []; spare = spare; made = made } }) ≡ basic rows (Awaits (shown_wait f row))
   awaits row spare made = rw (push-map (shown_wait f) it.waits.rows row) refl
 
   pub ended : (who spare made : ℕ) (marks : MarkTable) → AreNamed n (record it { waits = record { rows = without (waits.is_of who) it.waits.rows; spare = spare; made = made }; marks = marks })
@@ -100,7 +100,7 @@ module _ (it : Tables) (is : AreNamed (births_of it) it) where
   ends who spare made = rw (without-map (shown_wait f) (all_pass wait_refs ok) (waits.is_of who) (waits_as who) (λ row there. refl) it.waits.rows is.refs.in_waits) refl
 
   -- a wait is changed, and what it names stands still
-  pub waiting : (who spare made : ℕ) (g : WaitRow → WaitRow) → ((row : WaitRow) → all_pass wait_refs ok row ≡ true → all_pass wait_refs ok (g row) ≡ true) → AreNamed n (record it { waits = record { rows = change (waits.is_of who) g it.waits.rows; spare = spare; made = made } })
+  pub waiting : (who spare made : ℕ) (g : WaitingThread → WaitingThread) → ((row : WaitingThread) → all_pass wait_refs ok row ≡ true → all_pass wait_refs ok (g row) ≡ true) → AreNamed n (record it { waits = record { rows = change (waits.is_of who) g it.waits.rows; spare = spare; made = made } })
   waiting who spare made g same = record {
     ports_apart = is.ports_apart;
     sections_apart = is.sections_apart;
@@ -109,7 +109,7 @@ module _ (it : Tables) (is : AreNamed (births_of it) it) where
   }
 
   -- or only some do, of rows that pass a test
-  pub waiting_if : (q : WaitRow → Bool) (who spare made : ℕ) (g : WaitRow → WaitRow) → ((row : WaitRow) → q row ≡ true → all_pass wait_refs ok row ≡ true → waits.is_of who row ≡ true → all_pass wait_refs ok (g row) ≡ true) → every q it.waits.rows ≡ true
+  pub waiting_if : (q : WaitingThread → Bool) (who spare made : ℕ) (g : WaitingThread → WaitingThread) → ((row : WaitingThread) → q row ≡ true → all_pass wait_refs ok row ≡ true → waits.is_of who row ≡ true → all_pass wait_refs ok (g row) ≡ true) → every q it.waits.rows ≡ true
       → AreNamed n (record it { waits = record { rows = change (waits.is_of who) g it.waits.rows; spare = spare; made = made } })
   waiting_if q who spare made g same all = record {
     ports_apart = is.ports_apart;
@@ -118,7 +118,7 @@ module _ (it : Tables) (is : AreNamed (births_of it) it) where
     refs = record { in_handles = is.refs.in_handles; in_ports = is.refs.in_ports; in_messages = is.refs.in_messages; in_waits = changed it.waits.rows all is.refs.in_waits; in_names = is.refs.in_names; in_views = is.refs.in_views };
   }
     where
-      changed : (rs : List WaitRow) → every q rs ≡ true → every (all_pass wait_refs ok) rs ≡ true → every (all_pass wait_refs ok) (change (waits.is_of who) g rs) ≡ true
+      changed : (rs : List WaitingThread) → every q rs ≡ true → every (all_pass wait_refs ok) rs ≡ true → every (all_pass wait_refs ok) (change (waits.is_of who) g rs) ≡ true
       changed [] one two = refl
       changed (r ∷ rs) one two = at (waits.is_of who r) refl (changed rs (second-true (q r) _ one) (second-true (all_pass wait_refs ok r) _ two))
         where
@@ -126,7 +126,7 @@ module _ (it : Tables) (is : AreNamed (births_of it) it) where
           at true own rest = rw (own, same r (first-true (q r) _ one) (first-true (all_pass wait_refs ok r) _ two) own, rest) refl
           at false off rest = rw (off, first-true (all_pass wait_refs ok r) _ two, rest) refl
 
-  pub waits_change : (who spare made : ℕ) (g : WaitRow → WaitRow) (k : model.WaitRow → model.WaitRow) → ((row : WaitRow) → shown_wait f (g row) ≡ k (shown_wait f row)) → shown_by n (record it { waits = record { rows = change (waits.is_of who) g it.waits.rows; spare = spare; made = made } }) ≡ record rows { waits = change (waits_as who) k rows.waits }
+  pub waits_change : (who spare made : ℕ) (g : WaitingThread → WaitingThread) (k : model.WaitRow → model.WaitRow) → ((row : WaitingThread) → shown_wait f (g row) ≡ k (shown_wait f row)) → shown_by n (record it { waits = record { rows = change (waits.is_of who) g it.waits.rows; spare = spare; made = made } }) ≡ record rows { waits = change (waits_as who) k rows.waits }
   waits_change who spare made g k same = rw (change-map (shown_wait f) (all_pass wait_refs ok) (waits.is_of who) (waits_as who) (λ row there. refl) g k (λ row there. same row) it.waits.rows is.refs.in_waits) refl
 
   -- handles
@@ -232,16 +232,16 @@ module _ (it : Tables) (is : AreNamed (births_of it) it) where
   pub receives : (who : ℕ) → shown_by n (record it { waits = record it.waits { rows = change (waits.is_of who) waits.received it.waits.rows } }) ≡ record rows { waits = change (waits_as who) basics.received rows.waits }
   receives who = waits_change who it.waits.spare it.waits.made waits.received basics.received (λ row. refl)
 
-  message_shown : (bytes : List ℕ) (row : WaitRow) → shown_wait f (waits.with_message bytes row) ≡ with_message (message_of bytes) (shown_wait f row)
+  message_shown : (bytes : List ℕ) (row : WaitingThread) → shown_wait f (waits.with_message bytes row) ≡ with_message (message_of bytes) (shown_wait f row)
   message_shown bytes row = by_kind row.wait.kind
     where
-      by_kind : (kind : WaitKind) → let old : WaitRow = record row { wait = record row.wait { kind = kind } } in shown_wait f (waits.with_message bytes old) ≡ with_message (message_of bytes) (shown_wait f old)
+      by_kind : (kind : WaitKind) → let old : WaitingThread = record row { wait = record row.wait { kind = kind } } in shown_wait f (waits.with_message bytes old) ≡ with_message (message_of bytes) (shown_wait f old)
       by_kind wait.Request = refl
       by_kind wait.Receive = refl
       by_kind wait.Listen = refl
       by_kind wait.Connect = by_accepted row.accepted
         where
-          by_accepted : (accepted : Option Accepted) → let old : WaitRow = record row { wait = record row.wait { kind = wait.Connect }; accepted = accepted } in shown_wait f (waits.with_message bytes old) ≡ with_message (message_of bytes) (shown_wait f old)
+          by_accepted : (accepted : Option Accepted) → let old : WaitingThread = record row { wait = record row.wait { kind = wait.Connect }; accepted = accepted } in shown_wait f (waits.with_message bytes old) ≡ with_message (message_of bytes) (shown_wait f old)
           by_accepted None = refl
           by_accepted (Some accepted) = refl
       by_kind (wait.Event r) = refl

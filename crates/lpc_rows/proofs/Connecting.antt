@@ -26,12 +26,11 @@ use Rattle.lpc_names.proofs.Mapped.{lookup-as}
 use Rattle.lpc_slots.specs.Table.{is_key}
 use Rattle.lpc_slots.specs.declared.Key.{Key}
 use Rattle.lpc_waits.specs.Table as waits
-use Rattle.lpc_waits.specs.Table.{row_of}
+use Rattle.lpc_waits.specs.Table.{WaitingThread, row_of}
 use Rattle.lpc_waits.specs.declared.Accepted.{Accepted}
 use Rattle.lpc_waits.specs.declared.Offer.{Offer}
 use Rattle.lpc_waits.specs.declared.WaitKind.{WaitKind}
 use Rattle.lpc_waits.specs.declared.WaitKind.TheVariants as wait
-use Rattle.lpc_waits.specs.declared.WaitRow as table
 use Rattle.lpc_rows.specs.Kept.{is_pending, is_pending_in, rows_by}
 use Rattle.lpc_rows.specs.Lawful.{are_single}
 use Rattle.lpc_rows.specs.Names.{name_of, some_stands, stands}
@@ -167,7 +166,7 @@ module _ (it : Tables) (is : AreNamed (births_of it) it) where
   rows = rows_by it
 
   -- the accepted connect on a port
-  accepted_same : (key : Key) → stands m.ports key ≡ true → (row : table.WaitRow) → all_pass wait_refs (object_stands m) row ≡ true → is_accepted_on (name_of m.ports key) (shown_wait g row) ≡ waits.is_accepted_on key row
+  accepted_same : (key : Key) → stands m.ports key ≡ true → (row : WaitingThread) → all_pass wait_refs (object_stands m) row ≡ true → is_accepted_on (name_of m.ports key) (shown_wait g row) ≡ waits.is_accepted_on key row
   accepted_same key there row ok =
       let same = follows.agree it is row.wait.port key (grind arith) there in
       rw (same) (ap (λ b. b && is_key row.wait.port key) (accepted_kind row.wait.kind row.message.items (option_map (shown_offer g) row.offer) row.accepted))
@@ -175,7 +174,7 @@ module _ (it : Tables) (is : AreNamed (births_of it) it) where
   first_accepted : (key : Key) → stands m.ports key ≡ true → first (is_accepted_on (name_of m.ports key)) (map (shown_wait g) it.waits.rows) ≡ option_map (shown_wait g) (first (waits.is_accepted_on key) it.waits.rows)
   first_accepted key there = first-map (shown_wait g) (all_pass wait_refs (object_stands m)) (waits.is_accepted_on key) (is_accepted_on (name_of m.ports key)) (accepted_same key there) it.waits.rows is.refs.in_waits
 
-  pub accepted_found : (key : Key) → stands m.ports key ≡ true → are_single rows.waits ≡ true → (r : Option ℕ) → r ≡ option_map (λ (x : table.WaitRow). x.thread) (first (waits.is_accepted_on key) it.waits.rows) → IsMet rows (is_accepted_on (name_of m.ports key)) r
+  pub accepted_found : (key : Key) → stands m.ports key ≡ true → are_single rows.waits ≡ true → (r : Option ℕ) → r ≡ option_map (λ (x : WaitingThread). x.thread) (first (waits.is_accepted_on key) it.waits.rows) → IsMet rows (is_accepted_on (name_of m.ports key)) r
   accepted_found key there one r found =
       met rows (is_accepted_on (name_of m.ports key)) r one (found ∙ sym (ap (λ o. option_map (λ (x : WaitRow). x.thread) o) (first_accepted key there) ∙ mapped-twice (shown_wait g) (λ (x : WaitRow). x.thread) (first (waits.is_accepted_on key) it.waits.rows)))
 
@@ -184,15 +183,15 @@ module _ (it : Tables) (is : AreNamed (births_of it) it) where
   has_its_row tid there = sym (readings.waits_are it is tid) ∙ there
 
   -- a connect that isn't accepted
-  offered_row : (tid : ℕ) (accepted : Option Accepted) → option_map (λ (r : table.WaitRow). r.accepted) (row_of it.waits tid) ≡ Some accepted → is_offered (waiter rows tid) ≡ is_connect_call (waiter rows tid).call && is_none accepted
+  offered_row : (tid : ℕ) (accepted : Option Accepted) → option_map (λ (r : WaitingThread). r.accepted) (row_of it.waits tid) ≡ Some accepted → is_offered (waiter rows tid) ≡ is_connect_call (waiter rows tid).call && is_none accepted
   offered_row tid accepted at =
-      let held = readings.holds (λ (r : table.WaitRow). r.accepted) (row_of it.waits tid) accepted at in
+      let held = readings.holds (λ (r : WaitingThread). r.accepted) (row_of it.waits tid) accepted at in
       let shown = readings.wait_is it is tid held.row held.found in
       ap is_offered shown ∙ offered_kind held.row.wait.kind held.row.message.items (option_map (shown_offer g) held.row.offer) held.row.accepted
       ∙ ap (λ o. is_connect_call (call_of_wait held.row.wait.kind) && is_none o) held.is
       ∙ ap (λ (x : WaitRow). is_connect_call x.call && is_none accepted) (sym shown)
 
-  pub offered_is : (tid : ℕ) (kind : WaitKind) (accepted : Option Accepted) → option_map (λ (r : table.WaitRow). r.accepted) (row_of it.waits tid) ≡ Some accepted → (waiter rows tid).call ≡ call_of_wait kind → kind ≡ wait.Connect → is_none accepted ≡ is_offered (waiter rows tid)
+  pub offered_is : (tid : ℕ) (kind : WaitKind) (accepted : Option Accepted) → option_map (λ (r : WaitingThread). r.accepted) (row_of it.waits tid) ≡ Some accepted → (waiter rows tid).call ≡ call_of_wait kind → kind ≡ wait.Connect → is_none accepted ≡ is_offered (waiter rows tid)
   offered_is tid kind accepted at call is_connect =
       let one : is_connect_call (waiter rows tid).call ≡ true = ap is_connect_call call ∙ ap (λ k. is_connect_call (call_of_wait k)) is_connect in
       sym (offered_row tid accepted at ∙ ap (λ b. b && is_none accepted) one)
@@ -200,21 +199,21 @@ module _ (it : Tables) (is : AreNamed (births_of it) it) where
   pub offered_never : (tid : ℕ) (kind : WaitKind) → has (waits_as tid) rows.waits ≡ true → (waiter rows tid).call ≡ call_of_wait kind → (kind ≡ wait.Connect → ⊥) → false ≡ is_offered (waiter rows tid)
   offered_never tid kind there call off = by (row_of it.waits tid) refl (has_its_row tid there)
     where
-      by : (o : Option table.WaitRow) → row_of it.waits tid ≡ o → is_some o ≡ true → false ≡ is_offered (waiter rows tid)
+      by : (o : Option WaitingThread) → row_of it.waits tid ≡ o → is_some o ≡ true → false ≡ is_offered (waiter rows tid)
       by None at some = absurd (cc)
-      by (Some row) at some = sym (offered_row tid row.accepted (ap (option_map (λ (r : table.WaitRow). r.accepted)) at) ∙ and_left _ _ (ap is_connect_call call ∙ not_connect kind off))
+      by (Some row) at some = sym (offered_row tid row.accepted (ap (option_map (λ (r : WaitingThread). r.accepted)) at) ∙ and_left _ _ (ap is_connect_call call ∙ not_connect kind off))
 
   -- what a connect was accepted with
-  pub acceptance_is : (tid : ℕ) (a : Accepted) → option_map (λ (r : table.WaitRow). r.accepted) (row_of it.waits tid) ≡ Some (Some a) → is_accepted (waiter rows tid) ≡ true → shown_acceptance a ≡ acceptance_of (waiter rows tid)
+  pub acceptance_is : (tid : ℕ) (a : Accepted) → option_map (λ (r : WaitingThread). r.accepted) (row_of it.waits tid) ≡ Some (Some a) → is_accepted (waiter rows tid) ≡ true → shown_acceptance a ≡ acceptance_of (waiter rows tid)
   acceptance_is tid a at ok =
-      let held = readings.holds (λ (r : table.WaitRow). r.accepted) (row_of it.waits tid) (Some a) at in
+      let held = readings.holds (λ (r : WaitingThread). r.accepted) (row_of it.waits tid) (Some a) at in
       let shown : waiter rows tid ≡ shown_wait g (record held.row { accepted = Some a }) =
       readings.wait_is it is tid held.row held.found ∙ ap (λ o. shown_wait g (record held.row { accepted = o })) held.is in
       acceptance_shown held.row.wait.kind held.row.message.items (option_map (shown_offer g) held.row.offer) a (sym (ap is_accepted shown) ∙ ok) ∙ sym (ap acceptance_of shown)
 
-  pub no_acceptance_there : (tid : ℕ) → option_map (λ (r : table.WaitRow). r.accepted) (row_of it.waits tid) ≡ Some None → is_accepted (waiter rows tid) ≡ true → ⊥
+  pub no_acceptance_there : (tid : ℕ) → option_map (λ (r : WaitingThread). r.accepted) (row_of it.waits tid) ≡ Some None → is_accepted (waiter rows tid) ≡ true → ⊥
   no_acceptance_there tid at ok =
-      let held = readings.holds (λ (r : table.WaitRow). r.accepted) (row_of it.waits tid) None at in
+      let held = readings.holds (λ (r : WaitingThread). r.accepted) (row_of it.waits tid) None at in
       let off : is_accepted (waiter rows tid) ≡ false =
       ap is_accepted (readings.wait_is it is tid held.row held.found) ∙ accepted_kind held.row.wait.kind held.row.message.items (option_map (shown_offer g) held.row.offer) held.row.accepted ∙ ap (λ o. waits.is_connect held.row.wait.kind && is_some o) held.is ∙ no (waits.is_connect held.row.wait.kind) in
       absurd (cc)
@@ -228,14 +227,14 @@ module _ (it : Tables) (is : AreNamed (births_of it) it) where
     pub offer : option_map (shown_offer g) o ≡ offer_of (waiter rows tid)
     pub there : some_stands m.sections (option_map (λ (x : Offer). x.section) o) ≡ true
 
-  offered_here : (row : table.WaitRow) → is_offered (shown_wait g row) ≡ true → every (object_stands m) (wait_refs row) ≡ true → (option_map (shown_offer g) row.offer ≡ offer_of (shown_wait g row)) × (some_stands m.sections (option_map (λ (x : Offer). x.section) row.offer) ≡ true)
+  offered_here : (row : WaitingThread) → is_offered (shown_wait g row) ≡ true → every (object_stands m) (wait_refs row) ≡ true → (option_map (shown_offer g) row.offer ≡ offer_of (shown_wait g row)) × (some_stands m.sections (option_map (λ (x : Offer). x.section) row.offer) ≡ true)
   offered_here row on all = by row.wait.kind row.offer row.accepted on all
     where
       section_there : (o : Option Offer) (a b : Object) → every (object_stands m) (a ∷ b ∷ section_in o) ≡ true → some_stands m.sections (option_map (λ (x : Offer). x.section) o) ≡ true
       section_there None a b all = refl
       section_there (Some o) a b all = grind arith
 
-      by : (kind : WaitKind) (o : Option Offer) (a : Option Accepted) → let x : table.WaitRow = record row { wait = record row.wait { kind = kind }; offer = o; accepted = a } in is_offered (shown_wait g x) ≡ true → every (object_stands m) (wait_refs x) ≡ true
+      by : (kind : WaitKind) (o : Option Offer) (a : Option Accepted) → let x : WaitingThread = record row { wait = record row.wait { kind = kind }; offer = o; accepted = a } in is_offered (shown_wait g x) ≡ true → every (object_stands m) (wait_refs x) ≡ true
           → (option_map (shown_offer g) o ≡ offer_of (shown_wait g x)) × (some_stands m.sections (option_map (λ (y : Offer). y.section) o) ≡ true)
       by wait.Connect o None on all = (refl, section_there o (object.Port row.wait.port) (object.Port row.wait.queue) all)
       by wait.Connect o (Some a) on all = absurd (cc)
@@ -244,9 +243,9 @@ module _ (it : Tables) (is : AreNamed (births_of it) it) where
       by wait.Listen o a on all = absurd (cc)
       by (wait.Event r) o a on all = absurd (cc)
 
-  pub offer_is : (tid : ℕ) (o : Option Offer) → option_map (λ (r : table.WaitRow). r.offer) (row_of it.waits tid) ≡ Some o → is_offered (waiter rows tid) ≡ true → IsOffer tid o
+  pub offer_is : (tid : ℕ) (o : Option Offer) → option_map (λ (r : WaitingThread). r.offer) (row_of it.waits tid) ≡ Some o → is_offered (waiter rows tid) ≡ true → IsOffer tid o
   offer_is tid o at on =
-      let held = readings.holds (λ (r : table.WaitRow). r.offer) (row_of it.waits tid) o at in
+      let held = readings.holds (λ (r : WaitingThread). r.offer) (row_of it.waits tid) o at in
       let shown = readings.wait_is it is tid held.row held.found in
       let all = every-first (all_pass wait_refs (object_stands m)) (waits.is_of tid) it.waits.rows held.row is.refs.in_waits held.found in
       let here = offered_here held.row (sym (ap is_offered shown) ∙ on) all in

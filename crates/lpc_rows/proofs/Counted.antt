@@ -21,7 +21,7 @@ use Rattle.lpc_waits.specs.declared.Accepted.{Accepted}
 use Rattle.lpc_waits.specs.declared.Offer.{Offer}
 use Rattle.lpc_waits.specs.declared.WaitKind.{WaitKind}
 use Rattle.lpc_waits.specs.declared.WaitKind.TheVariants as wait
-use Rattle.lpc_waits.specs.declared.WaitRow.{WaitRow}
+use Rattle.lpc_waits.specs.Table.{WaitingThread}
 use Rattle.lpc_model.specs.declared.entry.ObjectKind.TheVariants as kind
 use Rattle.lpc_rows.specs.Kept.{is_alive, rows_by}
 use Rattle.lpc_model.specs.Found.{all_handles, handle_count, is_born_process, same_object, section_name}
@@ -103,7 +103,7 @@ module _ (it : Tables) (is : AreNamed (births_of it) it) (key : Key) (there : st
   sent_same : (row : Key × QueuedMessage) → all_pass message_refs ok row ≡ true → found.is_sent_on b (shown_message f row) ≡ ports.is_sent_on key row
   sent_same row all = follows.agree it is row.1.message.sender key (grind arith) there
 
-  made_same : (row : WaitRow) → all_pass wait_refs ok row ≡ true → found.is_made_on b (shown_wait f row) ≡ waits.is_made_on key row
+  made_same : (row : WaitingThread) → all_pass wait_refs ok row ≡ true → found.is_made_on b (shown_wait f row) ≡ waits.is_made_on key row
   made_same row all = follows.agree it is row.wait.port key (grind arith) there
 
   pub paired_counted : count (found.is_paired_to b) (rows_by it).ports ≡ count (ports.is_paired_to key) it.ports.ports
@@ -177,10 +177,10 @@ module _ (it : Tables) (is : AreNamed (births_of it) it) (key : Key) (there : st
       ap (count (found.shows_section c)) (views_shown h it.parts)
       ∙ count-map (shown_view h) (all_pass view_refs standing) (shows key) (found.shows_section c) view_same (all_views it.parts) (views_stand standing it.parts is.refs.in_views)
 
-  offer_same : (row : WaitRow) → all_pass wait_refs standing row ≡ true → found.offers_section c (shown_wait h row) ≡ waits.is_offering key row
+  offer_same : (row : WaitingThread) → all_pass wait_refs standing row ≡ true → found.offers_section c (shown_wait h row) ≡ waits.is_offering key row
   offer_same row all = by row.wait.kind row.offer row.accepted (grind arith)
     where
-      by : (kind : WaitKind) (o : Option Offer) (a : Option Accepted) → every standing (offer_refs kind o a) ≡ true → let x : WaitRow = record row { wait = record row.wait { kind = kind }; offer = o; accepted = a } in found.offers_section c (shown_wait h x) ≡ waits.is_offering key x
+      by : (kind : WaitKind) (o : Option Offer) (a : Option Accepted) → every standing (offer_refs kind o a) ≡ true → let x : WaitingThread = record row { wait = record row.wait { kind = kind }; offer = o; accepted = a } in found.offers_section c (shown_wait h x) ≡ waits.is_offering key x
       by wait.Request o a all = refl
       by wait.Receive o a all = refl
       by wait.Listen o a all = refl

@@ -18,7 +18,7 @@ use Rattle.lpc_procs.specs.declared.rows.Registration.{Registration}
 use Rattle.lpc_procs.specs.declared.rows.ThreadRow.{ThreadRow}
 use Rattle.lpc_slots.specs.declared.Key.{Key}
 use Rattle.lpc_waits.specs.Table as waits
-use Rattle.lpc_waits.specs.declared.WaitRow.{WaitRow}
+use Rattle.lpc_waits.specs.Table.{WaitingThread}
 use Rattle.lpc_rows.specs.Kept.{rows_by}
 use Rattle.lpc_rows.specs.Lawful.{AreLawful, are_single_threads, has_named_ports, is_under_name}
 use Rattle.lpc_rows.specs.Names.{name_of, stands}
@@ -154,7 +154,7 @@ module _ (it : Tables) (calls made : ℕ) (is : AreLawful it calls made) where
       seen : registered.accepted_port rows tid ≡ option_and_then accepted_port_in (option_map (shown_wait (birth_of n)) (first (waits.is_of tid) it.waits.rows))
       seen = ap (option_and_then accepted_port_in) (readings.first-shown (shown_wait (birth_of n)) (waits.is_of tid) (waits_as tid) (λ row. refl) it.waits.rows)
 
-      of_row : (row : WaitRow) → every (object_stands n) (wait_refs row) ≡ true → registered.accepted_port rows tid ≡ accepted_port_in (shown_wait (birth_of n) row) → (c : Bool) → waits.is_accepted row ≡ c → IsPort tid (waits.accepted_port_in row)
+      of_row : (row : WaitingThread) → every (object_stands n) (wait_refs row) ≡ true → registered.accepted_port rows tid ≡ accepted_port_in (shown_wait (birth_of n) row) → (c : Bool) → waits.is_accepted row ≡ c → IsPort tid (waits.accepted_port_in row)
       of_row row all shows true is_one =
           let same : found.is_accepted (shown_wait (birth_of n) row) ≡ true = accepted_kind row.wait.kind row.message.items (option_map (shown_offer (birth_of n)) row.offer) row.accepted ∙ is_one in
           rw is_one (record { found = rw same at shows; there = grind arith })
@@ -162,7 +162,7 @@ module _ (it : Tables) (calls made : ℕ) (is : AreLawful it calls made) where
           let same : found.is_accepted (shown_wait (birth_of n) row) ≡ false = accepted_kind row.wait.kind row.message.items (option_map (shown_offer (birth_of n)) row.offer) row.accepted ∙ off in
           rw off (record { found = rw same at shows; there = tt })
 
-      by_row : (o : Option WaitRow) → first (waits.is_of tid) it.waits.rows ≡ o → IsPort tid (option_and_then waits.accepted_port_in o)
+      by_row : (o : Option WaitingThread) → first (waits.is_of tid) it.waits.rows ≡ o → IsPort tid (option_and_then waits.accepted_port_in o)
       by_row None none = record { found = seen ∙ ap (λ o. option_and_then accepted_port_in (option_map (shown_wait (birth_of n)) o)) none; there = tt }
       by_row (Some row) here =
           of_row row (every-first (all_pass wait_refs (object_stands n)) (waits.is_of tid) it.waits.rows row is.named.refs.in_waits here)

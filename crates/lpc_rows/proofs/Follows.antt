@@ -18,7 +18,7 @@ use Rattle.lpc_tokens.specs.declared.token_row.TokenRow.{TokenRow}
 use Rattle.lpc_waits.specs.Table as waits
 use Rattle.lpc_waits.specs.declared.WaitKind.{WaitKind}
 use Rattle.lpc_waits.specs.declared.WaitKind.TheVariants as wait
-use Rattle.lpc_waits.specs.declared.WaitRow.{WaitRow}
+use Rattle.lpc_waits.specs.Table.{WaitingThread}
 use Rattle.lpc_rows.specs.Names.{Names, are_apart, name_of, names_of, stands}
 use Rattle.lpc_rows.specs.Shown.{Tables, AreNamed, Births, all_pass, birth_of, births_of, message_refs, object_stands, shown_content, shown_kind, shown_message, shown_offer, shown_port, shown_section, shown_token, shown_wait, wait_refs}
 use Rattle.lpc_homes.specs.declared.object.Object.{Object}
@@ -130,7 +130,7 @@ module _ (it : Tables) (is : AreNamed (births_of it) it) where
   kind_same (wait.Event r) bytes offer accepted true b = refl
   kind_same (wait.Event r) bytes offer accepted false b = refl
 
-  pub taker_same : (key : Key) (connects : Bool) → stands n.ports key ≡ true → (row : WaitRow) → all_pass wait_refs (object_stands n) row ≡ true → takes_from (name_of n.ports key) connects (shown_wait f row) ≡ waits.is_taker_on key connects row
+  pub taker_same : (key : Key) (connects : Bool) → stands n.ports key ≡ true → (row : WaitingThread) → all_pass wait_refs (object_stands n) row ≡ true → takes_from (name_of n.ports key) connects (shown_wait f row) ≡ waits.is_taker_on key connects row
   taker_same key connects there row ok = rw (agree row.wait.queue key (grind arith) there) (kind_same row.wait.kind row.message.items (option_map (shown_offer f) row.offer) row.accepted connects (is_key row.wait.queue key))
 
   -- what is found

@@ -21,7 +21,7 @@ use Rattle.lpc_waits.specs.declared.Accepted.{Accepted}
 use Rattle.lpc_waits.specs.declared.Offer.{Offer}
 use Rattle.lpc_waits.specs.declared.WaitKind.{WaitKind}
 use Rattle.lpc_waits.specs.declared.WaitKind.TheVariants as wait
-use Rattle.lpc_waits.specs.declared.WaitRow.{WaitRow}
+use Rattle.lpc_waits.specs.Table.{WaitingThread}
 use Rattle.lpc_rows.specs.Names.{KeepsNames, Names, name_of, names_of, some_stands, stands}
 use Rattle.lpc_rows.specs.Shown.{Tables, AreNamed, Births, all_pass, binding_refs, birth_in, birth_of, births_of, call_of_wait, message_refs, name_by, node_refs, object_stands, offer_refs, section_in, shown_connect, shown_kind, shown_offer, part_refs, port_refs, ports_in, shown_binding, shown_by, shown_handle, shown_message, shown_node, shown_part, shown_port, shown_space, shown_view, shown_wait, space_refs, view_refs, wait_refs}
 use Rattle.lpc_homes.specs.declared.object.Object.{Object}
@@ -72,7 +72,7 @@ module _ (ok : Object → Bool) (f g : Object → Birth) (same : (o : Object) �
   kind_shape wait.Connect bytes o (Some a) all = refl
   kind_shape (wait.Event r) bytes o a all = refl
 
-  wait_shape : (row : WaitRow) → every ok (wait_refs row) ≡ true → shown_wait f row ≡ shown_wait g row
+  wait_shape : (row : WaitingThread) → every ok (wait_refs row) ≡ true → shown_wait f row ≡ shown_wait g row
   wait_shape row all =
       let offered = offer_refs row.wait.kind row.offer row.accepted in
       let queue_on = every_later ok (object.Port row.wait.port) (object.Port row.wait.queue ∷ offered) all in

@@ -13,7 +13,7 @@ use Rattle.lpc_waits.specs.declared.Accepted.{Accepted}
 use Rattle.lpc_waits.specs.declared.Offer.{Offer}
 use Rattle.lpc_waits.specs.declared.WaitKind.{WaitKind}
 use Rattle.lpc_waits.specs.declared.WaitKind.TheVariants as wait
-use Rattle.lpc_waits.specs.declared.WaitRow.{WaitRow}
+use Rattle.lpc_waits.specs.Table.{WaitingThread}
 use Rattle.lpc_rows.specs.Kept.{Roomy, goes_once, goes_twice, is_pending, owed_rows, room_by, rows_by}
 use Rattle.lpc_rows.specs.Lawful.{AreLawful, IsPromised, is_quiet}
 use Rattle.lpc_rows.specs.Names.{some_stands}
@@ -108,10 +108,10 @@ module _ (it : Tables) (calls made who : ℕ) (is : AreLawful it calls made) (of
   abbrev after : Tables
   after = record it { waits = record it.waits { rows = change (waits.is_of who) (waits.with_offer offer) it.waits.rows } }
 
-  offers_row : (row : WaitRow) → shown_wait f (waits.with_offer offer row) ≡ with_offer shown (shown_wait f row)
+  offers_row : (row : WaitingThread) → shown_wait f (waits.with_offer offer row) ≡ with_offer shown (shown_wait f row)
   offers_row row = by row.wait.kind row.accepted
     where
-      by : (kind : WaitKind) (a : Option Accepted) → let old : WaitRow = record row { wait = record row.wait { kind = kind }; accepted = a } in shown_wait f (waits.with_offer offer old) ≡ with_offer shown (shown_wait f old)
+      by : (kind : WaitKind) (a : Option Accepted) → let old : WaitingThread = record row { wait = record row.wait { kind = kind }; accepted = a } in shown_wait f (waits.with_offer offer old) ≡ with_offer shown (shown_wait f old)
       by wait.Request a = refl
       by wait.Receive a = refl
       by wait.Listen a = refl
@@ -128,10 +128,10 @@ module _ (it : Tables) (calls made who : ℕ) (is : AreLawful it calls made) (of
     section_stands None there = refl
     section_stands (Some o) there = rw there refl
 
-    refs_stand : (row : WaitRow) → every (object_stands n) (wait_refs row) ≡ true → every (object_stands n) (wait_refs (waits.with_offer offer row)) ≡ true
+    refs_stand : (row : WaitingThread) → every (object_stands n) (wait_refs row) ≡ true → every (object_stands n) (wait_refs (waits.with_offer offer row)) ≡ true
     refs_stand row all = by row.wait.kind row.accepted all
       where
-        by : (kind : WaitKind) (a : Option Accepted) → let old : WaitRow = record row { wait = record row.wait { kind = kind }; accepted = a } in every (object_stands n) (wait_refs old) ≡ true → every (object_stands n) (wait_refs (waits.with_offer offer old)) ≡ true
+        by : (kind : WaitKind) (a : Option Accepted) → let old : WaitingThread = record row { wait = record row.wait { kind = kind }; accepted = a } in every (object_stands n) (wait_refs old) ≡ true → every (object_stands n) (wait_refs (waits.with_offer offer old)) ≡ true
         by wait.Request a all = all
         by wait.Receive a all = all
         by wait.Listen a all = all

@@ -26,11 +26,10 @@ use Rattle.lpc_procs.specs.declared.rows.Registration.{Registration}
 use Rattle.lpc_slots.specs.Table.{is_key}
 use Rattle.lpc_slots.specs.declared.Key.{Key}
 use Rattle.lpc_waits.specs.Table as waits
-use Rattle.lpc_waits.specs.Table.{row_of}
+use Rattle.lpc_waits.specs.Table.{WaitingThread, row_of}
 use Rattle.lpc_waits.specs.declared.Accepted.{Accepted}
 use Rattle.lpc_waits.specs.declared.WaitKind.{WaitKind}
 use Rattle.lpc_waits.specs.declared.WaitKind.TheVariants as wait
-use Rattle.lpc_waits.specs.declared.WaitRow.{WaitRow}
 use Rattle.lpc_rows.specs.Kept.{has_queued, rows_by}
 use Rattle.lpc_rows.specs.Lawful as lawful
 use Rattle.lpc_rows.specs.Lawful.{AreLawful, has_named_hearers, is_of, is_under_name}
@@ -127,16 +126,16 @@ module _ (it : Tables) (calls made : ℕ) (is : AreLawful it calls made) where
   rows = rows_by it
 
   -- Events on a port, and in a queue
-  unmarked-same : (row : WaitRow) → (is_event (shown_wait f row) && not (has (is_mark row.thread) it.marks.rows)) ≡ waits.is_unmarked_event it.marks.rows row
+  unmarked-same : (row : WaitingThread) → (is_event (shown_wait f row) && not (has (is_mark row.thread) it.marks.rows)) ≡ waits.is_unmarked_event it.marks.rows row
   unmarked-same row = ap (λ b. b && not (has (is_mark row.thread) it.marks.rows)) (event_is row.wait.kind row.message.items (option_map (shown_offer f) row.offer) row.accepted)
 
-  on-same : (key : Key) → stands n.ports key ≡ true → (row : WaitRow) → all_pass wait_refs (object_stands n) row ≡ true → is_event_on (name_of n.ports key) rows (shown_wait f row) ≡ waits.is_event_on it.marks.rows key row
+  on-same : (key : Key) → stands n.ports key ≡ true → (row : WaitingThread) → all_pass wait_refs (object_stands n) row ≡ true → is_event_on (name_of n.ports key) rows (shown_wait f row) ≡ waits.is_event_on it.marks.rows key row
   on-same key there row ok = rw (follows.agree it is.named row.wait.port key (grind arith) there) (ap (λ b. b && is_key row.wait.port key) (unmarked-same row))
 
-  in-same : (key : Key) → stands n.ports key ≡ true → (row : WaitRow) → all_pass wait_refs (object_stands n) row ≡ true → is_queued_event (name_of n.ports key) rows (shown_wait f row) ≡ waits.is_unreceived_event_in it.marks.rows key row
+  in-same : (key : Key) → stands n.ports key ≡ true → (row : WaitingThread) → all_pass wait_refs (object_stands n) row ≡ true → is_queued_event (name_of n.ports key) rows (shown_wait f row) ≡ waits.is_unreceived_event_in it.marks.rows key row
   in-same key there row ok = rw (follows.agree it is.named row.wait.queue key (grind arith) there) (ap (λ b. b && (is_key row.wait.queue key && not row.wait.received)) (unmarked-same row))
 
-  found-by : (p : model.WaitRow → Bool) (q : WaitRow → Bool) → ((row : WaitRow) → all_pass wait_refs (object_stands n) row ≡ true → p (shown_wait f row) ≡ q row) → (r : Option ℕ) → r ≡ waits.first_thread q it.waits → IsMet rows p r
+  found-by : (p : model.WaitRow → Bool) (q : WaitingThread → Bool) → ((row : WaitingThread) → all_pass wait_refs (object_stands n) row ≡ true → p (shown_wait f row) ≡ q row) → (r : Option ℕ) → r ≡ waits.first_thread q it.waits → IsMet rows p r
   found-by p q same r at =
       met rows p r is.lawful.single (at ∙ sym (ap (λ o. option_map (λ (x : model.WaitRow). x.thread) o) (first-map (shown_wait f) (all_pass wait_refs (object_stands n)) q p same it.waits.rows is.named.refs.in_waits)
       ∙ mapped-twice (shown_wait f) (λ (x : model.WaitRow). x.thread) (first q it.waits.rows)))
@@ -154,7 +153,7 @@ module _ (it : Tables) (calls made : ℕ) (is : AreLawful it calls made) where
   in-event b x h = (and_parts (is_event x && not (has (is_mark x.thread) rows.marks)) _ h).0
 
   -- the exception of a thread's event
-  raised-of : (o : Option WaitRow) → option_and_then raised_in (option_map (shown_wait f) o) ≡ option_map shown_raised (option_and_then (λ row. waits.raised_in row.wait.kind) o)
+  raised-of : (o : Option WaitingThread) → option_and_then raised_in (option_map (shown_wait f) o) ≡ option_map shown_raised (option_and_then (λ row. waits.raised_in row.wait.kind) o)
   raised-of None = refl
   raised-of (Some row) = raised-kind row.wait.kind row.message.items (option_map (shown_offer f) row.offer) row.accepted
 

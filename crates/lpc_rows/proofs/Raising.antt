@@ -23,7 +23,7 @@ use Rattle.lpc_waits.specs.Table as waits
 use Rattle.lpc_waits.specs.declared.Wait.{Wait}
 use Rattle.lpc_waits.specs.declared.WaitKind.{WaitKind}
 use Rattle.lpc_waits.specs.declared.WaitKind.TheVariants as wait
-use Rattle.lpc_waits.specs.declared.WaitRow.{WaitRow}
+use Rattle.lpc_waits.specs.Table.{WaitingThread}
 use Rattle.lpc_homes.specs.declared.object.Object.{Object}
 use Rattle.lpc_rows.specs.Kept.{has_queued, is_alive, is_pending, owed_by, rows_by}
 use Rattle.lpc_rows.specs.Lawful as lawful
@@ -158,7 +158,7 @@ module _ (it : Tables) (calls made : ℕ) (is : AreLawful it calls made) where
   doom-lawful pid code = changed-lawful pid (procs.doomed code) (basics.doomed code) (doom-shown code) (λ p. refl) (λ p. refl) (λ p all. all)
 
   -- The waits that are of events, as the table has them
-  event-same : (tid : ℕ) (row : WaitRow) → is_event_of tid (shown_wait (birth_of n) row) ≡ lawful.is_event_of tid row
+  event-same : (tid : ℕ) (row : WaitingThread) → is_event_of tid (shown_wait (birth_of n) row) ≡ lawful.is_event_of tid row
   event-same tid row = ap (λ b. (row.thread == tid) && b) (readings.event_is row.wait.kind row.message.items (option_map _ row.offer) row.accepted)
 
   pub events-same : (tid : ℕ) → has_event rows tid ≡ has (lawful.is_event_of tid) it.waits.rows

@@ -28,12 +28,11 @@ use Rattle.lpc_tokens.specs.declared.token_row.TokenRow.{TokenRow}
 use Rattle.lpc_views.specs.Views.{holds as holds_range, view_of}
 use Rattle.lpc_views.specs.declared.view.View.{View}
 use Rattle.lpc_waits.specs.Table as waits
-use Rattle.lpc_waits.specs.Table.{row_of}
+use Rattle.lpc_waits.specs.Table.{WaitingThread, row_of}
 use Rattle.lpc_waits.specs.declared.Accepted.{Accepted}
 use Rattle.lpc_waits.specs.declared.Wait.{Wait}
 use Rattle.lpc_waits.specs.declared.WaitKind.{WaitKind}
 use Rattle.lpc_waits.specs.declared.WaitKind.TheVariants as wait
-use Rattle.lpc_waits.specs.declared.WaitRow.{WaitRow}
 use Rattle.lpc_rows.specs.Names.{name_of, names_of, some_stands, stands}
 use Rattle.lpc_rows.specs.Kept.{Kept, is_asking, kept_by, rows_by}
 use Rattle.lpc_homes.specs.Parts.{has_name_of, is_object, is_part, names_it, rows_at, rows_in, views_at, views_in}
@@ -216,13 +215,13 @@ module _ (it : Tables) (is : AreNamed (births_of it) it) where
   clients_are = count-shown (shown_port f) ports.is_client found.is_client_port (λ row. refl) it.ports.ports
 
   -- Waits
-  pub wait_is : (tid : ℕ) (row : WaitRow) → row_of it.waits tid ≡ Some row → waiter rows tid ≡ shown_wait f row
+  pub wait_is : (tid : ℕ) (row : WaitingThread) → row_of it.waits tid ≡ Some row → waiter rows tid ≡ shown_wait f row
   unfolding waiter
   wait_is tid row at = ap wait_in (first-shown (shown_wait f) (waits.is_of tid) (waits_as tid) (λ r. refl) it.waits.rows ∙ ap (λ o. option_map (shown_wait f) o) at)
 
   pub is_wait : (places calls made : ℕ) (loose : Bool) (tid : ℕ) (x : Wait) → option_map (λ row. row.wait) (row_of it.waits tid) ≡ Some x → IsWait (kept_by it places calls made loose) tid x
   is_wait places calls made loose tid x at =
-      let held = holds (λ (r : WaitRow). r.wait) (row_of it.waits tid) x at in
+      let held = holds (λ (r : WaitingThread). r.wait) (row_of it.waits tid) x at in
       let same : waiter rows tid ≡ shown_wait f (record { thread = held.row.thread; wait = x; message = held.row.message; offer = held.row.offer; accepted = held.row.accepted }) =
       wait_is tid held.row held.found ∙ ap (λ (v : Wait). shown_wait f (record { thread = held.row.thread; wait = v; message = held.row.message; offer = held.row.offer; accepted = held.row.accepted })) held.is in
       let stand : every (object_stands n) (object.Port x.port ∷ object.Port x.queue ∷ []) ≡ true =

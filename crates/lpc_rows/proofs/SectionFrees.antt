@@ -32,7 +32,7 @@ use Rattle.lpc_waits.specs.declared.Accepted.{Accepted}
 use Rattle.lpc_waits.specs.declared.Offer.{Offer}
 use Rattle.lpc_waits.specs.declared.WaitKind.{WaitKind}
 use Rattle.lpc_waits.specs.declared.WaitKind.TheVariants as wait
-use Rattle.lpc_waits.specs.declared.WaitRow.{WaitRow}
+use Rattle.lpc_waits.specs.Table.{WaitingThread}
 use Rattle.lpc_rows.specs.Held.{has_handles, has_holders}
 use Rattle.lpc_rows.specs.Kept.{rows_by}
 use Rattle.lpc_rows.specs.Lawful.{AreBornIn, AreLawful, IsPromised, has_mapped_views}
@@ -73,10 +73,10 @@ module _ (key : Key) where
       own : (v : View Key) → shows key v ≡ false → every (is_other key) (view_refs v) ≡ true
       own v off = let owner = owner_other v.owner in grind (arith, owner)
 
-  wait_off : (row : WaitRow) → waits.is_offering key row ≡ false → all_pass wait_refs (is_other key) row ≡ true
+  wait_off : (row : WaitingThread) → waits.is_offering key row ≡ false → all_pass wait_refs (is_other key) row ≡ true
   wait_off row off = by row.wait.kind row.offer row.accepted off
     where
-      by : (kind : WaitKind) (o : Option Offer) (a : Option Accepted) → let x : WaitRow = record row { wait = record row.wait { kind = kind }; offer = o; accepted = a } in waits.is_offering key x ≡ false → all_pass wait_refs (is_other key) x ≡ true
+      by : (kind : WaitKind) (o : Option Offer) (a : Option Accepted) → let x : WaitingThread = record row { wait = record row.wait { kind = kind }; offer = o; accepted = a } in waits.is_offering key x ≡ false → all_pass wait_refs (is_other key) x ≡ true
       by wait.Request o a off = refl
       by wait.Receive o a off = refl
       by wait.Listen o a off = refl

@@ -29,11 +29,10 @@ use Rattle.lpc_slots.specs.Table.{at_key}
 use Rattle.lpc_slots.specs.declared.Key.{Key}
 use Rattle.lpc_slots.proofs.Keys.{key_is}
 use Rattle.lpc_waits.specs.Table as waits
-use Rattle.lpc_waits.specs.Table.{WaitTable}
+use Rattle.lpc_waits.specs.Table.{WaitTable, WaitingThread}
 use Rattle.lpc_waits.specs.declared.Wait.{Wait}
 use Rattle.lpc_waits.specs.declared.WaitKind.{WaitKind}
 use Rattle.lpc_waits.specs.declared.WaitKind.TheVariants as wait
-use Rattle.lpc_waits.specs.declared.WaitRow.{WaitRow}
 use Rattle.lpc_rows.specs.Names.{are_apart, name_of, stands}
 use Rattle.lpc_rows.specs.Shown.{Tables, Births, all_pass, birth_of, births_of, message_refs, object_stands, offer_refs, port_refs, pulled_row, shown_handle, shown_message, shown_port, shown_process, shown_thread, shown_used, shown_wait, tables_of, wait_refs, without_mark, with_message}
 use Rattle.lpc_homes.specs.Parts.{are_single_parts, handed, is_part, roomed, spare_at}
@@ -233,7 +232,7 @@ module _ (it : Tables) (calls made : ℕ) (is : AreLawful it calls made) where
   }
 
   -- waits
-  pub awaited : (row : WaitRow) → all_pass wait_refs (object_stands n) row ≡ true → made + owed_rows rows + (1 + owed_by (shown_wait (birth_of n) row)) ≤ 16 * calls → has (is_live_thread row.thread) rows.threads ≡ true → has (waits_as row.thread) rows.waits ≡ false → is_quiet rows.messages (shown_wait (birth_of n) row) ≡ true
+  pub awaited : (row : WaitingThread) → all_pass wait_refs (object_stands n) row ≡ true → made + owed_rows rows + (1 + owed_by (shown_wait (birth_of n) row)) ≤ 16 * calls → has (is_live_thread row.thread) rows.threads ≡ true → has (waits_as row.thread) rows.waits ≡ false → is_quiet rows.messages (shown_wait (birth_of n) row) ≡ true
       → IsPromised (rows.waits ++ shown_wait (birth_of n) row ∷ []) rows.handles it.parts
       → AreLawful (record it { waits = record { rows = it.waits.rows ++ row ∷ []; spare = it.waits.spare - 1; made = it.waits.made + 1 } }) calls (made + 1)
   awaited row there lt thread ready still owed = record {
@@ -448,7 +447,7 @@ module _ (it : Tables) (calls made : ℕ) (is : AreLawful it calls made) where
       let left : new.spare ≡ cond (has (waits.is_of who) it.waits.rows) (it.waits.spare + 1) it.waits.spare = spare ∙ ap (λ b. cond b (it.waits.spare + 1) it.waits.spare) found in
       λ i. record { rows = rows i; spare = left i; made = same i }
     where
-      is_some-map : (o : Option WaitRow) → is_some (option_map (λ row. row.wait) o) ≡ is_some o
+      is_some-map : (o : Option WaitingThread) → is_some (option_map (λ row. row.wait) o) ≡ is_some o
       is_some-map None = refl
       is_some-map (Some row) = refl
 
@@ -520,17 +519,17 @@ module _ (it : Tables) (calls made : ℕ) (is : AreLawful it calls made) where
   }
 
   -- a thread that waits, and one that doesn't
-  pub waits_there : (who : ℕ) (x : Wait) → option_map (λ (row : WaitRow). row.wait) (first (waits.is_of who) it.waits.rows) ≡ Some x → IsSome (first (waits.is_of who) it.waits.rows)
+  pub waits_there : (who : ℕ) (x : Wait) → option_map (λ (row : WaitingThread). row.wait) (first (waits.is_of who) it.waits.rows) ≡ Some x → IsSome (first (waits.is_of who) it.waits.rows)
   waits_there who x at = mapped (first (waits.is_of who) it.waits.rows) at
     where
-      mapped : (o : Option WaitRow) → option_map (λ (row : WaitRow). row.wait) o ≡ Some x → IsSome o
+      mapped : (o : Option WaitingThread) → option_map (λ (row : WaitingThread). row.wait) o ≡ Some x → IsSome o
       mapped None h = absurd (cc)
       mapped (Some row) h = refl
 
-  pub waits_not : (who : ℕ) → option_map (λ (row : WaitRow). row.wait) (first (waits.is_of who) it.waits.rows) ≡ None → has (waits_as who) all.waits ≡ false
+  pub waits_not : (who : ℕ) → option_map (λ (row : WaitingThread). row.wait) (first (waits.is_of who) it.waits.rows) ≡ None → has (waits_as who) all.waits ≡ false
   waits_not who at = has_wait it calls made is who ∙ mapped (first (waits.is_of who) it.waits.rows) at
     where
-      mapped : (o : Option WaitRow) → option_map (λ (row : WaitRow). row.wait) o ≡ None → is_some o ≡ false
+      mapped : (o : Option WaitingThread) → option_map (λ (row : WaitingThread). row.wait) o ≡ None → is_some o ≡ false
       mapped None h = refl
       mapped (Some row) h = absurd (cc)
 

@@ -32,7 +32,7 @@ use Rattle.lpc_slots.specs.declared.Key.{Key}
 use Rattle.lpc_slots.proofs.Keys.{key_is}
 use Rattle.lpc_waits.specs.Table as waits
 use Rattle.lpc_waits.specs.declared.Wait.{Wait}
-use Rattle.lpc_waits.specs.declared.WaitRow.{WaitRow}
+use Rattle.lpc_waits.specs.Table.{WaitingThread}
 use Rattle.lpc_rows.specs.Clauses.{written_through}
 use Rattle.lpc_rows.specs.Held.{has_holders}
 use Rattle.lpc_rows.specs.Kept.{registered_ports, rows_by}
@@ -82,16 +82,16 @@ sender-stands it is test m at = by (first test it.ports.messages) refl at
 
 -- the wait of a thread ends, or it has none
 module _ (it : Tables) (is : AreNamed (births_of it) it) (single : differ_by (λ (x : model.WaitRow). x.thread) (rows_by it).waits ≡ true) (w : World) (same : w.waits ≡ (rows_by it).waits) (s : SuspectTable) (old : AreSuspected w (births_of it).ports s) where
-  shown : WaitRow → model.WaitRow
+  shown : WaitingThread → model.WaitRow
   shown = shown_wait (birth_of (births_of it))
 
   found-shown : (who : ℕ) → first (waits_as who) w.waits ≡ option_map (shown_wait (birth_of (births_of it))) (first (waits.is_of who) it.waits.rows)
   found-shown who = ap (first (waits_as who)) same ∙ first-map (shown_wait (birth_of (births_of it))) (λ _. true) (waits.is_of who) (waits_as who) (λ row _. refl) it.waits.rows (changes.all_true it is it.waits.rows)
 
-  pub ended-to : (who : ℕ) (v : World) (r : Option Wait) → r ≡ option_map (λ (row : WaitRow). row.wait) (first (waits.is_of who) it.waits.rows) → v ≡ left_by who w → AreSuspected v (births_of it).ports (suspecting_some (option_map (λ (x : Wait). x.port) r) s)
+  pub ended-to : (who : ℕ) (v : World) (r : Option Wait) → r ≡ option_map (λ (row : WaitingThread). row.wait) (first (waits.is_of who) it.waits.rows) → v ≡ left_by who w → AreSuspected v (births_of it).ports (suspecting_some (option_map (λ (x : Wait). x.port) r) s)
   ended-to who v r value left = by (first (waits.is_of who) it.waits.rows) refl value
     where
-      by : (o : Option WaitRow) → first (waits.is_of who) it.waits.rows ≡ o → r ≡ option_map (λ (row : WaitRow). row.wait) o → AreSuspected v (births_of it).ports (suspecting_some (option_map (λ (x : Wait). x.port) r) s)
+      by : (o : Option WaitingThread) → first (waits.is_of who) it.waits.rows ≡ o → r ≡ option_map (λ (row : WaitingThread). row.wait) o → AreSuspected v (births_of it).ports (suspecting_some (option_map (λ (x : Wait). x.port) r) s)
       by None none value = rw (value) (suspected.left-none-to w (births_of it).ports s old v who (has-none (waits_as who) w.waits (found-shown who ∙ ap (option_map (shown_wait (birth_of (births_of it)))) none)) left)
       by (Some row) there value =
           let all = every-first (all_pass wait_refs (object_stands (births_of it))) (waits.is_of who) it.waits.rows row is.refs.in_waits there in

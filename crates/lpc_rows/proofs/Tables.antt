@@ -23,7 +23,7 @@ use Rattle.lpc_waits.specs.declared.Accepted.{Accepted}
 use Rattle.lpc_waits.specs.declared.Wait.{Wait}
 use Rattle.lpc_waits.specs.declared.WaitKind.{WaitKind}
 use Rattle.lpc_waits.specs.declared.WaitKind.TheVariants as wait
-use Rattle.lpc_waits.specs.declared.WaitRow.{WaitRow}
+use Rattle.lpc_waits.specs.Table.{WaitingThread}
 use Rattle.lpc_rows.specs.Shown.{Tables, birth_of, births_of, object_stands, shown_handle, shown_kind, shown_offer, shown_part, shown_wait}
 use Rattle.lpc_homes.specs.Parts.{are_single_parts, handed, is_part, roomed, rows_at, rows_in, spare_at, spare_in}
 use Rattle.lpc_rows.specs.Kept as kept
@@ -52,10 +52,10 @@ connect_is wait.Connect bytes offer None = refl
 connect_is wait.Connect bytes offer (Some accepted) = refl
 connect_is b bytes offer accepted = refl
 
-pub connect_same : (f : Object → Birth) (row : WaitRow) → found.is_connect (shown_wait f row) ≡ waits.is_connect row.wait.kind
+pub connect_same : (f : Object → Birth) (row : WaitingThread) → found.is_connect (shown_wait f row) ≡ waits.is_connect row.wait.kind
 connect_same f row = connect_is row.wait.kind row.message.items (option_map (shown_offer f) row.offer) row.accepted
 
-pub connects_shown : (f : Object → Birth) (pid : ℕ) (rows : List WaitRow) → count (is_connect_of pid) (map (shown_wait f) rows) ≡ count (waits.is_connect_of pid) rows
+pub connects_shown : (f : Object → Birth) (pid : ℕ) (rows : List WaitingThread) → count (is_connect_of pid) (map (shown_wait f) rows) ≡ count (waits.is_connect_of pid) rows
 connects_shown f pid rows = count-map (shown_wait f) (λ _. true) (waits.is_connect_of pid) (is_connect_of pid) (λ row _. ap (λ b. b && (row.wait.process == pid)) (connect_same f row)) rows (every-true rows)
 
 module _ (it : Tables) (calls made : ℕ) (is : AreLawful it calls made) where

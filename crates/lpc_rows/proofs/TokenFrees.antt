@@ -25,7 +25,7 @@ use Rattle.lpc_waits.specs.declared.Accepted.{Accepted}
 use Rattle.lpc_waits.specs.declared.Offer.{Offer}
 use Rattle.lpc_waits.specs.declared.WaitKind.{WaitKind}
 use Rattle.lpc_waits.specs.declared.WaitKind.TheVariants as wait
-use Rattle.lpc_waits.specs.declared.WaitRow.{WaitRow}
+use Rattle.lpc_waits.specs.Table.{WaitingThread}
 use Rattle.lpc_rows.specs.Held.{has_handles}
 use Rattle.lpc_rows.specs.Kept.{rows_by}
 use Rattle.lpc_rows.specs.Lawful.{AreBornIn, AreLawful, IsPromised}
@@ -58,7 +58,7 @@ module _ (key : Key) where
   views_other [] = refl
   views_other (v ∷ vs) = every-append (is_other key) (view_refs v) (each view_refs vs) (let owner = owner_other v.owner in grind (arith, owner)) (views_other vs)
 
-  wait_other : (row : WaitRow) → all_pass wait_refs (is_other key) row ≡ true
+  wait_other : (row : WaitingThread) → all_pass wait_refs (is_other key) row ≡ true
   wait_other row = by row.wait.kind row.offer row.accepted
     where
       by : (kind : WaitKind) (o : Option Offer) (a : Option Accepted) → every (is_other key) (object.Port row.wait.port ∷ object.Port row.wait.queue ∷ offer_refs kind o a) ≡ true

@@ -24,7 +24,7 @@ use Rattle.lpc_waits.specs.declared.Accepted.{Accepted}
 use Rattle.lpc_waits.specs.declared.Offer.{Offer}
 use Rattle.lpc_waits.specs.declared.WaitKind.{WaitKind}
 use Rattle.lpc_waits.specs.declared.WaitKind.TheVariants as wait
-use Rattle.lpc_waits.specs.declared.WaitRow.{WaitRow}
+use Rattle.lpc_waits.specs.Table.{WaitingThread}
 use Rattle.lpc_rows.specs.Names.{name_of, stands}
 use Rattle.lpc_homes.specs.Parts.{goes_with, has_name_of, has_view_with, is_object, names_it}
 use Rattle.lpc_rows.specs.Shown.{Tables, AllPass, AreNamed, Births, all_pass, binding_refs, birth_in, birth_of, births_of, message_refs, node_refs, object_stands, part_refs, port_refs, ports_in, shown_binding, shown_by, shown_message, shown_port, shown_wait, offer_refs, section_in, space_refs, view_refs, wait_refs}
@@ -67,7 +67,7 @@ module _ (it : Tables) (is : AreNamed (births_of it) it) (key : Key) (there : st
   message_same : (row : Key × QueuedMessage) → all_pass message_refs ok row ≡ true → held.is_message_at b (shown_message f row) ≡ ports.is_message_at key row
   message_same row all = rw (follows.agree it is row.1.message.sender key (grind arith) there, follows.agree it is row.1.queue key (grind arith) there) refl
 
-  wait_same : (row : WaitRow) → all_pass wait_refs ok row ≡ true → held.is_wait_at b (shown_wait f row) ≡ waits.is_wait_at key row
+  wait_same : (row : WaitingThread) → all_pass wait_refs ok row ≡ true → held.is_wait_at b (shown_wait f row) ≡ waits.is_wait_at key row
   wait_same row all = rw (follows.agree it is row.wait.port key (grind arith) there, follows.agree it is row.wait.queue key (grind arith) there) refl
 
   pub node_same : (path : Path) (node : Node Key) → every ok (node_refs node) ≡ true → is_name same_birth b (shown_binding f (path, node)) ≡ is_name is_key key (path, node)
@@ -116,7 +116,7 @@ module _ (key : Key) where
   message_off : (row : Key × QueuedMessage) → ports.is_message_at key row ≡ false → all_pass message_refs (is_other key) row ≡ true
   message_off row off = grind arith
 
-  wait_off : (row : WaitRow) → waits.is_wait_at key row ≡ false → all_pass wait_refs (is_other key) row ≡ true
+  wait_off : (row : WaitingThread) → waits.is_wait_at key row ≡ false → all_pass wait_refs (is_other key) row ≡ true
   wait_off row off = let offer = offer_off row.wait.kind row.offer row.accepted in grind (arith, offer)
     where
       section_off : (o : Option Offer) → every (is_other key) (section_in o) ≡ true

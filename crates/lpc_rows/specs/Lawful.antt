@@ -18,9 +18,8 @@ use Rattle.lpc_slots.specs.Table.{Table}
 use Rattle.lpc_slots.specs.declared.Key.{Key}
 use Rattle.lpc_tokens.specs.declared.token_row.TokenRow.{TokenRow}
 use Rattle.lpc_views.specs.Parts.{is_mapped}
-use Rattle.lpc_waits.specs.Table.{WaitTable, is_event, is_mark}
+use Rattle.lpc_waits.specs.Table.{WaitTable, WaitingThread, is_event, is_mark}
 use Rattle.lpc_waits.specs.Table.{is_of as is_of_thread}
-use Rattle.lpc_waits.specs.declared.WaitRow as waits
 use Rattle.lpc_homes.specs.declared.parts.Part.{Part}
 use Rattle.lpc_rows.specs.Kept.{CALL_BUDGET, owed_messages, owed_rows, owed_waits, pends_as, rows_by}
 use Rattle.lpc_rows.specs.Names.{name_of, stands}
@@ -186,12 +185,12 @@ has_named_hearers n p = every (is_under_name n) (event_ports_of p)
 abbrev pub is_living : procs.ThreadRow → Bool
 is_living t = t.live
 
-abbrev pub is_event_of : ℕ → waits.WaitRow → Bool
+abbrev pub is_event_of : ℕ → WaitingThread → Bool
 is_event_of tid row = is_of_thread tid row && is_event row.wait.kind
 
 -- a thread is marked once, waits for what is made of an event then, and has no message of its own in a queue; each live
 -- thread has a place for its mark
-pub record AreMarked (threads : List procs.ThreadRow) (rows : List waits.WaitRow) (messages : List (Key × QueuedMessage)) (marks : MarkTable) : Type 0 where
+pub record AreMarked (threads : List procs.ThreadRow) (rows : List WaitingThread) (messages : List (Key × QueuedMessage)) (marks : MarkTable) : Type 0 where
   pub marked : (tid : ℕ) → count (is_mark tid) marks.rows ≤ count (is_event_of tid) rows
   pub left : every (λ n. not (has (ports.is_own_of n) messages)) marks.rows ≡ true
   pub places : count is_living threads ≤ marks.places

@@ -33,7 +33,7 @@ use Rattle.lpc_tokens.specs.Names as named
 use Rattle.lpc_tokens.specs.declared.security.Security.TheVariants.{Unsecured}
 use Rattle.lpc_tokens.specs.declared.token_row.TokenRow.{TokenRow}
 use Rattle.lpc_views.specs.declared.view.View.{View}
-use Rattle.lpc_waits.specs.Table.{WaitTable, is_mark}
+use Rattle.lpc_waits.specs.Table.{WaitTable, WaitingThread, is_mark}
 use Rattle.lpc_waits.specs.declared.Accepted.{Accepted}
 use Rattle.lpc_waits.specs.declared.Chance.{Chance}
 use Rattle.lpc_waits.specs.declared.Chance.TheVariants as chance
@@ -42,7 +42,6 @@ use Rattle.lpc_waits.specs.declared.Raised.{Raised}
 use Rattle.lpc_waits.specs.declared.Wait.{Wait}
 use Rattle.lpc_waits.specs.declared.WaitKind.{WaitKind}
 use Rattle.lpc_waits.specs.declared.WaitKind.TheVariants as wait
-use Rattle.lpc_waits.specs.declared.WaitRow.{WaitRow}
 use Rattle.lpc_rows.specs.Names.{Names, name_of, stands, are_apart, names_of}
 use Rattle.lpc_homes.specs.declared.object.Object.{Object}
 use Rattle.lpc_homes.specs.declared.object.Object.TheVariants as object
@@ -176,10 +175,10 @@ abbrev pub offer_refs : WaitKind → Option Offer → Option Accepted → List O
 offer_refs wait.Connect offer None = section_in offer
 offer_refs kind offer accepted = []
 
-abbrev pub wait_refs : WaitRow → List Object
+abbrev pub wait_refs : WaitingThread → List Object
 wait_refs row = object.Port row.wait.port ∷ object.Port row.wait.queue ∷ offer_refs row.wait.kind row.offer row.accepted
 
-abbrev pub shown_wait : (Object → Birth) → WaitRow → model.WaitRow
+abbrev pub shown_wait : (Object → Birth) → WaitingThread → model.WaitRow
 shown_wait f row = record {
   call = call_of_wait row.wait.kind;
   thread = row.thread;

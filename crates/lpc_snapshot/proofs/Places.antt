@@ -1,5 +1,5 @@
 -- The row at a place: its key stands, and has the row's birth as name.
-use Rattle.std.proofs.Common.{◌≡◌, ℕ, zero, suc, List, [], ◌∷◌, Bool, true, false, map, Option, Some, None, refl, arith}
+use Rattle.std.proofs.Common.{◌≡◌, ℕ, zero, suc, List, [], ◌∷◌, Bool, true, false, map, Option, Some, None, refl, ap, length, arith}
 use Rattle.std.proofs.lemmas.Option.{same_Some}
 use Rattle.std.specs.List.{slice_get}
 use Rattle.std.specs.Option.{option_map}
@@ -10,6 +10,7 @@ use Rattle.lpc_model.specs.Found.{is_content, same_birth}
 use Rattle.lpc_ports.specs.Table.{QueuedMessage}
 use Rattle.lpc_sections.specs.Sections.{SectionRow}
 use Rattle.lpc_slots.specs.declared.Key.{Key}
+use Rattle.lpc_slots.specs.Table.{parts}
 use Rattle.lpc_rows.specs.Names.{are_apart, differs, name_of, names_of, stands}
 use Rattle.lpc_rows.specs.Shown.{Births, all_pass, message_refs, object_stands, shown_content}
 use Rattle.lpc_rows.proofs.Follows.{is_own, own_birth, rows_own}
@@ -25,6 +26,20 @@ pub shown_at : {X Y : Type 0} (g : X → Y) (xs : List X) (place : ℕ) (x : X) 
 shown_at g [] place x here = absurd (cc)
 shown_at g (y ∷ ys) zero x here = grind arith
 shown_at g (y ∷ ys) (suc place) x here = shown_at g ys place x here
+
+-- as many rows as another has, and a row of slots at a place, without its key
+pub long_shown : {X Y : Type 0} (g : X → Y) (xs : List X) → length (map g xs) ≡ length xs
+long_shown g [] = refl
+long_shown g (x ∷ xs) = ap suc (long_shown g xs)
+
+pub long_held : {X Y : Type 0} (g : X → Y) (rows : List (Key × X)) → length rows ≡ length (map (λ row. row.1) (parts g rows))
+long_held g [] = refl
+long_held g (row ∷ rows) = ap suc (long_held g rows)
+
+pub held_at : {X Y : Type 0} (g : X → Y) (rows : List (Key × X)) (place : ℕ) (key : Key) (x : X) → slice_get rows place ≡ Some (key, x) → slice_get (map (λ row. row.1) (parts g rows)) place ≡ Some (g x)
+held_at g [] place key x here = absurd (cc)
+held_at g (row ∷ rows) zero key x here = let same : row ≡ (key, x) = cc in ap (λ r. Some (g r.1)) same
+held_at g (row ∷ rows) (suc place) key x here = held_at g rows place key x here
 
 module _ {R : Type 0} (birth : R → Birth) (rows : List (Key × R)) (apart : are_apart (names_of birth rows) ≡ true) (place : ℕ) (row : Key × R) (here : slice_get rows place ≡ Some row) where
   own : is_own birth rows row ≡ true

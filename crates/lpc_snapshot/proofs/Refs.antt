@@ -1,17 +1,9 @@
 -- What rows name all stands, and so does what the row at an index names.
-use Rattle.std.proofs.Common.{◌≡◌, ℕ, zero, suc, ◌<◌, List, [], ◌∷◌, Bool, true, arith, get_or, length, map, subst, sym}
+use Rattle.std.proofs.Common.{◌≡◌, ℕ, zero, suc, ◌<◌, List, [], ◌∷◌, Bool, true, arith, get_or, length, map}
 use Rattle.lpc_base.proofs.RowWords.{every-back, every-front}
 use Rattle.lpc_base.specs.Rows.{each, every}
 
 -- what passes for every row passes for the one at an index
-pub get_at : {X : Type 0} (p : X → Bool) (xs : List X) (k : ℕ) (d : X) → k < length xs → every p xs ≡ true → p (get_or xs k d) ≡ true
-get_at p [] k d below all = absurd (omega (arith, below))
-get_at p (x ∷ xs) zero d below all = grind arith
-get_at p (x ∷ xs) (suc k) d below all = get_at p xs k d (omega (arith, below)) (grind (arith, all))
-
-pub row_at : {X : Type 0} (p : X → Bool) (xs : List X) (k : ℕ) (row : X) → k < length xs → every p xs ≡ true → row ≡ get_or xs k row → p row ≡ true
-row_at p xs k row below all is = subst (λ x. p x ≡ true) (sym is) (get_at p xs k row below all)
-
 pub map_at : {X Y : Type 0} (f : X → Y) (p : Y → Bool) (xs : List X) (k : ℕ) (d : X) → k < length xs → every p (map f xs) ≡ true → p (f (get_or xs k d)) ≡ true
 map_at f p [] k d below all = absurd (omega (arith, below))
 map_at f p (x ∷ xs) zero d below all = grind arith

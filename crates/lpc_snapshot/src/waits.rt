@@ -1,10 +1,11 @@
 // Waits, and the marks of events.
-ghost use Rattle.std.specs.Prelude.{◌≡◌, ◌≤◌, option_map, true, OnErr, vec_capacity};
+ghost use Rattle.std.specs.Prelude.{◌≡◌, ◌<◌, ◌≤◌, Some, length, option_map, slice_get, true, OnErr, vec_capacity};
 ghost use Rattle.lpc_base.specs.Rows.{every};
 ghost use Rattle.lpc_model.specs.Message.{message_of};
 ghost use Rattle.lpc_rows.specs.Shown.{all_pass, birth_of, call_of_wait, object_stands, offer_refs, section_in, shown_acceptance, shown_chance, shown_connect, shown_offer, shown_raised, shown_wait, wait_refs};
 ghost use Rattle.lpc_rows.specs.Names.{stands};
 ghost use Rattle.lpc_waits.specs.declared.WaitKind.TheVariants as wait;
+ghost use Rattle.lpc_waits.specs.Lent.{waiting_of};
 ghost use Rattle.lpc_transcript.specs.Printing.{BeginsWith, LacksRoom, Puts};
 ghost use Rattle.lpc_states.specs.Rows.{awaited, lines, mark_row, wait_row};
 ghost use Rattle.lpc_states.specs.Values.{acceptance_text, chance_text, message_text, offer_text, or_null, raised_text};
@@ -166,28 +167,22 @@ fn put_connect(
 // What a wait is for, and what it keeps.
 #[tactic(auto, using(std::proofs::Common::append_assoc, lpc_transcript::proofs::Begins::begins_before), unfolding(lpc_states::specs::Rows::awaited))]
 fn put_awaited(into: &mut Vec<u8>, world: &World, row: &WaitRow) -> Result<(), OutOfMemory>
-    requires { all_pass wait_refs (object_stands world.now.births) row.now ≡ true }
+    requires { all_pass wait_refs (object_stands world.now.births) (waiting_of row.now) ≡ true }
     ensures ok { Puts into.old.items into.new.items
-        (awaited (shown_wait (birth_of world.now.births) row.now).kind) result }
+        (awaited (shown_wait (birth_of world.now.births) (waiting_of row.now)).kind) result }
     ensures err { OnErr result (BeginsWith into.new.items into.old.items) }
     ensures capacity { vec_capacity into.old ≤ vec_capacity into.new }
     ensures wanting { OnErr result (LacksRoom into.old
-        (awaited (shown_wait (birth_of world.now.births) row.now).kind)) }
+        (awaited (shown_wait (birth_of world.now.births) (waiting_of row.now)).kind)) }
 {
     match row.wait.kind {
         WaitKind::Request => {
             put(into, b",\"for\":\"reply\",\"message\":")?;
-            put_message(into, row.message.as_slice())
+            put_message(into, row.message())
         }
         WaitKind::Receive => put(into, b",\"for\":\"message\""),
         WaitKind::Listen => put(into, b",\"for\":\"connection request\""),
-        WaitKind::Connect => put_connect(
-            into,
-            world,
-            row.message.as_slice(),
-            &row.offer,
-            &row.accepted,
-        ),
+        WaitKind::Connect => put_connect(into, world, row.message(), row.offer(), row.accepted()),
         WaitKind::Event(raised) => {
             put(into, b",\"for\":\"event\",\"exception\":")?;
             put_raised(into, raised)
@@ -196,18 +191,18 @@ fn put_awaited(into: &mut Vec<u8>, world: &World, row: &WaitRow) -> Result<(), O
 }
 
 fn put_wait(into: &mut Vec<u8>, world: &World, row: &WaitRow) -> Result<(), OutOfMemory>
-    requires { all_pass wait_refs (object_stands world.now.births) row.now ≡ true }
+    requires { all_pass wait_refs (object_stands world.now.births) (waiting_of row.now) ≡ true }
     ensures ok { Puts into.old.items into.new.items
-        (wait_row (shown_wait (birth_of world.now.births) row.now)) result }
+        (wait_row (shown_wait (birth_of world.now.births) (waiting_of row.now))) result }
     ensures err { OnErr result (BeginsWith into.new.items into.old.items) }
     ensures capacity { vec_capacity into.old ≤ vec_capacity into.new }
     ensures wanting { OnErr result (LacksRoom into.old
-        (wait_row (shown_wait (birth_of world.now.births) row.now))) }
+        (wait_row (shown_wait (birth_of world.now.births) (waiting_of row.now)))) }
 {
-    put_decimal_under(into, b"\"wait ", row.thread)?;
+    put_decimal_under(into, b"\"wait ", row.tid)?;
     put_decimal_under(into, b".", row.wait.identifier)?;
     put_decimal_under(into, b"\",\"process\":", row.wait.process)?;
-    put_decimal_under(into, b",\"thread\":", row.thread)?;
+    put_decimal_under(into, b",\"thread\":", row.tid)?;
     put(into, b",\"call\":\"")?;
     put(into, call_of(row.wait.kind).name())?;
     put_name_of_under(into, b"\",\"port\":", world, Object::Port(row.wait.port))?;
@@ -218,6 +213,18 @@ fn put_wait(into: &mut Vec<u8>, world: &World, row: &WaitRow) -> Result<(), OutO
     put(into, b"\n")
 }
 
+// The wait at a place, in the order of waiting.
+fn wait_at(world: &World, place: usize) -> &WaitRow
+    requires { place < length world.now.rows.waits }
+    ensures row { slice_get world.now.rows.waits place
+        ≡ Some (shown_wait (birth_of world.now.births) (waiting_of result.now)) }
+    ensures refs { all_pass wait_refs (object_stands world.now.births) (waiting_of result.now)
+        ≡ true }
+{
+    let (_, row) = world.waits().rows().row(place);
+    row
+}
+
 /// The waits, a line each.
 pub(crate) fn put_waits(into: &mut Vec<u8>, world: &World) -> Result<(), OutOfMemory>
     ensures ok { Puts into.old.items into.new.items (lines wait_row world.now.rows.waits) result }
@@ -225,9 +232,8 @@ pub(crate) fn put_waits(into: &mut Vec<u8>, world: &World) -> Result<(), OutOfMe
     ensures capacity { vec_capacity into.old ≤ vec_capacity into.new }
     ensures wanting { OnErr result (LacksRoom into.old (lines wait_row world.now.rows.waits)) }
 {
-    let rows = world.waits().rows();
-    for row in rows {
-        put_wait(into, world, row)?;
+    for place in 0..world.waits().count() {
+        put_wait(into, world, wait_at(world, place))?;
     }
     Ok(())
 }

@@ -14,11 +14,10 @@ use Rattle.lpc_model.specs.World.{Offer, PortRow, WaitRow, World}
 use Rattle.lpc_slots.specs.Table.{is_key}
 use Rattle.lpc_slots.specs.declared.Key.{Key}
 use Rattle.lpc_waits.specs.Table as waits
-use Rattle.lpc_waits.specs.Table.{WaitTable, first_thread}
+use Rattle.lpc_waits.specs.Table.{WaitTable, WaitingThread, first_thread}
 use Rattle.lpc_waits.specs.declared.Accepted.{Accepted}
 use Rattle.lpc_waits.specs.declared.WaitKind.{WaitKind}
 use Rattle.lpc_waits.specs.declared.WaitKind.TheVariants as wait
-use Rattle.lpc_waits.specs.declared.WaitRow as table
 use Rattle.lpc_rows.specs.Closing.{HasMutualPairs}
 use Rattle.lpc_steps.specs.Closing.{client_across, ends, is_of_connects, withdraws}
 use Rattle.lpc_rows.specs.Kept.{OwnPend, has_queued, is_pending, is_pending_in}
@@ -178,12 +177,12 @@ module _ (n : Births) (rows : World) (lent : WaitTable) (is : AreLent n rows len
   pub none_waits : (e : Ending) (b : Birth) → length lent.rows ≡ 0 → first (ends e b rows) rows.waits ≡ None
   none_waits e b none = ap (first (ends e b rows)) is.waits ∙ by lent.rows none
     where
-      by : (xs : List table.WaitRow) → length xs ≡ 0 → first (ends e b rows) (map (shown_wait f) xs) ≡ None
+      by : (xs : List WaitingThread) → length xs ≡ 0 → first (ends e b rows) (map (shown_wait f) xs) ≡ None
       by [] none = refl
       by (x ∷ xs) none = absurd (omega arith)
 
   -- where the tests of the tables' rows are those of the waits
-  module _ (e : Ending) (b : Birth) (s : table.WaitRow → Bool) (same : (row : table.WaitRow) → all_pass wait_refs (object_stands n) row ≡ true → ends e b rows (shown_wait f row) ≡ s row) where
+  module _ (e : Ending) (b : Birth) (s : WaitingThread → Bool) (same : (row : WaitingThread) → all_pass wait_refs (object_stands n) row ≡ true → ends e b rows (shown_wait f row) ≡ s row) where
     next_of : {r : Option ℕ} → IsMet rows (ends e b rows) r → IsNext rows e b r
     next_of m = record { found = m.found; waits = m.waits }
 
@@ -194,7 +193,7 @@ module _ (n : Births) (rows : World) (lent : WaitTable) (is : AreLent n rows len
         (at ∙ sym (ap (λ o. option_map (λ (x : WaitRow). x.thread) o) firsts ∙ mapped-twice (shown_wait f) (λ (x : WaitRow). x.thread) (first s lent.rows))))
 
   -- the ports of a row, and the kind of its wait
-  module _ (key : Key) (there : stands n.ports key ≡ true) (row : table.WaitRow) (ok : all_pass wait_refs (object_stands n) row ≡ true) where
+  module _ (key : Key) (there : stands n.ports key ≡ true) (row : WaitingThread) (ok : all_pass wait_refs (object_stands n) row ≡ true) where
     port_same : same_birth (name_of n.ports row.wait.port) (name_of n.ports key) ≡ is_key row.wait.port key
     port_same = agrees n.ports row.wait.port key is.apart (grind arith) there
 
@@ -233,19 +232,19 @@ module _ (n : Births) (rows : World) (lent : WaitTable) (is : AreLent n rows len
   name_in other = option_map (name_of n.ports) other
 
   -- a wait that was made on an optional port
-  abbrev is_at : Option Key → table.WaitRow → Bool
+  abbrev is_at : Option Key → WaitingThread → Bool
   is_at other row = passes other (is_key row.wait.port)
 
-  at_same : (other : Option Key) → some_stands n.ports other ≡ true → (row : table.WaitRow) → all_pass wait_refs (object_stands n) row ≡ true → is_the (name_of n.ports row.wait.port) (name_in other) ≡ is_at other row
+  at_same : (other : Option Key) → some_stands n.ports other ≡ true → (row : WaitingThread) → all_pass wait_refs (object_stands n) row ≡ true → is_the (name_of n.ports row.wait.port) (name_in other) ≡ is_at other row
   at_same None there row ok = refl
   at_same (Some key) there row ok = port_same key there row ok
 
-  none-first : (p : table.WaitRow → Bool) (xs : List table.WaitRow) → None ≡ option_map (λ (row : table.WaitRow). row.thread) (first (λ row. p row && false) xs)
+  none-first : (p : WaitingThread → Bool) (xs : List WaitingThread) → None ≡ option_map (λ (row : WaitingThread). row.thread) (first (λ row. p row && false) xs)
   none-first p [] = refl
   none-first p (x ∷ xs) = none (p x) (none-first p xs)
     where
-      none : (a : Bool) → None ≡ option_map (λ (row : table.WaitRow). row.thread) (first (λ row. p row && false) xs)
-          → None ≡ option_map (λ (row : table.WaitRow). row.thread) (cond (a && false) (Some x) (first (λ row. p row && false) xs))
+      none : (a : Bool) → None ≡ option_map (λ (row : WaitingThread). row.thread) (first (λ row. p row && false) xs)
+          → None ≡ option_map (λ (row : WaitingThread). row.thread) (cond (a && false) (Some x) (first (λ row. p row && false) xs))
       none true rest = rest
       none false rest = rest
 

@@ -10,9 +10,9 @@ use lpc_names::{Found, Names, Node};
 use lpc_ports::{PortKind, Ports};
 use lpc_procs::Procs;
 use lpc_sid::Token;
-use lpc_slots::Key;
+use lpc_slots::{Key, Slots};
 use lpc_tokens::TokenNames;
-use lpc_waits::{Wait, WaitKind, Waits};
+use lpc_waits::{Wait, WaitKind, WaitRow, Waits};
 use std::process::Abort;
 use std::test::Fail;
 
@@ -41,12 +41,29 @@ fn receive(process: u32) -> Wait {
     }
 }
 
+// A thread's row has this key. Answers the key of the row behind it on the chain of all waits.
+fn behind(rt: &impl Abort, rows: &Slots<WaitRow>, key: Option<Key>, tid: u32) -> Option<Key> {
+    let found = match key {
+        Some(key) => rows.get(key),
+        None => None,
+    };
+    match found {
+        Some(row) => {
+            assert!(rt; row.tid == tid);
+            row.links.after
+        }
+        None => {
+            assert!(rt; false);
+            None
+        }
+    }
+}
+
 // Thread 8 waits longest, and then thread 4.
 fn shows_waits(rt: &impl Abort, waits: &Waits) {
-    match waits.rows() {
-        [one, two] => assert!(rt; one.thread == 8 && two.thread == 4),
-        _ => assert!(rt; false),
-    }
+    let (rows, order) = waits.lent();
+    let second = behind(rt, rows, order.front(), 8);
+    assert!(rt; behind(rt, rows, second, 4).is_none());
 }
 
 #[test]

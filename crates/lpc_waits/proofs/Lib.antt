@@ -1,7 +1,11 @@
 pub mod Apart
-pub mod Counting
-pub mod Keeping
-pub mod Leading
+pub mod Begun
+pub mod Beside
+pub mod Bucketed
+pub mod Chained
+pub mod Changed
+pub mod Found
+pub mod Lists
 pub mod Marks
-pub mod Placing
+pub mod Precede
 pub mod Walked

@@ -1,3 +1,8 @@
+pub mod Buckets
 pub mod Kept
-pub mod Places
+pub mod Layout
+pub mod Lent
+pub mod Numbers
+pub mod Sought
 pub mod Table
+pub mod Walk

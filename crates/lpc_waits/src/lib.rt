@@ -1,19 +1,27 @@
 //! The waits of threads, in the order of waiting.
 #![tactic(auto)]
 
-ghost use Rattle.std.specs.Prelude.{◌≡◌, ◌+◌, ◌<◌, ◌-◌, ◌≤◌, ◌^◌, ◌++◌, ◌∷◌, [], length, OnOk, OnErr, Some, None, IfSome, IsSome, option_copied, option_map, is_some, slice_get, if◌then◌else◌};
+ghost use Rattle.std.specs.Prelude.{◌≡◌, ◌↔◌, ◌+◌, ◌<◌, ◌-◌, ◌≤◌, ◌^◌, ◌++◌, ◌∷◌, [], length, OnOk, OnErr, Some, None, IfSome, IsSome, option_copied, option_map, is_some, slice_get, if◌then◌else◌};
 ghost use Rattle.std.specs.List.{position};
 ghost use Rattle.lpc_base.specs.Room.{grown_room};
 ghost use Rattle.lpc_base.specs.Rows.{count, without, has};
 ghost use Rattle.lpc_base.specs.declared.limits.TheConstants.{MESSAGE_LIMIT};
-ghost use Rattle.lpc_waits.specs.Table.{accepted_of, accepted_port, accepted_port_in, begun, first_thread, is_accepted, is_accepted_at, is_accepted_on, is_connect, is_connect_of, is_event, is_event_on, is_made_at, is_made_on, is_mark, is_of, is_offered, is_offered_to, is_offering, is_receive, is_receive_on, is_receiver_at, is_request, is_request_on, is_taker_on, is_unreceived_event_in, is_unreceived_request_in, is_wait_at, message_of, offer_of, raised_by, raised_in, received, row_of, takes, with_accepted, with_message, with_offer, with_row};
+ghost use Rattle.lpc_waits.specs.Lent.{IsOrder, waiting_of, waits_of};
+ghost use Rattle.lpc_waits.specs.Sought.{earlier, is_before, is_found_at, is_unmarked_in, is_unmarked_on};
+ghost use Rattle.lpc_waits.specs.Table.{accepted_of, accepted_port, accepted_port_in, begun, begun_row, first_thread, is_accepted, is_accepted_at, is_accepted_on, is_connect, is_connect_of, is_event, is_event_on, is_made_at, is_made_on, is_mark, is_of, is_offered, is_offered_to, is_offering, is_receive, is_receive_on, is_receiver_at, is_request, is_request_on, is_taker_on, is_unreceived_event_in, is_unreceived_request_in, is_wait_at, message_of, offer_of, raised_by, raised_in, received, row_of, takes, with_accepted, with_message, with_offer, with_row};
 
-mod places;
+mod buckets;
+mod chains;
+mod linked;
+mod numbers;
+mod sought;
 
-use crate::places::Places;
+use crate::chains::Chains;
+use crate::numbers::numbers_of;
+use crate::sought::Sought;
 use arrayvec::ArrayVec;
-use lpc_base::{OutOfMemory, held, reserve_rows};
-use lpc_slots::Key;
+use lpc_base::{OutOfMemory, held};
+use lpc_slots::{Chain, Key, Links, Slots};
 use std::alloc::Global;
 use std::marker::Model;
 
@@ -155,49 +163,94 @@ pub struct Accepted {
     pub vsize: Option<u32>,
 }
 
-/// A row of the table: a thread that waits.
+/// A row of the table: a thread that waits, and its neighbours on the chains on which it stands.
 #[derive(Drop)]
 pub struct WaitRow {
     /// The number of the thread.
-    pub thread: u32,
+    pub tid: u32,
     /// What it waits for, and where.
     pub wait: Wait,
+    /// Its neighbours among all waits, in the order of waiting.
+    pub links: Links,
+    // The bytes of the message that was sent, with its header; none until they are set.
+    message: ArrayVec<u8, 256>,
+    // What a connect offers to show to the server; none until it is set.
+    offer: Option<Offer>,
+    // What a connect was accepted with; none until it is.
+    accepted: Option<Accepted>,
+    // Its neighbours on the chain by threads, on the one by ports on which waits were made, on the one by queues, and on
+    // the one by processes.
+    by_thread: Links,
+    by_port: Links,
+    by_queue: Links,
+    by_process: Links,
+}
+
+impl WaitRow {
+    // The row of a wait that begins: it stands on no chain yet.
+    fn begun(tid: u32, wait: Wait) -> WaitRow
+        ensures { waiting_of result ≡ begun_row tid wait }
+    {
+        WaitRow {
+            tid,
+            wait,
+            links: Links::default(),
+            message: ArrayVec::new(),
+            offer: None,
+            accepted: None,
+            by_thread: Links::default(),
+            by_port: Links::default(),
+            by_queue: Links::default(),
+            by_process: Links::default(),
+        }
+    }
+
     /// The bytes of the message that was sent, with its header; none until they are set.
-    pub message: ArrayVec<u8, 256>,
+    pub fn message(&self) -> &[u8]
+        ensures value { result.now ≡ (waiting_of self.now).message.items }
+        ensures bound { length result.now ≤ MESSAGE_LIMIT }
+    {
+        self.message.as_slice()
+    }
+
     /// What a connect offers to show to the server; none until it is set.
-    pub offer: Option<Offer>,
+    pub fn offer(&self) -> &Option<Offer>
+        ensures { result.now ≡ (waiting_of self.now).offer }
+    {
+        &self.offer
+    }
+
     /// What a connect was accepted with; none until it is.
-    pub accepted: Option<Accepted>,
+    pub fn accepted(&self) -> &Option<Accepted>
+        ensures { result.now ≡ (waiting_of self.now).accepted }
+    {
+        &self.accepted
+    }
 }
 
 /// The waits of all threads, in the order of waiting. A thread has one at most.
 ///
-/// No call but `reserve` takes memory. The wait of a thread is found by the thread's number without a walk: contracts
-/// don't see the places to which the numbers lead, nor how many waits are of events and how many have an offer, which is
-/// kept so that none of them is looked for where there is none. This project's own.
+/// No call but `reserve` takes memory. The wait of a thread is found by the thread's number, and the waits at a port by
+/// its key, each on a chain of rows. Contracts see no chain but that of all waits, which is lent; nor do they see how many
+/// waits are of events and how many have an offer, which is kept so that none of them is looked for where there is none.
+/// This project's own.
 #[derive(Drop)]
 pub struct Waits {
-    rows: Vec<WaitRow>,
-    places: Places,
+    rows: Slots<WaitRow>,
+    chains: Chains,
     events: usize,
     offering: usize,
-    made: u64,
 }
 
 impl Model for Waits {
-    ghost use Rattle.std.specs.Prelude.{◌-◌, min, vec_len, vec_capacity};
-    ghost use Rattle.lpc_waits.specs.Kept.{AreCounted};
+    ghost use Rattle.lpc_waits.specs.Kept.{AreKept, seen};
     ghost use Rattle.lpc_waits.specs.Table.{WaitTable};
 
     ghost Value = { WaitTable };
 
-    ghost view = { λ s. record {
-      rows = s.rows.items;
-      spare = min (vec_capacity s.rows - vec_len s.rows) s.places.spare;
-      made = s.made;
-    } };
+    ghost view = { λ s. seen s.rows };
 
-    ghost invariant = { λ s. AreCounted s.places.placed s.rows.items s.events s.offering };
+    ghost invariant = { λ s. AreKept s.rows s.chains s.events s.offering };
 }
 
 impl Waits {
@@ -206,11 +259,10 @@ impl Waits {
         ensures { result ≡ record { rows = []; spare = 0; made = 0 } }
     {
         Waits {
-            rows: Vec::new(alloc),
-            places: Places::new(alloc),
+            rows: Slots::new(alloc),
+            chains: Chains::new(alloc),
             events: 0,
             offering: 0,
-            made: 0,
         }
     }
 
@@ -228,8 +280,8 @@ impl Waits {
             self.new.spare ≤ grown_room self.old.spare more rows }
         ensures enough { more ≤ self.old.spare → self.new.spare ≡ self.old.spare }
     {
-        reserve_rows(&mut self.rows, more)?;
-        self.places.reserve(more)
+        self.chains.suit(&mut self.rows, more)?;
+        self.rows.reserve(more)
     }
 
     /// Adds the wait of a thread behind the others. It has no message yet, offers nothing, and isn't accepted.
@@ -241,30 +293,41 @@ impl Waits {
         requires few { self.old.made < 2 ^ 64 - 1 }
         ensures table { self.new ≡ begun self.old tid wait }
     {
-        self.made += 1;
-        self.places.add(tid, self.rows.len());
+        // No more waits stand than were made, so one more can be counted.
+        let _ = self.rows.count();
         self.events += wait.kind.event_count();
-        self.rows.push_reserved(WaitRow {
-            thread: tid,
-            wait,
-            message: ArrayVec::new(),
-            offer: None,
-            accepted: None,
-        });
+        let key = self.rows.insert_reserved(WaitRow::begun(tid, wait));
+        self.chains
+            .push(&mut self.rows, key, numbers_of(tid, &wait));
     }
 
     /// How many waits there are.
     pub fn count(&self) -> usize
         ensures { result ≡ length self.now.rows }
     {
-        self.rows.len()
+        self.rows.count()
     }
 
-    /// The rows of all waits. Places go from 0 in the order of waiting.
-    pub fn rows(&self) -> &[WaitRow]
-        ensures rows { result.now ≡ self.now.rows }
+    /// The rows of the waits, in the order of waiting.
+    pub fn rows(&self) -> &Slots<WaitRow>
+        ensures { waits_of result.now ≡ self.now.rows }
     {
         &self.rows
+    }
+
+    /// The chain of all waits, in the order of waiting: it is empty exactly where no thread waits.
+    pub fn order(&self) -> &Chain<0>
+        ensures { result.now.first ≡ None ↔ self.now.rows ≡ [] }
+    {
+        &self.chains.order
+    }
+
+    /// The rows of the waits, and over them the chain of all waits, in the order of waiting.
+    pub fn lent(&self) -> (&Slots<WaitRow>, &Chain<0>)
+        ensures rows { waits_of result.0.now ≡ self.now.rows }
+        ensures order { IsOrder result.0.now result.1.now }
+    {
+        (&self.rows, &self.chains.order)
     }
 
     /// The wait of a thread: None exactly where it has none.
@@ -272,7 +335,7 @@ impl Waits {
         ensures value { option_copied result ≡ option_map (λ row. row.wait) (row_of self.now tid) }
         ensures one { count (is_of tid) self.now.rows ≤ 1 }
     {
-        match self.row(tid) {
+        match self.find(tid) {
             Some(row) => Some(&row.wait),
             None => None,
         }
@@ -282,7 +345,7 @@ impl Waits {
     pub fn accepted_port(&self, tid: u32) -> Option<Key>
         ensures port { result ≡ accepted_port self.now tid }
     {
-        accepted_port_in(self.row(tid)?)
+        accepted_port_in(self.find(tid)?)
     }
 
     /// Ends the wait of a thread, and answers it: None exactly where the thread has none. Its room is spare then.
@@ -293,11 +356,15 @@ impl Waits {
             ≡ (if is_some result then self.old.spare + 1 else self.old.spare) }
         ensures made { self.new.made ≡ self.old.made }
     {
-        let place = self.places.end(tid)?;
-        let row = self.rows.remove(place);
-        self.events -= row.wait.kind.event_count();
-        self.offering -= offer_count(row.offer);
-        Some(row.wait)
+        let key = self.chains.of_thread(&self.rows, tid)?;
+        let standing = self.rows.get(key)?;
+        let wait = standing.wait;
+        self.events -= wait.kind.event_count();
+        self.offering -= offer_count(standing.offer);
+        self.chains
+            .unlink(&mut self.rows, key, numbers_of(tid, &wait));
+        self.rows.remove(key);
+        Some(wait)
     }
 
     /// Notes that the request, the event or the connection request of a waiting thread is received.
@@ -305,8 +372,11 @@ impl Waits {
         requires waits { IsSome (row_of self.old tid) }
         ensures table { self.new ≡ with_row self.old tid received }
     {
-        let place = self.place(tid);
-        self.rows[place].wait.received = true;
+        if let Some(key) = self.chains.of_thread(&self.rows, tid) {
+            if let Some(standing) = self.rows.get_mut(key) {
+                standing.wait.received = true;
+            }
+        }
     }
 
     /// The thread that takes a message which enters the queue of a port: None exactly where there is none.
@@ -317,24 +387,14 @@ impl Waits {
     pub fn first_on(&self, queue: Key, with_listens: bool) -> Option<u32>
         ensures { result ≡ first_thread (is_taker_on queue with_listens) self.now }
     {
-        for row in &self.rows {
-            if row.wait.kind.takes(with_listens) && row.wait.queue == queue {
-                return Some(row.thread);
-            }
-        }
-        None
+        self.thread_in(queue, Sought::Taker(with_listens), &[])
     }
 
     /// A row names this port: a wait was made on it, or is on its queue.
     pub fn is_named(&self, port: Key) -> bool
         ensures { result ≡ has (is_wait_at port) self.now.rows }
     {
-        for row in &self.rows {
-            if row.wait.port == port || row.wait.queue == port {
-                return true;
-            }
-        }
-        false
+        self.is_at(port, Sought::Taker(true)) || self.is_at(port, Sought::Sent)
     }
 
     /// The thread that waits on a port with an accepted connect, the one that has waited longest: None exactly where
@@ -342,12 +402,7 @@ impl Waits {
     pub fn accepted_on(&self, port: Key) -> Option<u32>
         ensures { result ≡ first_thread (is_accepted_on port) self.now }
     {
-        for row in &self.rows {
-            if is_accepted(row) && row.wait.port == port {
-                return Some(row.thread);
-            }
-        }
-        None
+        self.thread_on(port, Sought::Accepted, &[])
     }
 
     /// The thread that waits with an accepted connect made on a port, or on the other, where there is one, the one that
@@ -355,12 +410,17 @@ impl Waits {
     pub fn accepted_at(&self, port: Key, other: Option<Key>) -> Option<u32>
         ensures { result ≡ first_thread (is_accepted_at port other) self.now }
     {
-        for row in &self.rows {
-            if is_accepted(row) && is_made_at(row, port, other) {
-                return Some(row.thread);
-            }
+        let here = self
+            .chains
+            .first_on(&self.rows, port, Sought::Accepted, &[]);
+        match other {
+            Some(other) => thread_of(earlier(
+                here,
+                self.chains
+                    .first_on(&self.rows, other, Sought::Accepted, &[]),
+            )),
+            None => thread_of(here),
         }
-        None
     }
 
     /// The thread that waits with a receive or a listen made on a port, or on the queue that the port is, the one that
@@ -368,12 +428,14 @@ impl Waits {
     pub fn receiver_at(&self, port: Key) -> Option<u32>
         ensures { result ≡ first_thread (is_receiver_at port) self.now }
     {
-        for row in &self.rows {
-            if row.wait.kind.takes(true) && (row.wait.port == port || row.wait.queue == port) {
-                return Some(row.thread);
-            }
-        }
-        None
+        let made = self
+            .chains
+            .first_on(&self.rows, port, Sought::Taker(true), &[]);
+        thread_of(earlier(
+            made,
+            self.chains
+                .first_in(&self.rows, port, Sought::Taker(true), &[]),
+        ))
     }
 
     /// The thread that waits with a receive made on a port, the one that has waited longest: None exactly where there
@@ -381,12 +443,7 @@ impl Waits {
     pub fn receive_on(&self, port: Key) -> Option<u32>
         ensures { result ≡ first_thread (is_receive_on port) self.now }
     {
-        for row in &self.rows {
-            if row.wait.kind.is_receive() && row.wait.port == port {
-                return Some(row.thread);
-            }
-        }
-        None
+        self.thread_on(port, Sought::Receive, &[])
     }
 
     /// The thread that waits with a request made on a port, received or not, the one that has waited longest: None
@@ -394,12 +451,7 @@ impl Waits {
     pub fn request_on(&self, port: Key) -> Option<u32>
         ensures { result ≡ first_thread (is_request_on port) self.now }
     {
-        for row in &self.rows {
-            if row.wait.kind.is_request() && row.wait.port == port {
-                return Some(row.thread);
-            }
-        }
-        None
+        self.thread_on(port, Sought::Request, &[])
     }
 
     /// The thread that waits with a request on a queue that isn't received, the one that has waited longest: None
@@ -407,12 +459,7 @@ impl Waits {
     pub fn unreceived_request_in(&self, queue: Key) -> Option<u32>
         ensures { result ≡ first_thread (is_unreceived_request_in queue) self.now }
     {
-        for row in &self.rows {
-            if row.wait.kind.is_request() && row.wait.queue == queue && !row.wait.received {
-                return Some(row.thread);
-            }
-        }
-        None
+        self.thread_in(queue, Sought::UnreceivedRequest, &[])
     }
 
     /// The thread that waits with an event sent on a port, received or not, and isn't among the marked ones, the one
@@ -423,16 +470,7 @@ impl Waits {
         if self.events == 0 {
             return None;
         }
-        let mut next = 0;
-        for row in &self.rows {
-            if row.wait.port == port && row.wait.kind.is_event() {
-                match mark_place(marks, next, row.thread) {
-                    Some(place) => next = place + 1,
-                    None => return Some(row.thread),
-                }
-            }
-        }
-        None
+        self.thread_on(port, Sought::Event, marks)
     }
 
     /// The thread that waits with an event on a queue that isn't received, and isn't among the marked ones, the one that
@@ -443,23 +481,14 @@ impl Waits {
         if self.events == 0 {
             return None;
         }
-        let mut next = 0;
-        for row in &self.rows {
-            if row.wait.queue == queue && !row.wait.received && row.wait.kind.is_event() {
-                match mark_place(marks, next, row.thread) {
-                    Some(place) => next = place + 1,
-                    None => return Some(row.thread),
-                }
-            }
-        }
-        None
+        self.thread_in(queue, Sought::UnreceivedEvent, marks)
     }
 
     /// The exception of whose event a thread waits: None exactly where the thread doesn't wait for one.
     pub fn raised(&self, tid: u32) -> Option<Raised>
         ensures raised { result ≡ raised_by self.now tid }
     {
-        self.row(tid)?.wait.kind.raised()
+        self.find(tid)?.wait.kind.raised()
     }
 
     /// The thread that waits with a connect on a queue that isn't accepted, received or not, the one that has waited
@@ -467,12 +496,7 @@ impl Waits {
     pub fn offered_to(&self, queue: Key) -> Option<u32>
         ensures { result ≡ first_thread (is_offered_to queue) self.now }
     {
-        for row in &self.rows {
-            if is_offered(row) && row.wait.queue == queue {
-                return Some(row.thread);
-            }
-        }
-        None
+        self.thread_in(queue, Sought::Offered, &[])
     }
 
     /// The bytes of the message with which a waiting thread waits; none until they are set.
@@ -481,7 +505,7 @@ impl Waits {
         ensures value { message_of self.now tid ≡ Some result.now }
         ensures bound { length result.now ≤ MESSAGE_LIMIT }
     {
-        self.rows[self.place(tid)].message.as_slice()
+        self.get(tid).message.as_slice()
     }
 
     /// Gives a waiting thread's wait the bytes of a message: no more than a message holds.
@@ -490,25 +514,25 @@ impl Waits {
         requires bound { length bytes.now ≤ MESSAGE_LIMIT }
         ensures table { self.new ≡ with_row self.old tid (with_message bytes.now) }
     {
-        let place = self.place(tid);
-        self.rows[place].message = held(bytes);
+        if let Some(key) = self.chains.of_thread(&self.rows, tid) {
+            if let Some(standing) = self.rows.get_mut(key) {
+                standing.message = held(bytes);
+            }
+        }
     }
 
     /// How many threads of a process wait in a connect.
     pub fn connects_of(&self, process: u32) -> usize
         ensures { result ≡ count (is_connect_of process) self.now.rows }
     {
-        self.rows
-            .iter()
-            .filter(|row| row.wait.kind.is_connect() && row.wait.process == process)
-            .count()
+        self.chains.connects_of(&self.rows, process)
     }
 
     /// How many waits were made on a port.
     pub fn made_on(&self, port: Key) -> usize
         ensures { result ≡ count (is_made_on port) self.now.rows }
     {
-        self.rows.iter().filter(|row| row.wait.port == port).count()
+        self.chains.count_on(&self.rows, port)
     }
 
     /// What a waiting thread's connect offers to show to the server: None where it offers nothing, and until it is set.
@@ -516,7 +540,7 @@ impl Waits {
         requires waits { IsSome (row_of self.now tid) }
         ensures value { offer_of self.now tid ≡ Some (option_copied result) }
     {
-        self.rows[self.place(tid)].offer.as_ref()
+        self.get(tid).offer.as_ref()
     }
 
     /// Gives a waiting thread's wait what its connect offers, or takes that away.
@@ -524,10 +548,15 @@ impl Waits {
         requires waits { IsSome (row_of self.old tid) }
         ensures table { self.new ≡ with_row self.old tid (with_offer offer) }
     {
-        let place = self.place(tid);
-        let others = self.offering - offer_count(self.rows[place].offer);
-        self.rows[place].offer = offer;
-        self.offering = others + offer_count(offer);
+        // No more offers are counted than there are rows.
+        let _ = self.rows.count();
+        if let Some(key) = self.chains.of_thread(&self.rows, tid) {
+            if let Some(standing) = self.rows.get_mut(key) {
+                let others = self.offering - offer_count(standing.offer);
+                standing.offer = offer;
+                self.offering = others + offer_count(offer);
+            }
+        }
     }
 
     /// How many waiting connects offer a part of the section and aren't accepted. What an accepted connect offered is
@@ -538,10 +567,14 @@ impl Waits {
         if self.offering == 0 {
             return 0;
         }
-        self.rows
-            .iter()
-            .filter(|row| is_offering(row, section))
-            .count()
+        let mut offers = 0;
+        for place in 0..self.rows.count() {
+            let (_, standing) = self.rows.row(place);
+            if is_offering(standing, section) {
+                offers += 1;
+            }
+        }
+        offers
     }
 
     /// A waiting connect that isn't accepted offers a part of the section.
@@ -551,8 +584,9 @@ impl Waits {
         if self.offering == 0 {
             return false;
         }
-        for row in &self.rows {
-            if is_offering(row, section) {
+        for place in 0..self.rows.count() {
+            let (_, standing) = self.rows.row(place);
+            if is_offering(standing, section) {
                 return true;
             }
         }
@@ -564,7 +598,7 @@ impl Waits {
         requires waits { IsSome (row_of self.now tid) }
         ensures value { accepted_of self.now tid ≡ Some (option_copied result) }
     {
-        self.rows[self.place(tid)].accepted.as_ref()
+        self.get(tid).accepted.as_ref()
     }
 
     /// Gives a waiting thread's wait what its connect was accepted with, or takes that away.
@@ -572,31 +606,91 @@ impl Waits {
         requires waits { IsSome (row_of self.old tid) }
         ensures table { self.new ≡ with_row self.old tid (with_accepted accepted) }
     {
-        let place = self.place(tid);
-        self.rows[place].accepted = accepted;
+        if let Some(key) = self.chains.of_thread(&self.rows, tid) {
+            if let Some(standing) = self.rows.get_mut(key) {
+                standing.accepted = accepted;
+            }
+        }
     }
 
     // The row of a thread, if it waits.
-    fn row(&self, tid: u32) -> Option<&WaitRow>
-        ensures row { option_copied result ≡ row_of self.now tid }
+    fn find(&self, tid: u32) -> Option<&WaitRow>
+        ensures row { option_map waiting_of (option_copied result) ≡ row_of self.now tid }
         ensures one { count (is_of tid) self.now.rows ≤ 1 }
     {
-        match self.places.place(tid) {
-            Some(place) => Some(&self.rows[place]),
-            None => None,
-        }
+        let key = self.chains.of_thread(&self.rows, tid)?;
+        self.rows.get(key)
     }
 
-    // Where the wait of a waiting thread stands.
-    fn place(&self, tid: u32) -> usize
+    // The row of a thread that waits.
+    fn get(&self, tid: u32) -> &WaitRow
         requires { IsSome (row_of self.now tid) }
-        ensures { Some result ≡ position (is_of tid) self.now.rows }
+        ensures { row_of self.now tid ≡ Some (waiting_of result.now) }
     {
-        match self.places.place(tid) {
-            Some(place) => place,
+        match self.find(tid) {
+            Some(row) => row,
             None => unreachable!(),
         }
     }
+
+    // The thread of the first wait that was made on a port, is such as is sought, and isn't of a marked thread.
+    fn thread_on(&self, port: Key, sought: Sought, marks: &[u32]) -> Option<u32>
+        ensures { result ≡ first_thread (is_unmarked_on port sought marks.now) self.now }
+    {
+        thread_of(self.chains.first_on(&self.rows, port, sought, marks))
+    }
+
+    // The thread of the first wait that is on a queue, is such as is sought, and isn't of a marked thread.
+    fn thread_in(&self, queue: Key, sought: Sought, marks: &[u32]) -> Option<u32>
+        ensures { result ≡ first_thread (is_unmarked_in queue sought marks.now) self.now }
+    {
+        thread_of(self.chains.first_in(&self.rows, queue, sought, marks))
+    }
+
+    // There is a wait that was made on a port, or is on its queue, and is such as is sought.
+    fn is_at(&self, port: Key, sought: Sought) -> bool
+        ensures { result ≡ has (is_found_at port sought) self.now.rows }
+    {
+        self.chains
+            .first_on(&self.rows, port, sought, &[])
+            .is_some()
+            || self
+                .chains
+                .first_in(&self.rows, port, sought, &[])
+                .is_some()
+    }
+}
+
+// The thread of what was found.
+fn thread_of(found: Option<(Key, u32)>) -> Option<u32>
+    ensures { result ≡ option_map (λ row. row.1) found }
+{
+    match found {
+        Some((_, thread)) => Some(thread),
+        None => None,
+    }
+}
+
+// What was made before the other; where one isn't there, the other.
+fn earlier(one: Option<(Key, u32)>, two: Option<(Key, u32)>) -> Option<(Key, u32)>
+    ensures { result ≡ earlier one two }
+{
+    match (one, two) {
+        (Some(first), Some(second)) => Some(if is_before(first.0, second.0) {
+            first
+        } else {
+            second
+        }),
+        (Some(first), None) => Some(first),
+        (None, second) => second,
+    }
+}
+
+// A key was made before another.
+fn is_before(one: Key, two: Key) -> bool
+    ensures { result ≡ is_before one two }
+{
+    one.generation < two.generation || one.generation == two.generation && one.index < two.index
 }
 
 // Where the thread stands among the marked ones; None exactly where it isn't among them. It is looked for first where it
@@ -622,14 +716,14 @@ fn first_mark(marks: &[u32], tid: u32) -> Option<usize>
 
 // The row is of a connect that was accepted.
 fn is_accepted(row: &WaitRow) -> bool
-    ensures { result ≡ is_accepted row.now }
+    ensures { result ≡ is_accepted (waiting_of row.now) }
 {
     row.wait.kind.is_connect() && row.accepted.is_some()
 }
 
 // The row is of a connect that isn't accepted.
 fn is_offered(row: &WaitRow) -> bool
-    ensures { result ≡ is_offered row.now }
+    ensures { result ≡ is_offered (waiting_of row.now) }
 {
     row.wait.kind.is_connect() && row.accepted.is_none()
 }
@@ -644,7 +738,7 @@ fn offer_count(offer: Option<Offer>) -> usize
 
 // The row is of a connect that isn't accepted and offers a part of the section.
 fn is_offering(row: &WaitRow, section: Key) -> bool
-    ensures { result ≡ is_offering section row.now }
+    ensures { result ≡ is_offering section (waiting_of row.now) }
 {
     match row.offer {
         Some(offer) => is_offered(row) && offer.section == section,
@@ -652,19 +746,9 @@ fn is_offering(row: &WaitRow, section: Key) -> bool
     }
 }
 
-// The row's wait was made on this port, or on the other, where there is one.
-fn is_made_at(row: &WaitRow, port: Key, other: Option<Key>) -> bool
-    ensures { result ≡ is_made_at port other row.now }
-{
-    match other {
-        Some(other) => row.wait.port == port || row.wait.port == other,
-        None => row.wait.port == port,
-    }
-}
-
 // The port of an accepted connect.
 fn accepted_port_in(row: &WaitRow) -> Option<Key>
-    ensures { result ≡ accepted_port_in row.now }
+    ensures { result ≡ accepted_port_in (waiting_of row.now) }
 {
     if is_accepted(row) {
         Some(row.wait.port)

@@ -1,21 +1,52 @@
-use Rattle.std.proofs.Common.{◌∙◌, None, refl, arith}
-use Rattle.lpc_waits.specs.declared.WaitRow.{WaitRow}
-use Rattle.lpc_waits.specs.Kept.{is_event_row}
-use Rattle.lpc_waits.proofs.Counting.{counted-push, few-counted}
-use Rattle.lpc_waits.proofs.Keeping.{unled}
+use Rattle.std.proofs.Common.{◌≡◌, ◌∙◌, ◌+◌, ◌-◌, ◌++◌, ◌∷◌, [], None, ap, sym, arith}
+use Rattle.lpc_base.specs.Rows.{first}
+use Rattle.lpc_waits.specs.Table.{WaitingThread, is_of}
+use Rattle.lpc_waits.specs.Kept.{has_offer, is_event_row}
+use Rattle.lpc_waits.specs.Lent.{keyed, shown, waiting_of}
+use Rattle.lpc_waits.specs.Layout.{row_numbers}
+use Rattle.lpc_waits.proofs.Begun.{few_counted, kept_pushed, keyed_away, on_made, seen_pushed, there}
+use Rattle.lpc_waits.proofs.Chained.{keyed_distinct}
+use Rattle.lpc_waits.proofs.Changed.{one-if}
 use Rattle.lpc_waits.proofs.Waits.add.Goals as goal
 
-pub add-requires-clause-new : goal.add-requires-clause-new
-add-requires-clause-new c =
-    unled c.self.inside.places.placed c.self.inside.rows.items c.self.invariant.all c.args.tid (rw (← c.self.view_is) at c.requires.alone)
+pub overflow_add-self : goal.overflow_add-self
+overflow_add-self c =
+    let few = few_counted is_event_row c.self.inside.rows c.self.inside.events c.self.invariant.events_are in
+    omega (arith, few, c.count.ensures.number, c.count.ensures.most, c.event_count.ensures.most, (rw (← c.self.view_is) at c.requires.few))
 
-pub overflow_add-self-2 : goal.overflow_add-self-2
-overflow_add-self-2 c =
+pub push-requires-clause-present : goal.push-requires-clause-present
+push-requires-clause-present c =
     let rows = c.self.inside.rows in
-    omega (arith, few-counted is_event_row rows.items c.self.inside.events c.self.invariant.events_are, c.event_count.ensures.most, rows.ok.0, rows.ok.1, rows.small)
+    let key = c.insert_reserved-key.result in
+    let mid = c.insert_reserved-key.new.self in
+    let made = c.insert_reserved-key.ensures in
+    let standing = c.begun.result in
+    there rows key standing made.vacant mid made.table made.listed
 
 pub invariant_of-self : goal.invariant_of-self
 invariant_of-self c =
-    let row : WaitRow = record { thread = c.args.tid; wait = c.args.wait; message = c.new.result; offer = None; accepted = None } in
+    let rows = c.self.inside.rows in
+    let key = c.insert_reserved-key.result in
+    let mid = c.insert_reserved-key.new.self in
+    let made = c.insert_reserved-key.ensures in
+    let standing = c.begun.result in
     let none = rw (← c.self.view_is) at c.requires.alone in
-    rw c.push_reserved.ensures.items (counted-push c.self.inside.places.placed c.add.new.self.placed c.self.inside.rows.items row c.self.inside.events c.self.inside.offering c.len.result c.event_count.result c.self.invariant none (c.len.ensures ∙ c.self.inside.rows.ok.0) c.add.ensures.places c.add.ensures.many refl c.event_count.ensures.count)
+    let is_none : first (is_of (waiting_of standing).thread) (shown (keyed rows)) ≡ None = ap (λ (row : WaitingThread). first (is_of row.thread) (shown (keyed rows))) c.begun.ensures ∙ none in
+    let own = ap row_numbers c.begun.ensures ∙ sym c.numbers_of.ensures in
+    let on = c.push.ensures.enters (keyed rows) (waiting_of standing) (on_made rows key standing made.vacant mid made.table made.listed c.self.inside.chains c.self.invariant.on) (keyed_distinct rows) (keyed_away rows key standing made.vacant) own in
+    let one = c.event_count.ensures.count ∙ sym (ap (λ (row : WaitingThread). one-if (is_event_row row)) c.begun.ensures) in
+    kept_pushed rows key standing made.vacant mid made.table made.listed c.push.new.rows c.push.ensures.rows c.self.inside.chains c.push.new.self c.self.inside.events c.self.inside.offering c.event_count.result c.self.invariant is_none on c.push.ensures.wide one (ap has_offer c.begun.ensures)
+
+pub returns : goal.returns
+returns c =
+    let rows = c.self.inside.rows in
+    let key = c.insert_reserved-key.result in
+    let mid = c.insert_reserved-key.new.self in
+    let made = c.insert_reserved-key.ensures in
+    let standing = c.begun.result in
+    record {
+      table =
+          rw (← c.self.view_is)
+          (seen_pushed rows key standing made.vacant mid made.table made.listed c.push.new.rows c.push.ensures.rows
+          ∙ (λ i. record { rows = shown (keyed rows) ++ c.begun.ensures i ∷ []; spare = rows.spare - 1; made = rows.made + 1 }));
+    }

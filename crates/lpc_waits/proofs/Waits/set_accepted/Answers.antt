@@ -1,18 +1,36 @@
-use Rattle.std.proofs.Common.{refl, sym, ap, List, vec_capacity, vec_len, ◌-◌}
-use Rattle.std.specs.Prelude.{min}
-use Rattle.lpc_waits.specs.declared.WaitRow.{WaitRow}
+use Rattle.std.proofs.Common.{refl, sym, ap, ◌∙◌, is_some, true≢false}
+use Rattle.lpc_waits.specs.Sought.{is_by}
 use Rattle.lpc_waits.specs.Table.{with_accepted}
-use Rattle.lpc_waits.proofs.Apart.{changed_at}
-use Rattle.lpc_waits.proofs.Counting.{counted-change}
+use Rattle.lpc_waits.proofs.Changed.{kept_changed, same_offers, seen_changed}
+use Rattle.lpc_waits.proofs.Found.{found_there, row_missed}
 use Rattle.lpc_waits.proofs.Waits.set_accepted.Goals as goal
 
 pub invariant_of-self : goal.invariant_of-self
 invariant_of-self c =
-    let is = sym (rw (← c.self.view_is) at c.place-place.ensures) in
-    counted-change (with_accepted c.args.accepted) (λ row. refl) (λ row. refl) (λ row. refl) c.self.inside.places.placed c.self.inside.rows.items c.self.inside.events c.self.inside.offering c.place-place.result c.args.tid c.index_mut.result.now c.self.invariant is c.index_mut.ensures.value
+    let rows = c.self.inside.rows in
+    let key = c.in-Some.key in
+    let standing = c.in-Some-get_mut.standing.now in
+    let is = sym c.of_thread.ensures ∙ c.in-Some.is in
+    let there = sym c.in-Some-get_mut.ensures.value in
+    (kept_changed rows key (with_accepted c.args.accepted) (λ _. refl) c.self.inside.chains c.self.inside.events c.self.inside.offering c.args.tid c.self.invariant is standing there c.self.inside.offering (λ _. refl) (λ _. refl)
+    (same_offers rows key (with_accepted c.args.accepted) (λ _. refl) c.self.inside.chains c.self.inside.events c.self.inside.offering c.args.tid c.self.invariant is standing there (λ _. refl)))
 
-pub returns : goal.returns
-returns c =
-    let is = sym (rw (← c.self.view_is) at c.place-place.ensures) in
-    let same = changed_at (with_accepted c.args.accepted) c.self.inside.rows.items c.place-place.result c.args.tid c.index_mut.result.now c.self.invariant.all.apart is c.index_mut.ensures.value in
-    record { table = rw (← c.self.view_is) (ap (λ (rows : List WaitRow). record { rows = rows; spare = min (vec_capacity c.self.inside.rows - vec_len c.self.inside.rows) c.self.inside.places.spare; made = c.self.inside.made }) same) }
+pub returns-in-Some-get_mut : goal.returns-in-Some-get_mut
+returns-in-Some-get_mut c =
+    let rows = c.self.inside.rows in
+    let key = c.in-Some.key in
+    let standing = c.in-Some-get_mut.standing.now in
+    let is = sym c.of_thread.ensures ∙ c.in-Some.is in
+    let there = sym c.in-Some-get_mut.ensures.value in
+    record { table = rw (← c.self.view_is) (seen_changed rows key (with_accepted c.args.accepted) (λ _. refl) c.self.inside.chains c.self.inside.events c.self.inside.offering c.args.tid c.self.invariant is standing there) }
+
+pub returns-in_default-get_mut : goal.returns-in_default-get_mut
+returns-in_default-get_mut c =
+    let there = found_there c.self.inside.rows (is_by c.args.tid) c.in-Some.key (sym c.of_thread.ensures ∙ c.in-Some.is) in
+    absurd (true≢false (sym there ∙ ap is_some (sym c.in_default-get_mut.ensures.value)))
+
+pub returns-in_default : goal.returns-in_default
+returns-in_default c =
+    let missed = row_missed c.self.inside.rows c.args.tid (sym c.of_thread.ensures ∙ c.in_default.is) in
+    let waits = rw (← c.self.view_is) at c.requires.waits in
+    absurd (true≢false (sym waits ∙ ap is_some missed))

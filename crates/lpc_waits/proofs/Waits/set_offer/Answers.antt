@@ -1,29 +1,67 @@
-use Rattle.std.proofs.Common.{sym, ap, List, vec_capacity, vec_len, ◌-◌, arith}
-use Rattle.std.specs.Prelude.{min}
-use Rattle.lpc_waits.specs.declared.WaitRow.{WaitRow}
+use Rattle.std.proofs.Common.{◌≡◌, ◌+◌, ◌-◌, refl, sym, ap, ◌∙◌, is_some, true≢false, arith}
+use Rattle.lpc_base.specs.Rows.{change, count}
+use Rattle.lpc_base.proofs.RowWords.{count-bound, length-change}
 use Rattle.lpc_waits.specs.Kept.{has_offer}
-use Rattle.lpc_waits.specs.Table.{with_offer}
-use Rattle.lpc_waits.proofs.Apart.{changed_at}
-use Rattle.lpc_waits.proofs.Counting.{counted-offer, few-counted, within-count}
+use Rattle.lpc_waits.specs.Lent.{keyed, shown, waiting_of}
+use Rattle.lpc_waits.specs.Sought.{is_by}
+use Rattle.lpc_waits.specs.Table.{is_of, with_offer}
+use Rattle.lpc_waits.proofs.Begun.{length_seen}
+use Rattle.lpc_waits.proofs.Changed.{count-one, kept_changed, seen_changed, within-one}
+use Rattle.lpc_waits.proofs.Found.{found_there, row_found, row_missed}
 use Rattle.lpc_waits.proofs.Waits.set_offer.Goals as goal
 
 pub overflow_sub-others : goal.overflow_sub-others
 overflow_sub-others c =
-    let is = sym (rw (← c.self.view_is) at c.place-place.ensures) in
-    within-count has_offer c.self.inside.rows.items c.place-place.result c.args.tid c.index.result.now c.self.inside.offering c.offer_count.result c.self.invariant.offers_are is c.index.ensures c.offer_count.ensures.count
+    let rows = c.self.inside.rows in
+    let key = c.in-Some.key in
+    let standing = c.in-Some-get_mut.standing.now in
+    let is = sym c.of_thread.ensures ∙ c.in-Some.is in
+    let there = sym c.in-Some-get_mut.ensures.value in
+    let within = within-one has_offer c.args.tid (waiting_of standing) (shown (keyed rows)) (row_found rows c.args.tid key standing is there) in
+    omega (arith, within, c.offer_count.ensures.count, c.self.invariant.offers_are)
 
 pub overflow_add-self : goal.overflow_add-self
 overflow_add-self c =
     let rows = c.self.inside.rows in
-    omega (arith, few-counted has_offer rows.items c.self.inside.offering c.self.invariant.offers_are, c.offer_count-2.ensures.most, rows.ok.0, rows.ok.1, rows.small)
+    let key = c.in-Some.key in
+    let standing = c.in-Some-get_mut.standing.now in
+    let is = sym c.of_thread.ensures ∙ c.in-Some.is in
+    let there = sym c.in-Some-get_mut.ensures.value in
+    let all = shown (keyed rows) in
+    let one = count-one has_offer c.args.tid (with_offer c.args.offer) (waiting_of standing) all c.self.invariant.apart (row_found rows c.args.tid key standing is there) in
+    let bound = count-bound has_offer (change (is_of c.args.tid) (with_offer c.args.offer) all) in
+    omega (arith, one, bound, length-change (is_of c.args.tid) (with_offer c.args.offer) all, length_seen rows, c.count.ensures.number, c.count.type_inv, c.offer_count.ensures.count, c.offer_count-in-Some-get_mut.ensures.count, c.self.invariant.offers_are)
 
 pub invariant_of-self : goal.invariant_of-self
 invariant_of-self c =
-    let is = sym (rw (← c.self.view_is) at c.place-place.ensures) in
-    counted-offer c.self.inside.rows.items c.place-place.result c.args.tid is c.index.result.now c.index.ensures c.offer_count.result c.offer_count.ensures.count c.self.inside.places.placed c.self.inside.events c.self.inside.offering c.self.invariant c.index_mut.result.now c.index_mut.ensures.value c.args.offer c.offer_count-2.result c.offer_count-2.ensures.count
+    let rows = c.self.inside.rows in
+    let key = c.in-Some.key in
+    let standing = c.in-Some-get_mut.standing.now in
+    let is = sym c.of_thread.ensures ∙ c.in-Some.is in
+    let there = sym c.in-Some-get_mut.ensures.value in
+    let all = shown (keyed rows) in
+    let one = count-one has_offer c.args.tid (with_offer c.args.offer) (waiting_of standing) all c.self.invariant.apart (row_found rows c.args.tid key standing is there) in
+    let within = within-one has_offer c.args.tid (waiting_of standing) all (row_found rows c.args.tid key standing is there) in
+    let now = c.self.inside.offering - c.offer_count.result + c.offer_count-in-Some-get_mut.result in
+    let counted : now ≡ count has_offer (change (is_of c.args.tid) (with_offer c.args.offer) all) = omega (arith, one, within, c.offer_count.ensures.count, c.offer_count-in-Some-get_mut.ensures.count, c.self.invariant.offers_are) in
+    kept_changed rows key (with_offer c.args.offer) (λ _. refl) c.self.inside.chains c.self.inside.events c.self.inside.offering c.args.tid c.self.invariant is standing there now (λ _. refl) (λ _. refl) counted
 
-pub returns : goal.returns
-returns c =
-    let is = sym (rw (← c.self.view_is) at c.place-place.ensures) in
-    let same = changed_at (with_offer c.args.offer) c.self.inside.rows.items c.place-place.result c.args.tid c.index_mut.result.now c.self.invariant.all.apart is c.index_mut.ensures.value in
-    record { table = rw (← c.self.view_is) (ap (λ (rows : List WaitRow). record { rows = rows; spare = min (vec_capacity c.self.inside.rows - vec_len c.self.inside.rows) c.self.inside.places.spare; made = c.self.inside.made }) same) }
+pub returns-in-Some-get_mut : goal.returns-in-Some-get_mut
+returns-in-Some-get_mut c =
+    let rows = c.self.inside.rows in
+    let key = c.in-Some.key in
+    let standing = c.in-Some-get_mut.standing.now in
+    let is = sym c.of_thread.ensures ∙ c.in-Some.is in
+    let there = sym c.in-Some-get_mut.ensures.value in
+    record { table = rw (← c.self.view_is) (seen_changed rows key (with_offer c.args.offer) (λ _. refl) c.self.inside.chains c.self.inside.events c.self.inside.offering c.args.tid c.self.invariant is standing there) }
+
+pub returns-in_default-get_mut : goal.returns-in_default-get_mut
+returns-in_default-get_mut c =
+    let there = found_there c.self.inside.rows (is_by c.args.tid) c.in-Some.key (sym c.of_thread.ensures ∙ c.in-Some.is) in
+    absurd (true≢false (sym there ∙ ap is_some (sym c.in_default-get_mut.ensures.value)))
+
+pub returns-in_default : goal.returns-in_default
+returns-in_default c =
+    let missed = row_missed c.self.inside.rows c.args.tid (sym c.of_thread.ensures ∙ c.in_default.is) in
+    let waits = rw (← c.self.view_is) at c.requires.waits in
+    absurd (true≢false (sym waits ∙ ap is_some missed))

@@ -3,12 +3,11 @@ use Rattle.lpc_model.specs.Found.{is_request}
 use Rattle.lpc_model.specs.Message.{message_of}
 use Rattle.lpc_model.specs.World as model
 use Rattle.lpc_model.specs.World.{Request}
-use Rattle.lpc_waits.specs.Table.{row_of}
+use Rattle.lpc_waits.specs.Table.{WaitingThread, row_of}
 use Rattle.lpc_waits.specs.Table as table
 use Rattle.lpc_waits.specs.declared.Accepted.{Accepted}
 use Rattle.lpc_waits.specs.declared.WaitKind.{WaitKind}
 use Rattle.lpc_waits.specs.declared.WaitKind.TheVariants as wait
-use Rattle.lpc_waits.specs.declared.WaitRow.{WaitRow}
 use Rattle.lpc_rows.specs.Kept.{rows_by}
 use Rattle.lpc_rows.specs.Ready.{waiter}
 use Rattle.lpc_rows.specs.Shown.{AreNamed, Tables, birth_of, births_of, shown_kind, shown_offer, tables_of}
@@ -34,7 +33,7 @@ kept (wait.Event r) bytes offer accepted ok = no ok
 kept_in : (it : Tables) → AreNamed (births_of it) it → (tid : ℕ) (bytes : List ℕ) → table.message_of it.waits tid ≡ Some bytes
     → is_request (waiter (rows_by it) tid) ≡ true → (waiter (rows_by it) tid).kind ≡ Request (message_of bytes)
 kept_in it named tid bytes at ok =
-    let held = readings.holds (λ (r : WaitRow). r.message.items) (row_of it.waits tid) bytes at in
+    let held = readings.holds (λ (r : WaitingThread). r.message.items) (row_of it.waits tid) bytes at in
     let offer : Option model.Offer = option_map (shown_offer (birth_of (births_of it))) held.row.offer in
     let shown : (waiter (rows_by it) tid).kind ≡ shown_kind held.row.wait.kind bytes offer held.row.accepted =
     ap (λ (x : model.WaitRow). x.kind) (readings.wait_is it named tid held.row held.found) ∙ ap (λ bs. shown_kind held.row.wait.kind bs offer held.row.accepted) held.is in

@@ -1,7 +1,6 @@
 use Rattle.std.proofs.Common.{refl, arith}
 use Rattle.std.proofs.Common.{◌+◌, ◌-◌, None, ap, sym, ◌∙◌, []}
 use Rattle.lpc_model.specs.World.{World}
-use Rattle.lpc_waits.specs.declared.WaitRow.{WaitRow}
 use Rattle.lpc_rows.specs.Kept.{rows_by}
 use Rattle.lpc_rows.specs.Shown.{birth_of, births_of, shown_wait, tables_of}
 use Rattle.lpc_rows.proofs.Changes as changes
@@ -13,7 +12,7 @@ use Rattle.lpc_rows.proofs.Rooms as rooms
 use Rattle.lpc_rows.proofs.Steps as steps
 use Rattle.lpc_rows.proofs.Tables as tables
 use Rattle.std.proofs.Common.{length}
-use Rattle.lpc_waits.specs.Table.{WaitTable}
+use Rattle.lpc_waits.specs.Table.{WaitTable, WaitingThread}
 use Rattle.lpc_rows.proofs.Capacities as capacities
 use Rattle.lpc_rows.proofs.Suspected as suspected
 use Rattle.lpc_model.specs.Basics.{Awaits}
@@ -38,7 +37,7 @@ invariant_of-self c = record {
 
 pub returns-clause-unsent : goal.returns-clause-unsent
 returns-clause-unsent c =
-    let x : WaitRow = record { thread = c.args.tid; wait = c.args.wait; message = record { items = [] }; offer = None; accepted = None } in
+    let x : WaitingThread = record { thread = c.args.tid; wait = c.args.wait; message = record { items = [] }; offer = None; accepted = None } in
     let ready = rw (← c.self.view_is) at c.requires.ready in
     rw (c.add.ensures.table, ap (λ (v : World). v.waits) (changes.awaits (tables_of c.self.inside.procs c.self.inside.parts.items c.self.inside.ports c.self.inside.waits c.self.inside.names c.self.inside.sections c.self.inside.tokens c.self.inside.token_names c.self.inside.marks) c.self.invariant.kept.named x (c.self.inside.waits.spare - 1) (c.self.inside.waits.made + 1))) (λ pends. unsent-begun (rows_by (tables_of c.self.inside.procs c.self.inside.parts.items c.self.inside.ports c.self.inside.waits c.self.inside.names c.self.inside.sections c.self.inside.tokens c.self.inside.token_names c.self.inside.marks)) (shown_wait (birth_of (births_of (tables_of c.self.inside.procs c.self.inside.parts.items c.self.inside.ports c.self.inside.waits c.self.inside.names c.self.inside.sections c.self.inside.tokens c.self.inside.token_names c.self.inside.marks))) x) c.self.invariant.kept.lawful.own ready (ready-unmarked (tables_of c.self.inside.procs c.self.inside.parts.items c.self.inside.ports c.self.inside.waits c.self.inside.names c.self.inside.sections c.self.inside.tokens c.self.inside.token_names c.self.inside.marks) c.self.inside.calls c.self.inside.made c.self.invariant.kept c.args.tid ready) pends)
 
@@ -47,13 +46,13 @@ returns-clause-rows c = rw (← c.self.view_is, c.add.ensures.table) (changes.aw
 
 pub returns-clause-made : goal.returns-clause-made
 returns-clause-made c =
-    let x : WaitRow = record { thread = c.args.tid; wait = c.args.wait; message = record { items = [] }; offer = None; accepted = None } in
+    let x : WaitingThread = record { thread = c.args.tid; wait = c.args.wait; message = record { items = [] }; offer = None; accepted = None } in
     let owed = owed-push (rows_by (tables_of c.self.inside.procs c.self.inside.parts.items c.self.inside.ports c.self.inside.waits c.self.inside.names c.self.inside.sections c.self.inside.tokens c.self.inside.token_names c.self.inside.marks)).waits (shown_wait (birth_of (births_of (tables_of c.self.inside.procs c.self.inside.parts.items c.self.inside.ports c.self.inside.waits c.self.inside.names c.self.inside.sections c.self.inside.tokens c.self.inside.token_names c.self.inside.marks))) x) in
     rw (← c.self.view_is, c.add.ensures.table, ap (λ (v : World). v.waits) (changes.awaits (tables_of c.self.inside.procs c.self.inside.parts.items c.self.inside.ports c.self.inside.waits c.self.inside.names c.self.inside.sections c.self.inside.tokens c.self.inside.token_names c.self.inside.marks) c.self.invariant.kept.named x (c.self.inside.waits.spare - 1) (c.self.inside.waits.made + 1))) (omega (arith, owed))
 
 pub returns-clause-room : goal.returns-clause-room
 returns-clause-room c =
-    let x : WaitRow = record { thread = c.args.tid; wait = c.args.wait; message = record { items = [] }; offer = None; accepted = None } in
+    let x : WaitingThread = record { thread = c.args.tid; wait = c.args.wait; message = record { items = [] }; offer = None; accepted = None } in
     let place = steps.more_alive (tables_of c.self.inside.procs c.self.inside.parts.items c.self.inside.ports c.self.inside.waits c.self.inside.names c.self.inside.sections c.self.inside.tokens c.self.inside.token_names c.self.inside.marks) c.self.inside.calls c.self.inside.made c.self.invariant.kept c.args.tid (rw (← c.self.view_is) at c.requires.live) (rw (← c.self.view_is) at c.requires.ready) in
     rw (← c.self.view_is, c.add.ensures.table, ap (λ (v : World). v.waits) (changes.awaits (tables_of c.self.inside.procs c.self.inside.parts.items c.self.inside.ports c.self.inside.waits c.self.inside.names c.self.inside.sections c.self.inside.tokens c.self.inside.token_names c.self.inside.marks) c.self.invariant.kept.named x (c.self.inside.waits.spare - 1) (c.self.inside.waits.made + 1))) (rooms.room_wait _ _ _ _ _ _ _ _ _ _ _ (rows_by (tables_of c.self.inside.procs c.self.inside.parts.items c.self.inside.ports c.self.inside.waits c.self.inside.names c.self.inside.sections c.self.inside.tokens c.self.inside.token_names c.self.inside.marks)) _ (shown_wait (birth_of (births_of (tables_of c.self.inside.procs c.self.inside.parts.items c.self.inside.ports c.self.inside.waits c.self.inside.names c.self.inside.sections c.self.inside.tokens c.self.inside.token_names c.self.inside.marks))) x) place)
 

@@ -5,8 +5,7 @@ use Rattle.lpc_base.specs.Rows.{has}
 use Rattle.lpc_model.specs.World.{World}
 use Rattle.lpc_model.specs.Found.{waits_as}
 use Rattle.lpc_waits.specs.Table as waits
-use Rattle.lpc_waits.specs.Table.{row_of}
-use Rattle.lpc_waits.specs.declared.WaitRow.{WaitRow}
+use Rattle.lpc_waits.specs.Table.{WaitingThread, row_of}
 use Rattle.lpc_rows.specs.Shown.{tables_of}
 use Rattle.lpc_rows.specs.Kept.{rows_by}
 use Rattle.lpc_rows.proofs.Changes as changes
@@ -36,7 +35,7 @@ returns-clause-still c =
 
 pub returns-clause-some : goal.returns-clause-some
 returns-clause-some c =
-    rw (← c.self.view_is) (ap is_some c.end-ended.ensures.value ∙ some-map (λ (r : WaitRow). r.wait) (row_of c.self.inside.waits c.args.tid) ∙ sym (readings.waits_are (tables_of c.self.inside.procs c.self.inside.parts.items c.self.inside.ports c.self.inside.waits c.self.inside.names c.self.inside.sections c.self.inside.tokens c.self.inside.token_names c.self.inside.marks) c.self.invariant.kept.named c.args.tid))
+    rw (← c.self.view_is) (ap is_some c.end-ended.ensures.value ∙ some-map (λ (r : WaitingThread). r.wait) (row_of c.self.inside.waits c.args.tid) ∙ sym (readings.waits_are (tables_of c.self.inside.procs c.self.inside.parts.items c.self.inside.ports c.self.inside.waits c.self.inside.names c.self.inside.sections c.self.inside.tokens c.self.inside.token_names c.self.inside.marks) c.self.invariant.kept.named c.args.tid))
 
 pub returns-clause-wait : goal.returns-clause-wait
 returns-clause-wait c =

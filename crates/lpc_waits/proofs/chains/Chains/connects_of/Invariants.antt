@@ -1,0 +1,20 @@
+use Rattle.std.proofs.Common.{◌≡◌, ◌+◌, None, length, true}
+use Rattle.lpc_base.specs.Rows.{count}
+use Rattle.lpc_slots.specs.Chain.{first_or}
+use Rattle.lpc_slots.specs.Table.{keys_of}
+use Rattle.lpc_waits.specs.Lent.{keyed}
+use Rattle.lpc_waits.specs.Layout.{by_process}
+use Rattle.lpc_waits.specs.Numbers.{apart}
+use Rattle.lpc_waits.specs.Sought.{is_connect_by}
+use Rattle.lpc_waits.specs.Walk.{chain_rows, rows_from}
+use Rattle.lpc_waits.proofs.chains.Chains.connects_of.Given as goal
+
+-- the walk stands at a row of the chain or behind the last one, and what is still to be counted stands there
+abbrev pub invariant-loop-next : goal.invariant-loop-next
+invariant-loop-next l = record {
+  stands : first_or None (keys_of (rows_from l.next (chain_rows by_process (length l.self.processes.chains.items) (apart l.process true) l.rows))) ≡ l.next;
+  walked : l.connects + count (is_connect_by l.process) (rows_from l.next (chain_rows by_process (length l.self.processes.chains.items) (apart l.process true) l.rows)) ≡ count (is_connect_by l.process) (keyed l.rows);
+}
+
+abbrev pub decreases-loop-next : goal.decreases-loop-next
+decreases-loop-next l = length (rows_from l.next (chain_rows by_process (length l.self.processes.chains.items) (apart l.process true) l.rows))
