@@ -1,18 +1,14 @@
 -- Births that are found: the numbers that are kept under them, and those of the entries.
-use Rattle.std.proofs.Common.{rules, ◌≡◌, ◌+◌, ◌≤◌, ℕ, List, [], ◌∷◌, ◌++◌, Bool, true, false, cond, Option, None, Some, is_some, not, option_map, refl, sym, ap, ◌∙◌, true≢false, arith}
-use Rattle.std.specs.List.{position, position_from}
+use Rattle.std.proofs.Common.{rules, ◌≡◌, ◌&&◌, ◌≤◌, ℕ, List, [], ◌∷◌, ◌++◌, Bool, true, false, cond, Option, None, Some, is_some, not, option_map, refl, sym, ap, ◌∙◌, arith}
 use Rattle.std.specs.Map.{lookup}
-use Rattle.std.proofs.lemmas.Bool.Decides.{nat_tests}
-use Rattle.std.proofs.lemmas.Iterator.Adapters.{position_from-zero}
+use Rattle.std.proofs.lemmas.Bool.{and_parts}
 use Rattle.lpc_base.specs.Births.{same_birth}
-use Rattle.lpc_base.specs.Rows.{count, differ_by, first, has, without}
+use Rattle.lpc_base.specs.Rows.{count, first, has, without}
 use Rattle.lpc_base.specs.declared.birth.Birth.{Birth}
 use Rattle.lpc_base.proofs.Births.{birth-same, birth-self, births-apart}
-use Rattle.lpc_base.proofs.Differ.{differ-push, differ-without, rest-differ, rest-none}
 use Rattle.lpc_base.proofs.RowMaps.{some-map}
 use Rattle.lpc_base.proofs.RowWords.{count-left, count-none, count-push}
-use Rattle.lpc_numbers.specs.Named.{AreNamed, Takes, is_named, number_in, number_named, or_else, with_number}
-use Rattle.lpc_numbers.specs.Numbered.{is_at}
+use Rattle.lpc_numbers.specs.Named.{AreNamed, Forgets, IsOnlyNamed, Named, Takes, is_named, number_in, number_named, or_else, with_number}
 use Rattle.lpc_numbers.specs.declared.named.Name.{Name}
 use Rattle.lpc_numbers.specs.contracts.named.NamePartialEq.TheImpl as the_impl
 
@@ -85,84 +81,33 @@ none-named : (es : List (ℕ × Birth)) (b : Birth) → is_some (number_named es
 none-named es b none = sym (some-map (λ (e : ℕ × Birth). e.0) (first (is_named b) es)) ∙ none
 
 -- What is kept
-module _ (es : List (ℕ × Birth)) (names : List (Name × ℕ)) (room spare : ℕ) (single : Bool) (kept : AreNamed es names room spare single) where
+module _ (es : List (ℕ × Birth)) (names : Named) (named : AreNamed es names) where
   -- once a birth is put under a further number
-  pub kept-push : (birth : Birth) (n : ℕ) (names' : List (Name × ℕ)) (room' spare' : ℕ) (is_new single' : Bool) → has (is_at n) es ≡ false → Takes birth n names names' → room' ≤ spare' → is_new ≡ not (is_some (number_in names birth))
-      → (single' ≡ true → (single ≡ true) × (is_new ≡ true)) → AreNamed (es ++ (n, birth) ∷ []) names' room' spare' single'
-  kept-push birth n names' room' spare' is_new single' free takes roomy new both = record {
-    apart = differ-push (λ (e : ℕ × Birth). e.0) es (n, birth) kept.apart free;
-    kept = λ b. takes b ∙ ap (λ o. or_else o (with_number birth n b)) (kept.kept b) ∙ sym (number-push es n birth b);
-    roomy = roomy;
-    one = λ is b. by b (both is).0 (both is).1 (same_birth birth b) refl;
-  }
+  pub named-push : (birth : Birth) (n : ℕ) (names' : Named) → Takes birth n names.firsts names'.firsts → names'.single ≡ (names.single && not (is_some (number_in names.firsts birth))) → AreNamed (es ++ (n, birth) ∷ []) names'
+  named-push birth n names' takes single whole b =
+      let both = and_parts names.single (not (is_some (number_in names.firsts birth))) (sym single ∙ whole) in
+      let was = named both.0 in
+      record {
+        kept = takes b ∙ ap (λ o. or_else o (with_number birth n b)) (was b).kept ∙ sym (number-push es n birth b);
+        one = by (was b) (was birth) (not-true (is_some (number_in names.firsts birth)) both.1) (same_birth birth b) refl;
+      }
     where
-      by : (b : Birth) → single ≡ true → is_new ≡ true → (c : Bool) → same_birth birth b ≡ c → count (is_named b) (es ++ (n, birth) ∷ []) ≤ 1
-      by b one fresh true is =
+      not-true : (x : Bool) → not x ≡ true → x ≡ false
+      not-true true is = absurd (cc)
+      not-true false is = refl
+
+      by : IsOnlyNamed es names b → IsOnlyNamed es names birth → is_some (number_in names.firsts birth) ≡ false → (c : Bool) → same_birth birth b ≡ c → count (is_named b) (es ++ (n, birth) ∷ []) ≤ 1
+      by own was fresh true is =
           let same : birth ≡ b = birth-same birth b is in
-          let absent : is_some (number_in names birth) ≡ false = grind (arith, new, fresh) in
-          let none : is_some (number_named es b) ≡ false = ap is_some (sym (kept.kept b)) ∙ ap (λ x. is_some (number_in names x)) (sym same) ∙ absent in
+          let none : is_some (number_named es b) ≡ false = ap is_some (sym own.kept) ∙ ap (λ x. is_some (number_in names.firsts x)) (sym same) ∙ fresh in
           omega (arith, count-push (is_named b) es (n, birth), ap {B = ℕ} (λ c. cond c 1 0) is, count-none (is_named b) es (none-named es b none))
-      by b one fresh false off = omega (arith, count-push (is_named b) es (n, birth), ap {B = ℕ} (λ c. cond c 1 0) off, kept.one one b)
+      by own was fresh false off = omega (arith, count-push (is_named b) es (n, birth), ap {B = ℕ} (λ c. cond c 1 0) off, own.one)
 
   -- once the numbers of a birth are gone
-  pub kept-without : (birth : Birth) (names' : List (Name × ℕ)) (spare' : ℕ) → ((b : Birth) → number_in names' b ≡ cond (same_birth b birth) None (number_in names b)) → spare ≤ spare'
-      → AreNamed (without (is_named birth) es) names' room spare' single
-  kept-without birth names' spare' after more = record {
-    apart = differ-without (λ (e : ℕ × Birth). e.0) (is_named birth) es kept.apart;
-    kept = λ b. after b ∙ ap (cond (same_birth b birth) None) (kept.kept b) ∙ number-without es birth b;
-    roomy = omega (arith, kept.roomy, more);
-    one = λ is b. omega (arith, kept.one is b, count-left (is_named b) (is_named birth) es);
-  }
-
--- the number of a birth leads to its place
-named-has : (es : List (ℕ × Birth)) (b : Birth) (n : ℕ) → number_named es b ≡ Some n → has (is_at n) es ≡ true
-named-has [] b n is = absurd (cc)
-named-has (e ∷ es) b n is = at (is_named b e) refl (named-has es b n)
-  where
-    at : (c : Bool) → is_named b e ≡ c → (number_named es b ≡ Some n → has (is_at n) es ≡ true) → has (is_at n) (e ∷ es) ≡ true
-    at true here rest =
-        let own : Some e.0 ≡ Some n = rw here at is in
-        let same : e.0 ≡ n = cc in
-        grind (arith, nat_tests, same)
-    at false off rest =
-        let later : has (is_at n) es ≡ true = rest (rw off at is) in
-        grind (arith, later)
-
-module _ (b : Birth) where
-  placed-from : (es : List (ℕ × Birth)) (low n : ℕ) → differ_by (λ e. e.0) es ≡ true → number_named es b ≡ Some n → position_from (is_at n) low es ≡ position_from (is_named b) low es
-  placed-from [] low n apart is = refl
-  placed-from (e ∷ es) low n apart is = at (is_named b e) refl (placed-from es (low + 1) n (rest-differ (λ (x : ℕ × Birth). x.0) e es apart))
-    where
-      at : (c : Bool) → is_named b e ≡ c → (number_named es b ≡ Some n → position_from (is_at n) (low + 1) es ≡ position_from (is_named b) (low + 1) es) → position_from (is_at n) low (e ∷ es) ≡ position_from (is_named b) low (e ∷ es)
-      at true here rest =
-          let own : Some e.0 ≡ Some n = rw here at is in
-          let same : e.0 ≡ n = cc in
-          let there : is_at n e ≡ true = grind (arith, nat_tests, same) in
-          rw (here, there) refl
-      at false off rest =
-          let later : number_named es b ≡ Some n = rw off at is in
-          let among : has (is_at n) es ≡ true = named-has es b n later in
-          let elsewhere : is_at n e ≡ false = other (is_at n e) refl among in
-          rw (off, elsewhere) (rest later)
-        where
-          other : (c : Bool) → is_at n e ≡ c → has (is_at n) es ≡ true → is_at n e ≡ false
-          other false off among = off
-          other true here among =
-              let same : e.0 ≡ n = grind (arith, nat_tests) in
-              absurd (true≢false (sym among ∙ rest-none (λ (x : ℕ × Birth). x.0) e es n apart same))
-
-  pub placed-named : (es : List (ℕ × Birth)) (n : ℕ) → differ_by (λ e. e.0) es ≡ true → number_named es b ≡ Some n → position (is_at n) es ≡ position (is_named b) es
-  placed-named es n apart is = position_from-zero (is_at n) es ∙ placed-from es 0 n apart is ∙ sym (position_from-zero (is_named b) es)
-
-  none-from : (es : List (ℕ × Birth)) (low : ℕ) → number_named es b ≡ None → None ≡ position_from (is_named b) low es
-  none-from [] low none = refl
-  none-from (e ∷ es) low none = at (is_named b e) refl (none-from es (low + 1))
-    where
-      at : (c : Bool) → is_named b e ≡ c → (number_named es b ≡ None → None ≡ position_from (is_named b) (low + 1) es) → None ≡ position_from (is_named b) low (e ∷ es)
-      at true here rest =
-          let clash : Some e.0 ≡ None = rw here at none in
-          absurd (cc)
-      at false off rest = rw off (rest (rw off at none))
-
-  pub none-placed : (es : List (ℕ × Birth)) → number_named es b ≡ None → None ≡ position (is_named b) es
-  none-placed es none = none-from es 0 none ∙ sym (position_from-zero (is_named b) es)
+  pub named-without : (birth : Birth) (names' : Named) → Forgets birth names.firsts names'.firsts → names'.single ≡ names.single → AreNamed (without (is_named birth) es) names'
+  named-without birth names' forgets single whole b =
+      let was = named (sym single ∙ whole) b in
+      record {
+        kept = forgets b ∙ ap (cond (same_birth b birth) None) was.kept ∙ number-without es birth b;
+        one = omega (arith, was.one, count-left (is_named b) (is_named birth) es);
+      }

@@ -1,9 +1,9 @@
--- Births under numbers that differ, found by the birth.
+-- The first number of each birth.
 use Rattle.std.specs.Prelude.{ℕ, ◌≡◌, ◌≤◌, ◌++◌, Bool, List, Option, None, Some, option_map, if◌then◌else◌, true}
 use Rattle.std.specs.Hash as fed
 use Rattle.std.specs.Map.{lookup}
 use Rattle.lpc_base.specs.Births.{same_birth}
-use Rattle.lpc_base.specs.Rows.{count, differ_by, first}
+use Rattle.lpc_base.specs.Rows.{count, first}
 use Rattle.lpc_base.specs.declared.birth.Birth.{Birth}
 use Rattle.lpc_numbers.specs.declared.named.Name.{Name}
 
@@ -36,10 +36,21 @@ with_number birth number b = if same_birth birth b then Some number else None
 abbrev pub Takes : Birth → ℕ → List (Name × ℕ) → List (Name × ℕ) → Type 0
 Takes birth number old new = (b : Birth) → number_in new b ≡ or_else (number_in old b) (with_number birth number b)
 
--- What is kept: no two entries have one number; under each birth its first number is kept; as many further ones have
--- room there; and where no birth came twice, none has two numbers.
-pub record AreNamed (entries : List (ℕ × Birth)) (names : List (Name × ℕ)) (room spare : ℕ) (single : Bool) : Type 0 where
-  pub apart : differ_by (λ e. e.0) entries ≡ true
-  pub kept : (birth : Birth) → number_in names birth ≡ number_named entries birth
-  pub roomy : room ≤ spare
-  pub one : single ≡ true → (birth : Birth) → count (is_named birth) entries ≤ 1
+-- a birth has no number then, and each other has what it had
+abbrev pub Forgets : Birth → List (Name × ℕ) → List (Name × ℕ) → Type 0
+Forgets birth old new = (b : Birth) → number_in new b ≡ (if same_birth b birth then None else number_in old b)
+
+-- the first number of each birth, how many more go in without memory, and whether no birth came twice
+pub record Named : Type 0 where
+  pub firsts : List (Name × ℕ)
+  pub room : ℕ
+  pub single : Bool
+
+-- The births of the entries are those that came: where none came twice, under each its number is kept, and no two
+-- entries have it.
+pub record IsOnlyNamed (entries : List (ℕ × Birth)) (names : Named) (birth : Birth) : Type 0 where
+  pub kept : number_in names.firsts birth ≡ number_named entries birth
+  pub one : count (is_named birth) entries ≤ 1
+
+abbrev pub AreNamed : List (ℕ × Birth) → Named → Type 0
+AreNamed entries names = names.single ≡ true → (birth : Birth) → IsOnlyNamed entries names birth

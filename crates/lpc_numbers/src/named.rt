@@ -1,16 +1,11 @@
-// Births under numbers that differ, found by the number and by the birth.
-ghost use Rattle.std.specs.Prelude.{◌≡◌, ◌-◌, ◌+◌, ◌<◌, ◌≤◌, ◌++◌, ◌∷◌, ◌==◌, [], false, true, length, is_some, not, ℕ, OnErr, OnOk};
-ghost use Rattle.std.specs.List.{position};
+// The first number of each birth, found by the birth.
+ghost use Rattle.std.specs.Prelude.{◌≡◌, ◌-◌, ◌+◌, ◌<◌, ◌≤◌, ◌&&◌, [], true, is_some, not, OnErr, OnOk};
 ghost use Rattle.std.proofs.Common.{rules};
 ghost use Rattle.std.specs.Cmp.Rules.{hashing};
 ghost use Rattle.indexmap.specs.IndexMap.{spare};
 ghost use Rattle.lpc_base.specs.Room.{grown_room};
-ghost use Rattle.lpc_base.specs.Rows.{count, has, without};
-ghost use Rattle.lpc_base.specs.declared.birth.Birth.{Birth};
-ghost use Rattle.lpc_numbers.specs.Named.{Takes, hashed, is_named, number_in, number_named};
-ghost use Rattle.lpc_numbers.specs.Numbered.{is_at};
+ghost use Rattle.lpc_numbers.specs.Named.{Forgets, Takes, hashed, number_in};
 
-use crate::Numbered;
 use indexmap::IndexMap;
 use lpc_base::{Birth, OutOfMemory};
 use std::alloc::Global;
@@ -53,114 +48,103 @@ fn note(names: &mut IndexMap<Name, u32>, birth: Birth, number: u32) -> bool
     }
 }
 
-/// Births under numbers that differ, in the order in which they came. A number leads to its place, and a birth to the
-/// first of its numbers, without a search. So many further ones as there is room for go in without memory.
+/// The first number of each birth, found without a search. It tells whether no birth came twice. So many further ones as
+/// there is room for go in without memory.
 #[derive(Drop)]
 pub struct Named {
-    numbers: Numbered<Birth>,
     names: IndexMap<Name, u32>,
+    room: usize,
     single: bool,
 }
 
 impl Model for Named {
+    ghost use Rattle.std.specs.Prelude.{◌≤◌};
     ghost use Rattle.indexmap.specs.IndexMap.{spare};
-    ghost use Rattle.lpc_base.specs.declared.birth.Birth.{Birth};
-    ghost use Rattle.lpc_numbers.specs.Named.{AreNamed};
-    ghost use Rattle.lpc_numbers.specs.Numbered.{Numbered};
+    ghost use Rattle.lpc_numbers.specs.Named.{Named};
 
-    ghost Value = { Numbered Birth };
+    ghost Value = { Named };
 
-    ghost view = { λ s. s.numbers };
+    ghost view = { λ s. record {
+      firsts = s.names.entries;
+      room = s.room;
+      single = s.single;
+    } };
 
-    ghost invariant = { λ s. AreNamed s.numbers.entries s.names.entries s.numbers.room (spare s.names) s.single };
+    ghost invariant = { λ s. s.room ≤ spare s.names };
 }
 
 impl Named {
     /// No number and no room. It takes no memory, and keeps the allocator for `reserve`.
     pub fn new(alloc: Global) -> Named
-        ensures entries { result.entries ≡ [] }
+        ensures firsts { result.firsts ≡ [] }
         ensures room { result.room ≡ 0 }
+        ensures single { result.single ≡ true }
     {
         Named {
-            numbers: Numbered::new(alloc),
             names: IndexMap::new(alloc),
+            room: 0,
             single: true,
         }
     }
 
-    /// Makes room for so many further numbers. Where it has to grow, it makes room for as many as there are, if those
-    /// are more. `OutOfMemory` comes only where the room isn't there; nothing has changed then.
-    pub fn reserve(&mut self, more: usize) -> Result<(), OutOfMemory>
-        ensures entries { self.new.entries ≡ self.old.entries }
+    /// Makes room for so many further numbers. Where it has to grow, it makes room for as many as there are rows, if
+    /// those are more. `OutOfMemory` comes only where the room isn't there; nothing has changed then.
+    pub fn reserve(&mut self, more: usize, rows: usize) -> Result<(), OutOfMemory>
+        ensures kept { self.new ≡ record self.old { room = self.new.room } }
         ensures room { OnOk result (more ≤ self.new.room) }
         ensures wanting { OnErr result (self.old.room < more) }
         ensures err { OnErr result (self.new.room ≡ self.old.room) }
         ensures least { self.old.room ≤ self.new.room }
-        ensures most { self.new.room
-            ≤ grown_room self.old.room more (length self.old.entries) }
-        ensures grown { OnOk result
-            (self.old.room < more → length self.old.entries ≤ self.new.room) }
+        ensures most { self.new.room ≤ grown_room self.old.room more rows }
+        ensures grown { OnOk result (self.old.room < more → rows ≤ self.new.room) }
         ensures enough { more ≤ self.old.room → self.new.room ≡ self.old.room }
     {
-        if more <= self.numbers.room() {
+        if more <= self.room {
             return Ok(());
         }
-        match self.names.reserve(more.max(self.numbers.len())) {
-            Ok(()) => self.numbers.reserve(more),
+        let wanted = more.max(rows);
+        match self.names.reserve(wanted) {
+            Ok(()) => {
+                self.room = wanted;
+                Ok(())
+            }
             Err(_) => Err(OutOfMemory),
         }
     }
 
-    /// Puts a birth under a number that has none, behind the others. There is room for it.
+    /// A birth comes under a number: it is its first where the birth has none. There is room for it.
     pub fn add(&mut self, number: u32, birth: Birth)
-        requires room { 0 < self.old.room }
-        requires new { has (is_at number) self.old.entries ≡ false }
-        ensures entries { self.new.entries ≡ self.old.entries ++ (number, birth) ∷ [] }
+        requires { 0 < self.old.room }
+        ensures firsts { Takes birth number self.old.firsts self.new.firsts }
+        ensures single { let known = is_some (number_in self.old.firsts birth) in
+            self.new.single ≡ (self.old.single && not known) }
         ensures room { self.new.room ≡ self.old.room - 1 }
     {
         let is_new = note(&mut self.names, birth, number);
-        self.numbers.add(number, birth);
+        self.room -= 1;
         self.single = self.single && is_new;
-    }
-
-    /// Where a number stands in the order in which they came.
-    pub fn place(&self, number: u32) -> Option<usize>
-        ensures { result ≡ position (is_at number) self.now.entries }
-    {
-        self.numbers.place(number)
     }
 
     /// The first number of a birth.
     pub fn number_named(&self, birth: Birth) -> Option<u32>
-        ensures { result ≡ number_named self.now.entries birth }
+        ensures { result ≡ number_in self.now.firsts birth }
     {
         self.names.get(&Name { birth }).copied()
     }
 
-    /// Where the first number of a birth stands in the order in which they came.
-    pub fn place_named(&self, birth: Birth) -> Option<usize>
-        ensures { result ≡ position (is_named birth) self.now.entries }
-    {
-        match self.number_named(birth) {
-            Some(number) => self.numbers.place(number),
-            None => None,
-        }
-    }
-
-    /// No birth ever came while another number had it; so none has two numbers.
+    /// No birth ever came that had a number then.
     pub fn is_single(&self) -> bool
-        ensures { result ≡ true →
-            (birth : Birth) → count (is_named birth) self.now.entries ≤ 1 }
+        ensures { result ≡ self.now.single }
     {
         self.single
     }
 
-    /// Takes away the numbers of a birth. The others keep their order.
+    /// Takes away the number of a birth.
     pub fn remove_name(&mut self, birth: Birth)
-        ensures entries { self.new.entries ≡ without (is_named birth) self.old.entries }
+        ensures firsts { Forgets birth self.old.firsts self.new.firsts }
+        ensures single { self.new.single ≡ self.old.single }
         ensures room { self.new.room ≡ self.old.room }
     {
         self.names.swap_remove(&Name { birth });
-        self.numbers.remove_name(birth);
     }
 }

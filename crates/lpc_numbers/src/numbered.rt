@@ -1,13 +1,12 @@
 // Values under numbers that differ.
-ghost use Rattle.std.specs.Prelude.{◌≡◌, ◌-◌, ◌<◌, ◌≤◌, ◌++◌, ◌∷◌, [], true, false, length, not, OnErr, OnOk};
+ghost use Rattle.std.specs.Prelude.{◌≡◌, ◌-◌, ◌<◌, ◌≤◌, ◌++◌, ◌∷◌, [], false, length, OnErr, OnOk};
 ghost use Rattle.std.specs.List.{position};
-ghost use Rattle.lpc_base.specs.Births.{same_birth};
 ghost use Rattle.lpc_base.specs.Room.{grown_room};
-ghost use Rattle.lpc_base.specs.Rows.{has, without};
+ghost use Rattle.lpc_base.specs.Rows.{has};
 ghost use Rattle.lpc_numbers.specs.Numbered.{is_at, value_at};
 
 use indexmap::IndexMap;
-use lpc_base::{Birth, OutOfMemory};
+use lpc_base::OutOfMemory;
 use std::alloc::Global;
 use std::marker::Model;
 
@@ -116,21 +115,5 @@ impl<V: Copy> Numbered<V> {
         ensures { result ≡ has (is_at number) self.now.entries }
     {
         self.map.contains_key(&number)
-    }
-}
-
-impl Numbered<Birth> {
-    /// Takes away the numbers of a name. The others keep their order.
-    pub fn remove_name(&mut self, birth: Birth)
-        ensures entries { self.new.entries
-            ≡ without (λ e. same_birth e.1 birth) self.old.entries }
-        ensures room { self.new.room ≡ self.old.room }
-    {
-        self.map.retain(
-            |_number: &u32, name: &mut Birth| -> bool
-                ensures kept { result ≡ not (same_birth name.old birth) }
-                ensures same { name.new ≡ name.old }
-            { *name != birth },
-        );
     }
 }

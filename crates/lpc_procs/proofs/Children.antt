@@ -1,14 +1,14 @@
 -- The live processes that each made, as they are counted beside the rows.
 use Rattle.std.proofs.Common.{◌≡◌, ℕ, List, [], ◌∷◌, ◌++◌, Bool, true, false, cond, not, None, Some, refl, ap, ◌∙◌, arith}
 use Rattle.std.specs.Prelude.{nat_lt, ◌==◌, ◌&&◌}
-use Rattle.lpc_base.specs.declared.birth.Birth.{Birth}
-use Rattle.lpc_base.specs.Rows.{count, has, passes, without}
+use Rattle.lpc_base.specs.Rows.{count, first, passes, without_first}
 use Rattle.lpc_base.proofs.Bools.{number-turned}
-use Rattle.lpc_base.proofs.RowWords.{count-push, count-without}
+use Rattle.lpc_base.proofs.RowWords.{count-push}
+use Rattle.lpc_procs.proofs.Gone.{count-gone}
 use Rattle.lpc_numbers.specs.Tally.{Tally, one_for}
 use Rattle.lpc_procs.specs.declared.rows.Counted.{Counted}
 use Rattle.lpc_procs.specs.declared.rows.ProcessRow.{ProcessRow}
-use Rattle.lpc_procs.specs.Kept.{Moves, Retells, counting, has_name, is_peopled, is_peopled_child, is_peopled_of}
+use Rattle.lpc_procs.specs.Kept.{Moves, Retells, counting, is_peopled, is_peopled_child}
 use Rattle.lpc_procs.specs.Procs.{is_made_by}
 
 both-one : (b c : Bool) → cond {A = ℕ} (b && c) 1 0 ≡ cond c (cond b 1 0) 0
@@ -34,7 +34,7 @@ pub retold-none : (p : Counted) (live : ℕ) (tally : Tally) → p.row.maker ≡
 retold-none p live tally is whole = record { whole = whole; counts = λ pid. rw is refl }
 
 -- a further process of which no thread lives yet
-and-off : (b : Bool) → (b && false) ≡ false
+pub and-off : (b : Bool) → (b && false) ≡ false
 and-off true = refl
 and-off false = refl
 
@@ -43,11 +43,13 @@ children-push pid row ps =
     let p : Counted = record { row = row; live = 0 } in
     omega (arith, count-push (is_peopled_child pid) ps p, ap {B = ℕ} (λ b. cond b 1 0) (and-off (is_made_by pid row)))
 
--- processes of a name that went, of which none was live
+-- a process went that was not live
 pub kept-whole : (whole lost : Bool) → (whole && not lost) ≡ true → (whole ≡ true) × (lost ≡ false)
 kept-whole true true is = absurd (cc)
 kept-whole true false is = (refl, refl)
 kept-whole false lost is = absurd (cc)
 
-pub children-left : (pid : ℕ) (b : Birth) (ps : List Counted) → has (is_peopled_of b) ps ≡ false → count (is_peopled_child pid) (without (has_name b) ps) ≡ count (is_peopled_child pid) ps
-children-left pid b ps none = count-without (is_peopled_child pid) (has_name b) (is_peopled_of b) (λ p named off. grind (arith, named, off)) ps none
+pub children-left : (pid : ℕ) (test : Counted → Bool) (ps : List Counted) (p : Counted) → first test ps ≡ Some p → is_peopled p ≡ false → count (is_peopled_child pid) (without_first test ps) ≡ count (is_peopled_child pid) ps
+children-left pid test ps p found off =
+    let none : is_peopled_child pid p ≡ false = grind (arith, off) in
+    omega (arith, count-gone test (is_peopled_child pid) ps p found, ap {B = ℕ} (λ b. cond b 1 0) none)

@@ -1,16 +1,17 @@
 -- The counts of live threads that stand beside the processes: what keeps them, and what they tell.
-use Rattle.std.proofs.Common.{◌≡◌, ◌<◌, ◌≤◌, ℕ, length, zero, suc, List, [], ◌∷◌, ◌++◌, Bool, true, false, get_or, set, refl, ap, sym, subst, ◌∙◌, arith}
+use Rattle.std.proofs.Common.{◌≡◌, ◌≤◌, ℕ, length, zero, suc, List, [], ◌∷◌, ◌++◌, Bool, true, false, cond, set, refl, ap, sym, subst, ◌∙◌, arith}
 use Rattle.std.specs.Prelude.{Some, option_map, slice_get, nat_lt, ◌==◌, ◌&&◌}
 use Rattle.std.proofs.lemmas.Bool.Decides.{nat_tests}
 use Rattle.lpc_base.specs.declared.birth.Birth.{Birth}
-use Rattle.lpc_base.specs.Rows.{count, every, first, has, without}
-use Rattle.lpc_base.proofs.RowMaps.{count-map, every-change_to, unseen-change, without-map}
-use Rattle.lpc_base.proofs.RowWords.{count-bound, count-push, count-without, every-more, every-push}
+use Rattle.lpc_base.specs.Rows.{count, every, first, has, without_first}
+use Rattle.lpc_base.proofs.RowMaps.{count-map, every-change_to, unseen-change, without_first-map}
+use Rattle.lpc_base.proofs.RowWords.{count-bound, count-push, every-more, every-push, every-true}
+use Rattle.lpc_procs.proofs.Gone.{count-gone}
 use Rattle.lpc_procs.specs.declared.rows.Counted.{Counted}
 use Rattle.lpc_procs.specs.declared.rows.ProcessRow.{ProcessRow}
 use Rattle.lpc_procs.specs.declared.rows.ThreadRow.{ThreadRow}
 use Rattle.lpc_procs.specs.Kept.{counting, is_peopled, has_name, has_number, is_peopled_child, is_counted, lives_in_first, process_rows, recounted}
-use Rattle.lpc_procs.specs.Procs.{is_life, is_live_child, is_made_by, is_process, is_process_born, is_thread_born, lives_in, process_life}
+use Rattle.lpc_procs.specs.Procs.{is_live_child, is_made_by, is_process, is_process_born, lives_in, process_life}
 
 -- rows of a place that are written over by one that passes as they did
 pub count-set : {X : Type 0} (p : X → Bool) (xs : List X) (i : ℕ) (x y : X) → slice_get xs i ≡ Some x → p y ≡ p x → count p (set xs i y) ≡ count p xs
@@ -59,21 +60,17 @@ pub counts-process : (ts : List ThreadRow) (row : ProcessRow) (live : ℕ) → l
 counts-process ts row live is ps counts =
     every-push (is_counted ts) ps (record { row = row; live = live }) counts (rw is (grind (arith, nat_tests)))
 
--- threads that ended went, and processes that went
-pub counts-less : (ts : List ThreadRow) (b : Birth) → has (is_life b) ts ≡ false → (ps : List Counted) → every (is_counted ts) ps ≡ true → every (is_counted (without (is_thread_born b) ts)) ps ≡ true
-counts-less ts b none =
-    counts-same ts (without (is_thread_born b) ts) (λ pid. count-without (lives_in pid) (is_thread_born b) (is_life b) (λ t born off. grind (arith, born, off)) ts none)
+-- a thread went that had ended
+pub counts-less : (ts : List ThreadRow) (test : ThreadRow → Bool) (t : ThreadRow) → first test ts ≡ Some t → t.live ≡ false → (ps : List Counted) → every (is_counted ts) ps ≡ true → every (is_counted (without_first test ts)) ps ≡ true
+counts-less ts test t found off =
+    counts-same ts (without_first test ts) (λ pid. let none : lives_in pid t ≡ false = grind (arith, off) in omega (arith, count-gone test (lives_in pid) ts t found, ap {B = ℕ} (λ b. cond b 1 0) none))
 
 -- the rows beside counts that were made anew
 pub rows-again : (us : List ThreadRow) (pid : ℕ) (ps : List Counted) → process_rows (recounted us pid ps) ≡ process_rows ps
 rows-again us pid ps = unseen-change (λ (p : Counted). p.row) (has_number pid) (counting (count (lives_in pid) us)) (λ p. refl) ps
 
-all-true : (ps : List Counted) → every (λ p. true) ps ≡ true
-all-true [] = refl
-all-true (p ∷ ps) = grind (arith, all-true ps)
-
-pub rows-less : (b : Birth) (ps : List Counted) → process_rows (without (has_name b) ps) ≡ without (is_process_born b) (process_rows ps)
-rows-less b ps = without-map (λ (p : Counted). p.row) (λ p. true) (has_name b) (is_process_born b) (λ p _. refl) ps (all-true ps)
+pub rows-less : (b : Birth) (ps : List Counted) → process_rows (without_first (has_name b) ps) ≡ without_first (is_process_born b) (process_rows ps)
+rows-less b ps = without_first-map (λ (p : Counted). p.row) (λ p. true) (has_name b) (is_process_born b) (λ p _. refl) ps (every-true ps)
 
 -- a count tells whether there is one
 pub counts-one : (pid : ℕ) (ts : List ThreadRow) → nat_lt 0 (count (lives_in pid) ts) ≡ has (lives_in pid) ts
@@ -86,13 +83,14 @@ lives-counted ts p counted =
     ap (nat_lt 0) is ∙ counts-one p.row.number ts
 
 -- a process at a place, as its count tells
-pub life-at : (ts : List ThreadRow) (ps : List Counted) (i : ℕ) (p : Counted) → i < length (process_rows ps) → p ≡ get_or ps i p → every (is_counted ts) ps ≡ true
+pub life-at : (ts : List ThreadRow) (ps : List Counted) (i : ℕ) (p : Counted) → slice_get ps i ≡ Some p → every (is_counted ts) ps ≡ true
     → option_map (process_life ts) (slice_get (process_rows ps) i) ≡ Some (record { birth = p.row.birth; live = is_peopled p })
-life-at ts [] i p within is counts = absurd (omega (arith, within))
-life-at ts (q ∷ ps) zero p within is counts =
+life-at ts [] i p here counts = absurd (cc)
+life-at ts (q ∷ ps) zero p here counts =
+    let same : q ≡ p = cc in
     let told = sym (lives-counted ts q (grind arith)) in
-    (λ i. Some (record { birth = q.row.birth; live = told i })) ∙ ap (λ (x : Counted). Some (record { birth = x.row.birth; live = is_peopled x })) (sym is)
-life-at ts (q ∷ ps) (suc i) p within is counts = life-at ts ps i p (omega (arith, within)) is (grind arith)
+    (λ i. Some (record { birth = q.row.birth; live = told i })) ∙ ap (λ (x : Counted). Some (record { birth = x.row.birth; live = is_peopled x })) same
+life-at ts (q ∷ ps) (suc i) p here counts = life-at ts ps i p here (grind arith)
 
 -- live children, by the counts
 pub children-counted : (ts : List ThreadRow) (pid : ℕ) (ps : List Counted) → every (is_counted ts) ps ≡ true → count (is_live_child ts pid) (process_rows ps) ≡ count (is_peopled_child pid) ps

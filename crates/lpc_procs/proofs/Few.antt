@@ -32,7 +32,7 @@ module _ {X : Type 0} (number : X → ℕ) where
       step true is rest = grind (arith, nat_tests)
       step false off rest = rest (grind arith)
 
-  few_by : (n : ℕ) (xs : List X) → differ_by number xs ≡ true → every (λ x. nat_lt (number x) n) xs ≡ true → length xs ≤ n
+  pub few_by : (n : ℕ) (xs : List X) → differ_by number xs ≡ true → every (λ x. nat_lt (number x) n) xs ≡ true → length xs ≤ n
   few_by n xs single all = rw (length-map xs number) at (length-le_from_distinct_below (numbers xs) n (distinct xs single) (below n xs all))
 
 pub few : (n : ℕ) (ts : List ThreadRow) → are_single ts ≡ true → every (is_below n) ts ≡ true → length ts ≤ n

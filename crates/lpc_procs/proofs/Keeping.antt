@@ -1,13 +1,14 @@
 -- What the changes of rows keep.
-use Rattle.std.proofs.Common.{◌≡◌, ℕ, List, [], ◌∷◌, ◌++◌, Bool, true, false, get_or, set, ◌<◌, refl, ap, ◌∙◌, arith}
-use Rattle.std.specs.List.{position}
+use Rattle.std.proofs.Common.{◌≡◌, ℕ, List, [], ◌∷◌, ◌++◌, Bool, true, false, set, slice_get, ◌<◌, refl, ap, ◌∙◌, arith}
 use Rattle.std.specs.Prelude.{Option, Some, None, is_some, IfSome, option_map, nat_lt, ◌==◌}
 use Rattle.std.proofs.lemmas.Bool.Decides.{nat_tests}
 use Rattle.std.proofs.lemmas.Bool.{eqb-true, lt-ltb}
-use Rattle.lpc_base.specs.Rows.{change, every, first, has, without}
-use Rattle.lpc_base.proofs.Differ.{IsRowAt, differ-change, differ-push, differ-without, row-at, set-change}
-use Rattle.lpc_base.proofs.RowWords.{every-change, every-more, every-push, every-without, first-kept, first-push}
+use Rattle.lpc_base.specs.Rows.{change, every, first, has, without_first}
+use Rattle.lpc_base.proofs.Differ.{differ-change, differ-push, set-change}
+use Rattle.lpc_base.proofs.RowMaps.{every-without_first}
+use Rattle.lpc_base.proofs.RowWords.{every-change, every-more, every-push, first-kept, first-push}
 use Rattle.arrayvec.specs.ArrayVec.{ArrayVec}
+use Rattle.lpc_procs.proofs.Gone.{differ-without_first}
 use Rattle.lpc_procs.specs.declared.rows.Registration.{Registration}
 use Rattle.lpc_procs.specs.declared.rows.ThreadRow.{ThreadRow}
 use Rattle.lpc_procs.specs.declared.rows.UsedThread.{UsedThread}
@@ -46,11 +47,11 @@ kept-push ts used t kept within new =
       low = every-push (is_below 2147483648) ts t kept.low (lt-ltb t.number 2147483648 within);
     }
 
-pub kept-without : (test : ThreadRow → Bool) (ts : List ThreadRow) (used : List UsedThread) → IsKept ts used → IsKept (without test ts) used
+pub kept-without : (test : ThreadRow → Bool) (ts : List ThreadRow) (used : List UsedThread) → IsKept ts used → IsKept (without_first test ts) used
 kept-without test ts used kept = record {
-  noted = every-without (is_noted used) test ts kept.noted;
-  single = differ-without (λ (x : ThreadRow). x.number) test ts kept.single;
-  low = every-without (is_below 2147483648) test ts kept.low;
+  noted = every-without_first (is_noted used) test ts kept.noted;
+  single = differ-without_first test (λ (x : ThreadRow). x.number) ts kept.single;
+  low = every-without_first (is_below 2147483648) test ts kept.low;
 }
 
 abbrev number : ThreadRow → ℕ
@@ -71,18 +72,12 @@ kept-change test f ts used keeps kept = record {
   low = every-change (is_below 2147483648) test f (λ t h. ap (λ n. nat_lt n 2147483648) (keeps.number t) ∙ h) ts kept.low;
 }
 
--- the row of a thread at the place where it was found
-pub row_is : (ts : List ThreadRow) (i tid : ℕ) (row : ThreadRow) → position (is_thread tid) ts ≡ Some i → row ≡ get_or ts i row → IsRowAt number ts tid i row
-row_is ts i tid row = row-at number ts tid i row
+-- the change of the row at its place
+pub changed_at : (f : ThreadRow → ThreadRow) (ts : List ThreadRow) (i tid : ℕ) (row : ThreadRow) → are_single ts ≡ true → slice_get ts i ≡ Some row → row.number ≡ tid → set ts i (f row) ≡ change (is_thread tid) f ts
+changed_at f ts i tid row single here own = set-change number f ts i tid row single here own
 
--- the change of the row that was found
-pub changed_at : (f : ThreadRow → ThreadRow) (ts : List ThreadRow) (i tid : ℕ) (row : ThreadRow) → are_single ts ≡ true → position (is_thread tid) ts ≡ Some i → row ≡ get_or ts i row → set ts i (f row) ≡ change (is_thread tid) f ts
-changed_at f ts i tid row single is read =
-    let found = row_is ts i tid row is read in
-    set-change number f ts i tid row single found.here found.own
-
-pub kept-at : (f : ThreadRow → ThreadRow) (ts : List ThreadRow) (used : List UsedThread) (i tid : ℕ) (row : ThreadRow) → KeepsNumbers f → IsKept ts used → position (is_thread tid) ts ≡ Some i → row ≡ get_or ts i row → IsKept (set ts i (f row)) used
-kept-at f ts used i tid row keeps kept is read = rw (changed_at f ts i tid row kept.single is read) (kept-change (is_thread tid) f ts used keeps kept)
+pub kept-at : (f : ThreadRow → ThreadRow) (ts : List ThreadRow) (used : List UsedThread) (i tid : ℕ) (row : ThreadRow) → KeepsNumbers f → IsKept ts used → slice_get ts i ≡ Some row → row.number ≡ tid → IsKept (set ts i (f row)) used
+kept-at f ts used i tid row keeps kept here own = rw (changed_at f ts i tid row kept.single here own) (kept-change (is_thread tid) f ts used keeps kept)
 
 -- the registrations of a row, changed
 pub registered-as : (t : ThreadRow) (v : ArrayVec Registration) (rs : List Registration) → v.items ≡ rs → record t { registered = v } ≡ record t { registered = record { items = rs } }

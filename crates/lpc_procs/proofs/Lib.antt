@@ -2,7 +2,11 @@ pub mod Children
 pub mod Counts
 pub mod Events
 pub mod Few
+pub mod Gone
 pub mod Keeping
+pub mod Keyed
+pub mod Led
 pub mod Placed
 pub mod ProcessRows
 pub mod Stored
+pub mod Tables

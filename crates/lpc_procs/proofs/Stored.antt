@@ -1,31 +1,26 @@
 -- What the table keeps when a row changes, comes or goes: counts, names and used numbers.
-use Rattle.std.proofs.Common.{◌≡◌, ℕ, zero, suc, ◌+◌, ◌*◌, ◌<◌, ◌≤◌, List, [], ◌∷◌, ◌++◌, Bool, true, false, cond, map, length, get_or, set, refl, ap, sym, subst, ◌∙◌, arith}
-use Rattle.std.specs.List.{position}
+use Rattle.std.proofs.Common.{◌≡◌, ℕ, zero, suc, ◌+◌, ◌*◌, ◌<◌, ◌≤◌, List, [], ◌∷◌, ◌++◌, Bool, true, false, cond, map, length, set, refl, ap, sym, subst, ◌∙◌, arith}
 use Rattle.std.specs.Prelude.{Some, slice_get, is_some, nat_le, ◌==◌}
 use Rattle.std.proofs.lemmas.Bool.Decides.{nat_tests}
 use Rattle.std.proofs.lemmas.Bool.{lt-ltb}
 use Rattle.std.proofs.lemmas.List.{length-append}
-use Rattle.lpc_base.specs.Births.{same_birth}
 use Rattle.lpc_base.specs.declared.birth.Birth.{Birth}
 use Rattle.lpc_base.specs.declared.limits.TheConstants.{REGISTRATION_LIMIT}
-use Rattle.lpc_base.specs.Rows.{change, count, every, first, has, when, without}
-use Rattle.lpc_base.proofs.Differ.{differ-change, differ-push, differ-without}
-use Rattle.lpc_base.proofs.RowMaps.{push-map, unseen-change, without-map}
-use Rattle.lpc_base.proofs.RowWords.{count-append, count-bound, count-push, count-without, every-change, every-more, every-push, every-true, every-without}
+use Rattle.lpc_base.specs.Rows.{change, count, every, first, has, when, without, without_first}
+use Rattle.lpc_base.proofs.Differ.{differ-change, differ-push}
+use Rattle.lpc_base.proofs.RowMaps.{every-without_first, unseen-change}
+use Rattle.lpc_base.proofs.RowWords.{count-append, count-bound, count-push, every-change, every-more, every-push}
 use Rattle.lpc_procs.specs.declared.rows.Counted.{Counted}
 use Rattle.lpc_procs.specs.declared.rows.ProcessRow.{ProcessRow}
 use Rattle.lpc_procs.specs.declared.rows.Registration.{Registration}
 use Rattle.lpc_procs.specs.declared.rows.ThreadRow.{ThreadRow}
 use Rattle.lpc_procs.specs.declared.rows.UsedThread.{UsedThread}
-use Rattle.lpc_procs.specs.Kept.{AreKept, are_apart, counting, has_name, has_number, is_counted, is_limited, is_low, is_of_used, is_used_row, process_name, process_rows, thread_name}
-use Rattle.lpc_procs.specs.Procs.{HasRegistrationLeft, all_registrations, ended, has_registered, is_life, is_of_birth, is_process, is_thread, is_thread_born, is_used_thread, lives_in, live_registrations, registered_live, registering, unregistering}
+use Rattle.lpc_procs.specs.Kept.{AreKept, are_apart, counting, has_number, is_counted, is_limited, is_low, is_of_used, is_used_row, process_name, process_rows}
+use Rattle.lpc_procs.specs.Procs.{HasRegistrationLeft, all_registrations, ended, has_registered, is_of_birth, is_process, is_thread, is_used_thread, lives_in, live_registrations, registered_live, registering, unregistering}
 use Rattle.lpc_procs.proofs.Counts.{count-set, counts-ended, counts-less, counts-process, counts-set, counts-thread}
 use Rattle.lpc_procs.proofs.Few.{few, few_processes}
-use Rattle.lpc_procs.proofs.Keeping.{KeepsNumbers, changed_at, kept-at, kept-push, kept-without, row_is}
-
--- a name is the name asked for
-abbrev is_named : Birth → ℕ × Birth → Bool
-is_named b e = same_birth e.1 b
+use Rattle.lpc_procs.proofs.Gone.{count-gone, differ-without_first}
+use Rattle.lpc_procs.proofs.Keeping.{KeepsNumbers, changed_at, kept-at, kept-push, kept-without}
 
 abbrev many : ThreadRow → ℕ
 many t = length t.registered.items
@@ -46,6 +41,20 @@ all-push : (ts : List ThreadRow) (t : ThreadRow) → all (ts ++ t ∷ []) ≡ al
 all-push [] t = omega (arith, length-append t.registered.items [])
 all-push (x ∷ ts) t =
     omega (arith, all-push ts t, length-append x.registered.items (all_registrations (ts ++ t ∷ [])), length-append x.registered.items (all_registrations ts))
+
+-- the registrations of a row that goes
+pub all-gone : (test : ThreadRow → Bool) (ts : List ThreadRow) (t : ThreadRow) → first test ts ≡ Some t → all (without_first test ts) + many t ≡ all ts
+all-gone test [] t found = absurd (cc)
+all-gone test (x ∷ ts) t found = by (test x) refl (all-gone test ts t)
+  where
+    by : (b : Bool) → test x ≡ b → (first test ts ≡ Some t → all (without_first test ts) + many t ≡ all ts) → all (without_first test (x ∷ ts)) + many t ≡ all (x ∷ ts)
+    by true on rest =
+        let here : Some x ≡ Some t = rw on at found in
+        let same : x ≡ t = cc in
+        rw (on, ← same) (omega (arith, length-append x.registered.items (all_registrations ts)))
+    by false off rest =
+        let later = rest (rw off at found) in
+        rw off (omega (arith, later, length-append x.registered.items (all_registrations (without_first test ts)), length-append x.registered.items (all_registrations ts)))
 
 pub all-bound : (ts : List ThreadRow) → every is_limited ts ≡ true → all ts ≤ REGISTRATION_LIMIT * length ts
 all-bound [] limited = omega arith
@@ -91,7 +100,7 @@ process-unused pid ns (q ∷ ps) new used = at (q.row.number == pid) refl (proce
 
 -- processes whose counts are written over
 module _ (pid live : ℕ) where
-  names-counting : (ps : List Counted) → map process_name (change (has_number pid) (counting live) ps) ≡ map process_name ps
+  pub names-counting : (ps : List Counted) → map process_name (change (has_number pid) (counting live) ps) ≡ map process_name ps
   names-counting ps = unseen-change process_name (has_number pid) (counting live) (λ p. refl) ps
 
   pub rows-counting : (ps : List Counted) → process_rows (change (has_number pid) (counting live) ps) ≡ process_rows ps
@@ -106,28 +115,24 @@ module _ (pid live : ℕ) where
   low-counting : (ps : List Counted) → every (is_low 2147483648) ps ≡ true → every (is_low 2147483648) (change (has_number pid) (counting live) ps) ≡ true
   low-counting ps low = every-change (is_low 2147483648) (has_number pid) (counting live) (λ p h. h) ps low
 
-module _ (ps : List Counted) (ts : List ThreadRow) (ns : List ℕ) (us : List UsedThread) (pn tn : List (ℕ × Birth)) (alive registered : ℕ) (kept : AreKept ps ts ns us pn tn alive registered) where
+module _ (ps : List Counted) (ts : List ThreadRow) (ns : List ℕ) (us : List UsedThread) (alive registered : ℕ) (kept : AreKept ps ts ns us alive registered) where
   -- a thread at its place changes
-  module _ (i tid : ℕ) (row : ThreadRow) (is : position (is_thread tid) ts ≡ Some i) (read : row ≡ get_or ts i row) where
-    pub kept-set : (f : ThreadRow → ThreadRow) → KeepsNumbers f → ((t : ThreadRow) → (f t).birth ≡ t.birth) → (f row).live ≡ row.live → (is_limited row ≡ true → is_limited (f row) ≡ true) → (total : ℕ) → total + many row ≡ registered + many (f row)
-        → AreKept ps (set ts i (f row)) ns us pn tn alive total
-    kept-set f keeps births lives limits total is_total =
-        let found = row_is ts i tid row is read in
-        let same = changed_at f ts i tid row kept.rows.single is read in
+  module _ (i tid : ℕ) (row : ThreadRow) (here : slice_get ts i ≡ Some row) (own : row.number ≡ tid) where
+    pub kept-set : (f : ThreadRow → ThreadRow) → KeepsNumbers f → (f row).live ≡ row.live → (is_limited row ≡ true → is_limited (f row) ≡ true) → (total : ℕ) → total + many row ≡ registered + many (f row)
+        → AreKept ps (set ts i (f row)) ns us alive total
+    kept-set f keeps lives limits total is_total =
+        let same = changed_at f ts i tid row kept.rows.single here own in
         let owner : (t : ThreadRow) → is_of_used ns t ≡ true → is_of_used ns (f t) ≡ true = λ t h. subst (λ n. has (λ m. m == n) ns ≡ true) (sym (keeps.process t)) h in
-        let name : (t : ThreadRow) → thread_name (f t) ≡ thread_name t = λ t. λ j. (keeps.number t j, births t j) in
         record {
-          rows = kept-at f ts us i tid row keeps kept.rows is read;
-          counts = counts-set ts i row (f row) found.here (keeps.process row) lives ps kept.counts;
+          rows = kept-at f ts us i tid row keeps kept.rows here own;
+          counts = counts-set ts i row (f row) here (keeps.process row) lives ps kept.counts;
           apart = kept.apart;
           processes_low = kept.processes_low;
           owners = rw same (every-change (is_of_used ns) (is_thread tid) f owner ts kept.owners);
           processes_used = kept.processes_used;
-          processes_named = kept.processes_named;
-          threads_named = kept.threads_named ∙ sym (ap (map thread_name) same ∙ unseen-change thread_name (is_thread tid) f name ts);
-          limited = limited-set ts i (f row) (limits (limited-at ts i row kept.limited found.here)) kept.limited;
-          living = kept.living ∙ sym (count-set (λ t. t.live) ts i row (f row) found.here lives);
-          told = omega (arith, is_total, kept.told, all-set ts i row (f row) found.here);
+          limited = limited-set ts i (f row) (limits (limited-at ts i row kept.limited here)) kept.limited;
+          living = kept.living ∙ sym (count-set (λ t. t.live) ts i row (f row) here lives);
+          told = omega (arith, is_total, kept.told, all-set ts i row (f row) here);
         }
       where
         limited-at : (xs : List ThreadRow) (k : ℕ) (x : ThreadRow) → every is_limited xs ≡ true → slice_get xs k ≡ Some x → is_limited x ≡ true
@@ -142,41 +147,37 @@ module _ (ps : List Counted) (ts : List ThreadRow) (ns : List ℕ) (us : List Us
 
     -- a live thread ends
     pub kept-ended : row.live ≡ true → (live alive' : ℕ) → live + 1 ≡ count (lives_in row.process) ts → alive' + 1 ≡ alive
-        → AreKept (change (has_number row.process) (counting live) ps) (set ts i (ended row)) ns us pn tn alive' registered
+        → AreKept (change (has_number row.process) (counting live) ps) (set ts i (ended row)) ns us alive' registered
     kept-ended lives live alive' counted fewer =
-        let found = row_is ts i tid row is read in
         let kept' = kept-ends in
         let mine : lives_in row.process row ≡ true = grind (arith, nat_tests, lives) in
         let gone : lives_in row.process (ended row) ≡ false = grind (arith, nat_tests) in
-        let left = count-unset (lives_in row.process) ts i row (ended row) found.here mine gone in
+        let left = count-unset (lives_in row.process) ts i row (ended row) here mine gone in
         let is_live : live ≡ count (lives_in row.process) (set ts i (ended row)) = omega (arith, left, counted) in
-        let less = count-unset (λ t. t.live) ts i row (ended row) found.here lives refl in
+        let less = count-unset (λ t. t.live) ts i row (ended row) here lives refl in
         record {
-          rows = kept-at ended ts us i tid row (record { number = λ t. refl; process = λ t. refl }) kept.rows is read;
-          counts = rw is_live (counts-ended ts i row (ended row) found.here refl ps kept.counts);
+          rows = kept-at ended ts us i tid row (record { number = λ t. refl; process = λ t. refl }) kept.rows here own;
+          counts = rw is_live (counts-ended ts i row (ended row) here refl ps kept.counts);
           apart = apart-counting row.process live ps kept.apart;
           processes_low = low-counting row.process live ps kept.processes_low;
           owners = kept'.0;
           processes_used = used-counting row.process live ns ps kept.processes_used;
-          processes_named = kept.processes_named ∙ sym (names-counting row.process live ps);
-          threads_named = kept'.1;
-          limited = kept'.2;
+          limited = kept'.1;
           living = omega (arith, less, fewer, kept.living);
-          told = kept.told ∙ omega (arith, all-set ts i row (ended row) found.here);
+          told = kept.told ∙ omega (arith, all-set ts i row (ended row) here);
         }
       where
-        kept-ends : (every (is_of_used ns) (set ts i (ended row)) ≡ true) × (tn ≡ map thread_name (set ts i (ended row))) × (every is_limited (set ts i (ended row)) ≡ true)
+        kept-ends : (every (is_of_used ns) (set ts i (ended row)) ≡ true) × (every is_limited (set ts i (ended row)) ≡ true)
         kept-ends =
-            let same = changed_at ended ts i tid row kept.rows.single is read in (
+            let same = changed_at ended ts i tid row kept.rows.single here own in (
               rw same (every-change (is_of_used ns) (is_thread tid) ended (λ t h. h) ts kept.owners),
-              kept.threads_named ∙ sym (ap (map thread_name) same ∙ unseen-change thread_name (is_thread tid) ended (λ t. refl) ts),
               rw same (every-change is_limited (is_thread tid) ended (λ t h. h) ts kept.limited),
             )
 
   -- a further live thread of a process, which registered nothing
   pub kept-thread : (t : ThreadRow) → t.live ≡ true → t.registered.items ≡ [] → t.number < 2147483648 → has (is_used_thread t.number) us ≡ false → is_some (first (is_process t.process) (process_rows ps)) ≡ true
       → (live : ℕ) → live ≡ count (lives_in t.process) ts + 1
-      → AreKept (change (has_number t.process) (counting live) ps) (ts ++ t ∷ []) ns (us ++ (record { number = t.number; process = t.process }) ∷ []) pn (tn ++ thread_name t ∷ []) (alive + 1) registered
+      → AreKept (change (has_number t.process) (counting live) ps) (ts ++ t ∷ []) ns (us ++ (record { number = t.number; process = t.process }) ∷ []) (alive + 1) registered
   kept-thread t lives none within new home live is =
       let mine : lives_in t.process t ≡ true = grind (arith, nat_tests, lives) in
       let more = count-push (lives_in t.process) ts t in
@@ -189,8 +190,6 @@ module _ (ps : List Counted) (ts : List ThreadRow) (ns : List ℕ) (us : List Us
         processes_low = low-counting t.process live ps kept.processes_low;
         owners = every-push (is_of_used ns) ts t kept.owners (owned ps kept.processes_used home);
         processes_used = used-counting t.process live ns ps kept.processes_used;
-        processes_named = kept.processes_named ∙ sym (names-counting t.process live ps);
-        threads_named = ap (λ xs. xs ++ thread_name t ∷ []) kept.threads_named ∙ sym (push-map thread_name ts t);
         limited = every-push is_limited ts t kept.limited (ap (λ n. nat_le n 16) no_more);
         living = ap (λ n. n + 1) kept.living ∙ sym (count-push (λ x. x.live) ts t ∙ ap (λ b. count (λ x. x.live) ts + cond b 1 0) lives);
         told = kept.told ∙ sym (all-push ts t ∙ omega (arith, no_more));
@@ -208,7 +207,7 @@ module _ (ps : List Counted) (ts : List ThreadRow) (ns : List ℕ) (us : List Us
 
   -- a further process, under a number that none had
   pub kept-process : (row : ProcessRow) → row.number < 2147483648 → has (λ n. n == row.number) ns ≡ false
-      → AreKept (ps ++ (record { row = row; live = 0 }) ∷ []) ts (ns ++ row.number ∷ []) us (pn ++ (row.number, row.birth) ∷ []) tn alive registered
+      → AreKept (ps ++ (record { row = row; live = 0 }) ∷ []) ts (ns ++ row.number ∷ []) us alive registered
   kept-process row within new =
       let p : Counted = record { row = row; live = 0 } in
       record {
@@ -218,8 +217,6 @@ module _ (ps : List Counted) (ts : List ThreadRow) (ns : List ℕ) (us : List Us
         processes_low = every-push (is_low 2147483648) ps p kept.processes_low (lt-ltb row.number 2147483648 within);
         owners = every-more (is_of_used ns) (is_of_used (ns ++ row.number ∷ [])) (λ t h. has-more t.process ns h) ts kept.owners;
         processes_used = every-push (is_used_row (ns ++ row.number ∷ [])) ps p (every-more (is_used_row ns) (is_used_row (ns ++ row.number ∷ [])) (λ q h. has-more q.row.number ns h) ps kept.processes_used) (has-last ns);
-        processes_named = ap (λ xs. xs ++ (row.number, row.birth) ∷ []) kept.processes_named ∙ sym (push-map process_name ps p);
-        threads_named = kept.threads_named;
         limited = kept.limited;
         living = kept.living;
         told = kept.told;
@@ -233,36 +230,32 @@ module _ (ps : List Counted) (ts : List ThreadRow) (ns : List ℕ) (us : List Us
       has-last [] = grind (arith, nat_tests)
       has-last (x ∷ xs) = grind (arith, has-last xs)
 
-  -- the processes of a name go
-  pub kept-processes_left : (b : Birth) → AreKept (without (has_name b) ps) ts ns us (without (is_named b) pn) tn alive registered
-  kept-processes_left b = record {
+  -- a process goes
+  pub kept-processes_left : (test : Counted → Bool) → AreKept (without_first test ps) ts ns us alive registered
+  kept-processes_left test = record {
     rows = kept.rows;
-    counts = every-without (is_counted ts) (has_name b) ps kept.counts;
-    apart = differ-without (λ (q : Counted). q.row.number) (has_name b) ps kept.apart;
-    processes_low = every-without (is_low 2147483648) (has_name b) ps kept.processes_low;
+    counts = every-without_first (is_counted ts) test ps kept.counts;
+    apart = differ-without_first test (λ (q : Counted). q.row.number) ps kept.apart;
+    processes_low = every-without_first (is_low 2147483648) test ps kept.processes_low;
     owners = kept.owners;
-    processes_used = every-without (is_used_row ns) (has_name b) ps kept.processes_used;
-    processes_named = ap (without (is_named b)) kept.processes_named ∙ sym (without-map process_name (λ p. true) (has_name b) (is_named b) (λ p _. refl) ps (every-true ps));
-    threads_named = kept.threads_named;
+    processes_used = every-without_first (is_used_row ns) test ps kept.processes_used;
     limited = kept.limited;
     living = kept.living;
     told = kept.told;
   }
 
-  -- the threads of a name go, of which none is live
-  pub kept-threads_left : (b : Birth) → has (is_life b) ts ≡ false → (total : ℕ) → total ≡ all (without (is_thread_born b) ts) → AreKept ps (without (is_thread_born b) ts) ns us pn (without (is_named b) tn) alive total
-  kept-threads_left b none total is_total = record {
-    rows = kept-without (is_thread_born b) ts us kept.rows;
-    counts = counts-less ts b none ps kept.counts;
+  -- a thread goes that has ended
+  pub kept-threads_left : (test : ThreadRow → Bool) (t : ThreadRow) → first test ts ≡ Some t → t.live ≡ false → (total : ℕ) → total + many t ≡ registered → AreKept ps (without_first test ts) ns us alive total
+  kept-threads_left test t found off total is_total = record {
+    rows = kept-without test ts us kept.rows;
+    counts = counts-less ts test t found off ps kept.counts;
     apart = kept.apart;
     processes_low = kept.processes_low;
-    owners = every-without (is_of_used ns) (is_thread_born b) ts kept.owners;
+    owners = every-without_first (is_of_used ns) test ts kept.owners;
     processes_used = kept.processes_used;
-    processes_named = kept.processes_named;
-    threads_named = ap (without (is_named b)) kept.threads_named ∙ sym (without-map thread_name (λ t. true) (is_thread_born b) (is_named b) (λ t _. refl) ts (every-true ts));
-    limited = every-without is_limited (is_thread_born b) ts kept.limited;
-    living = kept.living ∙ sym (count-without (λ t. t.live) (is_thread_born b) (is_life b) (λ t born off. grind (arith, born, off)) ts none);
-    told = is_total;
+    limited = every-without_first is_limited test ts kept.limited;
+    living = kept.living ∙ omega (arith, count-gone test (λ (x : ThreadRow). x.live) ts t found, ap {B = ℕ} (λ b. cond b 1 0) off);
+    told = omega (arith, is_total, kept.told, all-gone test ts t found);
   }
 
   -- there are fewer than 2^32 threads, so few live ones and few registrations

@@ -1,15 +1,49 @@
 -- What the table keeps of its rows and numbers.
-use Rattle.std.specs.Prelude.{ℕ, ◌≡◌, ◌+◌, ◌==◌, ◌&&◌, ◌||◌, Bool, true, false, is_some, length, map, nat_le, nat_lt, List, Option, Some, None, if◌then◌else◌}
+use Rattle.std.specs.Prelude.{ℕ, ◌≡◌, ◌≤◌, ◌+◌, ◌==◌, ◌&&◌, ◌||◌, Bool, true, false, is_some, length, map, nat_le, nat_lt, List, Option, Some, None, option_map, if◌then◌else◌}
 use Rattle.lpc_base.specs.declared.birth.Birth.{Birth}
 use Rattle.lpc_base.specs.Rows.{change, count, differ_by, every, first, has}
 use Rattle.lpc_base.specs.declared.limits.TheConstants.{REGISTRATION_LIMIT}
+use Rattle.lpc_numbers.specs.Named.{AreNamed, Named}
+use Rattle.lpc_numbers.specs.Numbered.{numbers, value_at}
 use Rattle.lpc_numbers.specs.Tally.{Tally, count_in, one_for}
+use Rattle.lpc_slots.specs.declared.Key.{Key}
+use Rattle.lpc_slots.specs.Table.{Table, at, listed}
 use Rattle.lpc_procs.specs.declared.rows.Counted.{Counted}
 use Rattle.lpc_procs.specs.declared.rows.Doomed.{Doomed}
 use Rattle.lpc_procs.specs.declared.rows.ProcessRow.{ProcessRow}
 use Rattle.lpc_procs.specs.declared.rows.ThreadRow.{ThreadRow}
 use Rattle.lpc_procs.specs.declared.rows.UsedThread.{UsedThread}
+use Rattle.lpc_procs.specs.declared.keys.Use.{Use}
 use Rattle.lpc_procs.specs.Procs.{all_registrations, doomed_as, is_made_by, is_process, is_process_born, is_used_thread, lives_in}
+
+-- the rows of a table, in the order of making
+abbrev pub rows_in : {T : Type 0} → Table T → List T
+rows_in s = map (λ row. row.1) (listed s)
+
+-- the key of a row; where there is none, the key that is never given
+abbrev pub key_or : Option Key → Key
+key_or None = record { index = 0; generation = 0 }
+key_or (Some key) = key
+
+-- the key that a process of a number had or has, and that a thread had or has
+abbrev pub process_key : List (ℕ × Key) → ℕ → Key
+process_key used pid = key_or (value_at used pid)
+
+abbrev pub thread_key : List (ℕ × Use) → ℕ → Key
+thread_key used tid = key_or (option_map (λ u. u.key) (value_at used tid))
+
+-- Each number has a key, each row stands under that of its number, and a row that stands there has the number. No key is
+-- younger than the last row that was made.
+pub record AreKeyed {T : Type 0} (number : T → ℕ) (s : Table T) (key : ℕ → Key) : Type 0 where
+  pub own : (n : ℕ) (row : T) → at s (key n) ≡ Some row → number row ≡ n
+  pub leads : (k : Key) (row : T) → at s k ≡ Some row → key (number row) ≡ k
+  pub young : (n : ℕ) → (key n).generation ≤ s.made
+
+-- a row was made for each number that was used; no two of these are one, and each is below the limit of numbers
+pub record AreUsed (made : ℕ) (used : List ℕ) : Type 0 where
+  pub each : made ≡ length used
+  pub differ : differ_by (λ n. n) used ≡ true
+  pub low : every (λ n. nat_lt n 2147483648) used ≡ true
 
 -- a used number is of a process
 abbrev pub is_of : ℕ → Option UsedThread → Bool
@@ -53,10 +87,6 @@ is_peopled_child pid p = is_made_by pid p.row && is_peopled p
 -- under each number stands how many live processes it made, as their counts tell, where each was counted
 abbrev pub AreTallied : List Counted → Tally → Type 0
 AreTallied processes children = children.whole ≡ true → (pid : ℕ) → count_in children.entries pid ≡ count (is_peopled_child pid) processes
-
--- a live process of the name, as its count tells
-abbrev pub is_peopled_of : Birth → Counted → Bool
-is_peopled_of b p = has_name b p && is_peopled p
 
 -- the count of a process that was found
 abbrev pub lives_in_first : Option Counted → ℕ
@@ -109,7 +139,7 @@ pub record IsKept (threads : List ThreadRow) (used : List UsedThread) : Type 0 w
   pub single : are_single threads ≡ true
   pub low : every (is_below 2147483648) threads ≡ true
 
--- a row with its name, under its number
+-- a row's name, under its number
 abbrev pub process_name : Counted → ℕ × Birth
 process_name p = (p.row.number, p.row.birth)
 
@@ -117,8 +147,8 @@ abbrev pub thread_name : ThreadRow → ℕ × Birth
 thread_name t = (t.number, t.birth)
 
 -- the used thread numbers, with their processes
-abbrev pub used_rows : List (ℕ × ℕ) → List UsedThread
-used_rows entries = map (λ e. record { number = e.0; process = e.1 }) entries
+abbrev pub used_rows : List (ℕ × Use) → List UsedThread
+used_rows entries = map (λ e. record { number = e.0; process = e.1.process }) entries
 
 -- a thread's process, and a process, has a number that was used
 abbrev pub is_of_used : List ℕ → ThreadRow → Bool
@@ -140,25 +170,34 @@ abbrev pub is_limited : ThreadRow → Bool
 is_limited t = nat_le (length t.registered.items) REGISTRATION_LIMIT
 
 -- What the table keeps: that; the counts beside the processes; that no two processes have one number, that each number of
--- one is below the limit of numbers, and that it, and each thread's process, was used; the names under their numbers, in the order of the rows; how many
--- threads are live, and how many registrations there are.
-pub record AreKept (processes : List Counted) (threads : List ThreadRow) (numbers : List ℕ) (used : List UsedThread) (process_names thread_names : List (ℕ × Birth)) (alive registered : ℕ) : Type 0 where
+-- one is below the limit of numbers, and that it, and each thread's process, was used; how many threads are live, and
+-- how many registrations there are.
+pub record AreKept (processes : List Counted) (threads : List ThreadRow) (numbers : List ℕ) (used : List UsedThread) (alive registered : ℕ) : Type 0 where
   pub rows : IsKept threads used
   pub counts : every (is_counted threads) processes ≡ true
   pub apart : are_apart processes ≡ true
   pub processes_low : every (is_low 2147483648) processes ≡ true
   pub owners : every (is_of_used numbers) threads ≡ true
   pub processes_used : every (is_used_row numbers) processes ≡ true
-  pub processes_named : process_names ≡ map process_name processes
-  pub threads_named : thread_names ≡ map thread_name threads
   pub limited : every is_limited threads ≡ true
   pub living : alive ≡ count (λ t. t.live) threads
   pub told : registered ≡ length (all_registrations threads)
 
--- What the table keeps: all that, how many live processes are to end, of how many a port is told of exceptions, and
+-- How the numbers and names lead to the rows: each process and thread stands under the key of its number, a row was made
+-- for each number, and under each name its number is kept.
+pub record AreFound (processes : Table Counted) (threads : Table ThreadRow) (used_processes : List (ℕ × Key)) (used_threads : List (ℕ × Use)) (process_names thread_names : Named) : Type 0 where
+  pub process_keys : AreKeyed (λ (p : Counted). p.row.number) processes (process_key used_processes)
+  pub thread_keys : AreKeyed (λ (t : ThreadRow). t.number) threads (thread_key used_threads)
+  pub processes_made : AreUsed processes.made (numbers used_processes)
+  pub threads_made : AreUsed threads.made (numbers used_threads)
+  pub processes_named : AreNamed (map process_name (rows_in processes)) process_names
+  pub threads_named : AreNamed (map thread_name (rows_in threads)) thread_names
+
+-- What the tables keep: all that, how many live processes are to end, of how many a port is told of exceptions, and
 -- how many live processes each made.
-pub record IsStored (processes : List Counted) (threads : List ThreadRow) (numbers : List ℕ) (used : List UsedThread) (process_names thread_names : List (ℕ × Birth)) (alive registered dooms watched : ℕ) (children : Tally) : Type 0 where
-  pub all : AreKept processes threads numbers used process_names thread_names alive registered
-  pub doomed : dooms ≡ count is_doomed_row processes
-  pub watchers : watched ≡ count is_watched processes
-  pub tallied : AreTallied processes children
+pub record IsStored (processes : Table Counted) (threads : Table ThreadRow) (used_processes : List (ℕ × Key)) (used_threads : List (ℕ × Use)) (process_names thread_names : Named) (alive registered dooms watched : ℕ) (children : Tally) : Type 0 where
+  pub all : AreKept (rows_in processes) (rows_in threads) (numbers used_processes) (used_rows used_threads) alive registered
+  pub found : AreFound processes threads used_processes used_threads process_names thread_names
+  pub doomed : dooms ≡ count is_doomed_row (rows_in processes)
+  pub watchers : watched ≡ count is_watched (rows_in processes)
+  pub tallied : AreTallied (rows_in processes) children

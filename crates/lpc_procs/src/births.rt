@@ -1,11 +1,11 @@
-// What is found and taken away by the name that a process or thread was made under.
-ghost use Rattle.std.specs.Prelude.{◌≡◌, ◌≤◌, if◌then◌else◌, true, vec_len, vec_capacity};
+// What is asked of processes and threads by their makers and the names that they were made under.
+ghost use Rattle.std.specs.Prelude.{◌≡◌, if◌then◌else◌, true};
 ghost use Rattle.lpc_base.specs.Births.{same_birth};
-ghost use Rattle.lpc_base.specs.Rows.{count, has, without};
-ghost use Rattle.lpc_procs.specs.Kept.{Moves, Retells, has_name, is_peopled, is_peopled_child, is_peopled_of};
-ghost use Rattle.lpc_procs.specs.Procs.{born_thread, is_life, is_made_by, is_thread_born};
+ghost use Rattle.lpc_procs.specs.Kept.{Moves, Retells, is_peopled, is_peopled_child};
+ghost use Rattle.lpc_procs.specs.Procs.{born_thread, is_life, is_made_by};
 
 use crate::rows::Counted;
+use crate::searches::Test;
 use crate::{BornThread, ProcessRow, ThreadRow};
 use lpc_base::Birth;
 use lpc_numbers::Tally;
@@ -54,25 +54,86 @@ pub fn retell(children: &mut Tally, p: &Counted, live: usize)
     }
 }
 
-/// A live process has the name, as its count tells.
-pub fn has_life(rows: &[Counted], birth: Birth) -> bool
-    ensures { result ≡ has (is_peopled_of birth) rows.now }
+// The process is a live one that this one made, as its count tells.
+fn is_peopled_child(p: &Counted, pid: u32) -> bool
+    ensures { result ≡ is_peopled_child pid p.now }
 {
-    for p in rows {
-        if is_name(p.row.birth, birth) && is_peopled(p) {
-            return true;
-        }
-    }
-    false
+    is_made_by(&p.row, pid) && is_peopled(p)
 }
 
-/// How many live processes the process made.
-pub fn children(rows: &[Counted], pid: u32) -> usize
-    ensures { result ≡ count (is_peopled_child pid) rows.now }
+/// A live process that this one made, as its count tells.
+#[derive(Clone, Copy)]
+pub struct ChildOf {
+    /// The number of this one.
+    pub pid: u32,
+}
+
+impl Test<Counted> for ChildOf {
+    ghost use Rattle.lpc_procs.specs.Kept.{is_peopled_child};
+
+    ghost test = { λ asked p. is_peopled_child asked.pid p };
+
+    fn passes(&self, p: &Counted) -> bool {
+        is_peopled_child(p, self.pid)
+    }
+}
+
+/// A process of the name.
+#[derive(Clone, Copy)]
+pub struct ProcessNamed {
+    /// The name.
+    pub birth: Birth,
+}
+
+impl Test<Counted> for ProcessNamed {
+    ghost use Rattle.lpc_procs.specs.Kept.{has_name};
+
+    ghost test = { λ asked p. has_name asked.birth p };
+
+    fn passes(&self, p: &Counted) -> bool {
+        is_name(p.row.birth, self.birth)
+    }
+}
+
+/// A thread of the name.
+#[derive(Clone, Copy)]
+pub struct ThreadNamed {
+    /// The name.
+    pub birth: Birth,
+}
+
+impl Test<ThreadRow> for ThreadNamed {
+    ghost use Rattle.lpc_procs.specs.Procs.{is_thread_born};
+
+    ghost test = { λ asked t. is_thread_born asked.birth t };
+
+    fn passes(&self, t: &ThreadRow) -> bool {
+        is_name(t.birth, self.birth)
+    }
+}
+
+// The thread is live, and has the name.
+fn is_life(t: &ThreadRow, birth: Birth) -> bool
+    ensures { result ≡ is_life birth t.now }
 {
-    rows.iter()
-        .filter(|p| is_made_by(&p.row, pid) && is_peopled(p))
-        .count()
+    t.live && is_name(t.birth, birth)
+}
+
+/// A live thread of the name.
+#[derive(Clone, Copy)]
+pub struct LifeOf {
+    /// The name.
+    pub birth: Birth,
+}
+
+impl Test<ThreadRow> for LifeOf {
+    ghost use Rattle.lpc_procs.specs.Procs.{is_life};
+
+    ghost test = { λ asked t. is_life asked.birth t };
+
+    fn passes(&self, t: &ThreadRow) -> bool {
+        is_life(t, self.birth)
+    }
 }
 
 /// The thread as it is told to who knows its name.
@@ -91,32 +152,4 @@ pub fn life_count(t: &ThreadRow) -> usize
     ensures { result ≡ (if t.now.live then 1 else 0) }
 {
     usize::from(t.live)
-}
-
-/// How many live threads have the name.
-pub fn lives_of_thread(threads: &[ThreadRow], birth: Birth) -> usize
-    ensures { result ≡ count (is_life birth) threads.now }
-{
-    threads
-        .iter()
-        .filter(|t| t.live && is_name(t.birth, birth))
-        .count()
-}
-
-/// Takes away the processes of the name.
-pub fn remove_processes(rows: &mut Vec<Counted>, birth: Birth)
-    ensures rows { rows.new.items ≡ without (has_name birth) rows.old.items }
-    ensures fewer { vec_len rows.new ≤ vec_len rows.old }
-    ensures room { vec_capacity rows.new ≡ vec_capacity rows.old }
-{
-    rows.retain(|p| !is_name(p.row.birth, birth));
-}
-
-/// Takes away the threads of the name.
-pub fn remove_threads(rows: &mut Vec<ThreadRow>, birth: Birth)
-    ensures rows { rows.new.items ≡ without (is_thread_born birth) rows.old.items }
-    ensures fewer { vec_len rows.new ≤ vec_len rows.old }
-    ensures room { vec_capacity rows.new ≡ vec_capacity rows.old }
-{
-    rows.retain(|t| !is_name(t.birth, birth));
 }

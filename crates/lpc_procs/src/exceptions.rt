@@ -1,15 +1,18 @@
 // The ports that are told of processes' exceptions, and the processes that are to end.
 ghost use Rattle.std.specs.Prelude.{◌≡◌, ◌*◌, ◌<◌, ◌≤◌, ◌^◌, if◌then◌else◌, length, option_map};
-ghost use Rattle.lpc_base.specs.Rows.{count, has, passes, which};
+ghost use Rattle.lpc_base.specs.Rows.{count, passes, which};
 ghost use Rattle.lpc_procs.specs.Kept as kept;
-ghost use Rattle.lpc_procs.specs.Kept.{is_doomed_row, is_watched, process_rows};
+ghost use Rattle.lpc_procs.specs.Kept.{is_doomed_row, is_watched, process_rows, rows_in};
 ghost use Rattle.lpc_procs.specs.Procs as procs;
 ghost use Rattle.lpc_procs.specs.Procs.{doomed_as, event_ports, event_ports_of, is_of_birth, least};
 
 use crate::births::is_peopled;
+use crate::keys::row_at;
 use crate::rows::Counted;
+use crate::searches::Test;
 use crate::{Doomed, ProcessRow, Registration};
 use lpc_base::Birth;
+use lpc_slots::Slots;
 
 // A port is set, and is the one with the birth.
 fn is_port(port: Option<Registration>, birth: Birth) -> bool
@@ -44,28 +47,34 @@ fn count_of(p: &ProcessRow, birth: Birth) -> usize
     debug + exception
 }
 
-/// The port with the birth is told of the exceptions of a process.
-pub fn is_event_port(rows: &[Counted], birth: Birth) -> bool
-    ensures { result ≡ has (procs.has_event_port birth) (process_rows rows.now) }
-{
-    for p in rows {
-        if has_event_port(&p.row, birth) {
-            return true;
-        }
+/// A process of whose exceptions the port with the birth is told.
+#[derive(Clone, Copy)]
+pub struct Told {
+    /// The birth.
+    pub birth: Birth,
+}
+
+impl Test<Counted> for Told {
+    ghost use Rattle.lpc_procs.specs.Procs.{has_event_port};
+
+    ghost test = { λ asked p. has_event_port asked.birth p.row };
+
+    fn passes(&self, p: &Counted) -> bool {
+        has_event_port(&p.row, self.birth)
     }
-    false
 }
 
 /// How many of the ports that are told of the exceptions of processes are the one with the birth. There are fewer than
 /// 2^32 processes.
-pub fn event_ports_to(rows: &[Counted], birth: Birth) -> usize
-    requires few { length rows.now < 2 ^ 32 }
-    ensures count { result ≡ count (is_of_birth birth) (event_ports (process_rows rows.now)) }
-    ensures bound { result ≤ 2 * length rows.now }
+pub fn event_ports_to(rows: &Slots<Counted>, birth: Birth) -> usize
+    requires few { length (rows_in rows.now) < 2 ^ 32 }
+    ensures count { result ≡ count (is_of_birth birth)
+        (event_ports (process_rows (rows_in rows.now))) }
+    ensures bound { result ≤ 2 * length (rows_in rows.now) }
 {
     let mut named = 0;
-    for p in rows {
-        named += count_of(&p.row, birth);
+    for place in 0..rows.count() {
+        named += count_of(&row_at(rows, place).row, birth);
     }
     named
 }
@@ -82,13 +91,6 @@ pub fn watched_count(p: &Counted) -> usize
     ensures { result ≡ (if is_watched p.now then 1 else 0) }
 {
     usize::from(is_watched(p))
-}
-
-/// Of how many processes a port is told of the exceptions.
-pub fn watched(rows: &[Counted]) -> usize
-    ensures { result ≡ count is_watched rows.now }
-{
-    rows.iter().filter(|p| is_watched(p)).count()
 }
 
 /// The code with which a process is to end: the first stays.
@@ -111,13 +113,6 @@ pub fn doomed_count(p: &Counted) -> usize
     ensures most { result ≤ 1 }
 {
     usize::from(is_doomed(p))
-}
-
-/// How many processes are to end and are live, as their counts tell.
-pub fn dooms(rows: &[Counted]) -> usize
-    ensures { result ≡ count is_doomed_row rows.now }
-{
-    rows.iter().filter(|p| is_doomed(p)).count()
 }
 
 // The process with its code, where it is to end and is live, as its count tells.
@@ -148,13 +143,13 @@ fn lesser(one: Option<Doomed>, other: Option<Doomed>) -> Option<Doomed>
 
 /// Of the processes that are to end and are live, as their counts tell, the one of the least number.
 #[tactic(auto, using(crate::proofs::Events::doomed_first, crate::proofs::Events::doomed_last))]
-pub fn least_doomed(rows: &[Counted]) -> Option<Doomed>
+pub fn least_doomed(rows: &Slots<Counted>) -> Option<Doomed>
     ensures { result
-        ≡ option_map doomed_as (least (process_rows (which is_doomed_row rows.now))) }
+        ≡ option_map doomed_as (least (process_rows (which is_doomed_row (rows_in rows.now)))) }
 {
     let mut least = None;
-    for p in rows {
-        least = lesser(least, doomed_in(p));
+    for place in 0..rows.count() {
+        least = lesser(least, doomed_in(row_at(rows, place)));
     }
     least
 }

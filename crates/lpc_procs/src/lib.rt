@@ -4,10 +4,12 @@
 
 mod births;
 mod exceptions;
+mod keys;
 mod lists;
 mod procs;
 mod registrations;
 mod rows;
+mod searches;
 
 pub use procs::Procs;
 pub use rows::{

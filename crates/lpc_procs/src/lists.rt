@@ -1,25 +1,35 @@
-// Searches and changes of plain lists of rows.
-ghost use Rattle.std.specs.Prelude.{◌≡◌, ◌<◌, ◌^◌, true, None, Some, if◌then◌else◌, map, option_map, vec_len, vec_capacity};
-ghost use Rattle.lpc_base.specs.Rows.{change, count, first};
+// Threads as they are told, and the counts beside their processes.
+ghost use Rattle.std.specs.Prelude.{◌≡◌, ◌<◌, ◌^◌, None, Some, if◌then◌else◌};
+ghost use Rattle.lpc_base.specs.Rows.{count};
 ghost use Rattle.lpc_procs.specs.Callers as callers;
-ghost use Rattle.lpc_procs.specs.Kept.{AreTallied, are_apart, counting, has_number, is_doomed_row, process_name};
+ghost use Rattle.lpc_procs.specs.Kept.{AreTallied, counting, is_doomed_row, rows_in};
 ghost use Rattle.lpc_procs.specs.Procs as procs;
-ghost use Rattle.lpc_procs.specs.Procs.{is_live_client, lives_in};
+ghost use Rattle.lpc_procs.specs.Procs.{is_live_client};
+ghost use Rattle.lpc_slots.specs.Chain.{changed};
 
 use crate::rows::Counted;
+use crate::searches::Test;
 use crate::{Caller, ThreadRow, births, exceptions};
 use lpc_base::Birth;
 use lpc_message::ClientId;
-use lpc_numbers::{Named, Tally};
+use lpc_numbers::Tally;
+use lpc_slots::{Key, Slots};
 
-/// How many live threads are of the process.
-pub fn live_in(threads: &[ThreadRow], pid: u32) -> usize
-    ensures { result ≡ count (lives_in pid) threads.now }
-{
-    threads
-        .iter()
-        .filter(|t| t.process == pid && t.live)
-        .count()
+/// A live thread of the process.
+#[derive(Clone, Copy)]
+pub struct LivesIn {
+    /// The number of the process.
+    pub pid: u32,
+}
+
+impl Test<ThreadRow> for LivesIn {
+    ghost use Rattle.lpc_procs.specs.Procs.{lives_in};
+
+    ghost test = { λ asked t. lives_in asked.pid t };
+
+    fn passes(&self, t: &ThreadRow) -> bool {
+        t.process == self.pid && t.live
+    }
 }
 
 // The thread as a caller.
@@ -49,43 +59,25 @@ pub fn is_client(t: &ThreadRow, client: ClientId) -> bool
     t.number == client.thread && t.process == client.process && t.live
 }
 
-/// The number of the first live thread of the process.
-pub fn first_live(threads: &[ThreadRow], pid: u32) -> Option<u32>
-    ensures { result ≡ option_map (λ t. t.number) (first (lives_in pid) threads.now) }
-{
-    for t in threads {
-        if t.process == pid && t.live {
-            return Some(t.number);
-        }
-    }
-    None
-}
-
-/// Writes the count of live threads beside the process of the number, where it has a row. The names stand under the
-/// numbers of the rows, in their order. So many live processes are to end, fewer than
-/// 2^32, and the result is how many are then. Where each live process is counted for its maker, it is so then too.
+/// Writes the count of live threads beside the process of the key, where it has a row. So many live processes are to
+/// end, fewer than 2^32, and the result is how many are then. Where each live process is counted for its maker, it is so
+/// then too.
 pub fn recount(
-    rows: &mut Vec<Counted>,
-    names: &Named,
-    pid: u32,
+    rows: &mut Slots<Counted>,
+    key: Key,
     live: usize,
     dooms: usize,
     children: &mut Tally,
 ) -> usize
-    requires named { names.now.entries ≡ map process_name rows.old.items }
-    requires apart { are_apart rows.old.items ≡ true }
-    requires dooms { dooms ≡ count is_doomed_row rows.old.items }
+    requires dooms { dooms ≡ count is_doomed_row (rows_in rows.old) }
     requires few { dooms < 2 ^ 32 }
-    requires children { AreTallied rows.old.items children.old }
-    ensures rows { rows.new.items ≡ change (has_number pid) (counting live) rows.old.items }
-    ensures len { vec_len rows.new ≡ vec_len rows.old }
-    ensures room { vec_capacity rows.new ≡ vec_capacity rows.old }
-    ensures dooms { result ≡ count is_doomed_row rows.new.items }
-    ensures children { AreTallied rows.new.items children.new }
+    requires children { AreTallied (rows_in rows.old) children.old }
+    ensures rows { rows.new ≡ changed rows.old (Some key) (counting live) }
+    ensures dooms { result ≡ count is_doomed_row (rows_in rows.new) }
+    ensures children { AreTallied (rows_in rows.new) children.new }
 {
-    match names.place(pid) {
-        Some(place) => {
-            let process = &mut rows[place];
+    match rows.get_mut(key) {
+        Some(process) => {
             births::retell(children, process, live);
             let others = dooms - exceptions::doomed_count(process);
             process.live = live;

@@ -3,12 +3,16 @@ ghost use Rattle.std.specs.Prelude.{◌≡◌, ◌*◌, ◌<◌, ◌≤◌, ◌^
 ghost use Rattle.lpc_base.specs.Rows.{count, has, without};
 ghost use Rattle.lpc_base.specs.declared.limits.TheConstants.{REGISTRATION_LIMIT};
 ghost use Rattle.lpc_procs.specs.Procs as procs;
-ghost use Rattle.lpc_procs.specs.Procs.{all_registrations, first_registered, first_registration, has_registered, is_of_birth, is_untold, live_registrations, registered_live};
+ghost use Rattle.lpc_procs.specs.Kept.{rows_in};
+ghost use Rattle.lpc_procs.specs.Procs.{first_registered, first_registration, is_of_birth, is_untold, live_registrations, registered_live};
 
+use crate::keys::row_at;
+use crate::searches::{Test, first_row};
 use crate::{Registration, ThreadRow};
 use arrayvec::ArrayVec;
 use lpc_base::Birth;
 use lpc_base::limits::REGISTRATION_LIMIT;
+use lpc_slots::Slots;
 
 // The registration that the thread made first.
 fn first_registered(t: &ThreadRow) -> Option<Registration>
@@ -34,16 +38,31 @@ fn is_untold(t: &ThreadRow, pid: u32) -> bool
     t.process == pid && !t.live && first_registered(t).is_some()
 }
 
-/// Of the threads of the process that have ended, the first that still has registrations, with its first.
-pub fn first_untold(threads: &[ThreadRow], pid: u32) -> Option<(u32, Registration)>
-    ensures { result ≡ procs.first_untold threads.now pid }
-{
-    for t in threads {
-        if is_untold(t, pid) {
-            return first_registration(t);
-        }
+/// A thread of the process that has ended, and has registrations still.
+#[derive(Clone, Copy)]
+pub struct Untold {
+    /// The number of the process.
+    pub pid: u32,
+}
+
+impl Test<ThreadRow> for Untold {
+    ghost use Rattle.lpc_procs.specs.Procs.{is_untold};
+
+    ghost test = { λ asked t. is_untold asked.pid t };
+
+    fn passes(&self, t: &ThreadRow) -> bool {
+        is_untold(t, self.pid)
     }
-    None
+}
+
+/// Of the threads of the process that have ended, the first that still has registrations, with its first.
+pub fn first_untold(threads: &Slots<ThreadRow>, pid: u32) -> Option<(u32, Registration)>
+    ensures { result ≡ procs.first_untold (rows_in threads.now) pid }
+{
+    match first_row(threads, &Untold { pid }) {
+        Some(t) => first_registration(t),
+        None => None,
+    }
 }
 
 /// One of the registrations is of the port with the birth.
@@ -85,40 +104,33 @@ fn count_live(t: &ThreadRow, birth: Birth) -> usize
     }
 }
 
-/// How many registrations the threads have. There are fewer than 2^32 threads.
-pub fn total(threads: &[ThreadRow]) -> usize
-    requires few { length threads.now < 2 ^ 32 }
-    ensures count { result ≡ length (all_registrations threads.now) }
-    ensures bound { result ≤ REGISTRATION_LIMIT * length threads.now }
-{
-    let mut total = 0;
-    for t in threads {
-        total += t.registered.len();
-    }
-    total
-}
-
 /// How many registrations of live threads are of the port with the birth. There are fewer than 2^32 threads.
-pub fn of_birth(threads: &[ThreadRow], birth: Birth) -> usize
-    requires few { length threads.now < 2 ^ 32 }
-    ensures count { result ≡ count (is_of_birth birth) (live_registrations threads.now) }
-    ensures bound { result ≤ REGISTRATION_LIMIT * length threads.now }
+pub fn of_birth(threads: &Slots<ThreadRow>, birth: Birth) -> usize
+    requires few { length (rows_in threads.now) < 2 ^ 32 }
+    ensures count { result ≡ count (is_of_birth birth)
+        (live_registrations (rows_in threads.now)) }
+    ensures bound { result ≤ REGISTRATION_LIMIT * length (rows_in threads.now) }
 {
     let mut named = 0;
-    for t in threads {
-        named += count_live(t, birth);
+    for place in 0..threads.count() {
+        named += count_live(row_at(threads, place), birth);
     }
     named
 }
 
-/// One of the threads registered the port with the birth.
-pub fn names(threads: &[ThreadRow], birth: Birth) -> bool
-    ensures { result ≡ has (has_registered birth) threads.now }
-{
-    for t in threads {
-        if has_birth(&t.registered, birth) {
-            return true;
-        }
+/// A thread that registered the port with the birth.
+#[derive(Clone, Copy)]
+pub struct Registers {
+    /// The birth.
+    pub birth: Birth,
+}
+
+impl Test<ThreadRow> for Registers {
+    ghost use Rattle.lpc_procs.specs.Procs.{has_registered};
+
+    ghost test = { λ asked t. has_registered asked.birth t };
+
+    fn passes(&self, t: &ThreadRow) -> bool {
+        has_birth(&t.registered, self.birth)
     }
-    false
 }

@@ -2,24 +2,23 @@ use Rattle.std.proofs.Common.{◌+◌, rules, true, None, refl, ap, sym, ◌∙�
 use Rattle.lpc_base.proofs.RowMaps.{push-map}
 use Rattle.lpc_base.proofs.RowWords.{count-bound}
 use Rattle.lpc_procs.specs.declared.rows.ThreadRow.{ThreadRow}
-use Rattle.lpc_procs.specs.Kept.{counting, has_number, is_doomed_row, is_watched, thread_name, used_rows}
+use Rattle.lpc_procs.specs.Kept.{is_doomed_row, rows_in, used_rows}
 use Rattle.lpc_numbers.specs.Numbered.{numbers}
-use Rattle.lpc_procs.specs.Procs.{is_thread, lives_in}
-use Rattle.lpc_procs.proofs.Events.{count-unseen}
-use Rattle.lpc_procs.proofs.Keeping.{unused-absent}
-use Rattle.lpc_procs.proofs.Placed.{names-new, used-has}
-use Rattle.lpc_procs.proofs.Stored.{alive-few, kept-thread, processes-few, rows-counting, threads-few}
+use Rattle.lpc_procs.specs.Procs.{lives_in}
+use Rattle.lpc_procs.proofs.Keyed.{rows-push}
+use Rattle.lpc_procs.proofs.Led.{made-few}
+use Rattle.lpc_procs.proofs.Placed.{used-has}
+use Rattle.lpc_procs.proofs.Stored.{alive-few, processes-few, threads-few}
+use Rattle.lpc_procs.proofs.Tables.{counted-shown, counted-spare, thread-made}
 use Rattle.lpc_procs.proofs.procs.Procs.add_thread.Goals as goal
 
 pub overflow_add-live : goal.overflow_add-live
 overflow_add-live c =
     let counted = rw (← c.self.view_is) at c.live_count-live.ensures.count in
-    omega (arith, counted, count-bound (lives_in c.args.pid) c.self.inside.threads.items, threads-few c.self.inside.processes.items c.self.inside.threads.items (numbers c.self.inside.used_processes.entries) (used_rows c.self.inside.used_threads.entries) c.self.inside.process_names.entries c.self.inside.thread_names.entries c.self.inside.alive c.self.inside.registered c.self.invariant.all)
+    omega (arith, counted, count-bound (lives_in c.args.pid) (rows_in c.self.inside.threads), threads-few (rows_in c.self.inside.processes) (rows_in c.self.inside.threads) (numbers c.self.inside.used_processes.entries) (used_rows c.self.inside.used_threads.entries) c.self.inside.alive c.self.inside.registered c.self.invariant.all)
 
-pub add-requires-clause-new : goal.add-requires-clause-new
-add-requires-clause-new c =
-    let new = rw (← c.self.view_is) at c.requires.new in
-    names-new thread_name (is_thread c.args.tid) c.args.tid (λ t. refl) c.self.inside.threads.items c.self.inside.thread_names.entries c.self.invariant.all.threads_named (unused-absent c.args.tid (used_rows c.self.inside.used_threads.entries) c.self.inside.threads.items new c.self.invariant.all.rows.noted)
+pub insert_reserved-key-requires-clause-few : goal.insert_reserved-key-requires-clause-few
+insert_reserved-key-requires-clause-few c = omega (arith, made-few c.self.inside.threads.made (numbers c.self.inside.used_threads.entries) c.self.invariant.found.threads_made)
 
 pub add-requires-2-clause-new : goal.add-requires-2-clause-new
 add-requires-2-clause-new c =
@@ -27,10 +26,10 @@ add-requires-2-clause-new c =
     sym (used-has c.args.tid c.self.inside.used_threads.entries) ∙ new
 
 pub overflow_add-self : goal.overflow_add-self
-overflow_add-self c = omega (arith, alive-few c.self.inside.processes.items c.self.inside.threads.items (numbers c.self.inside.used_processes.entries) (used_rows c.self.inside.used_threads.entries) c.self.inside.process_names.entries c.self.inside.thread_names.entries c.self.inside.alive c.self.inside.registered c.self.invariant.all)
+overflow_add-self c = omega (arith, alive-few (rows_in c.self.inside.processes) (rows_in c.self.inside.threads) (numbers c.self.inside.used_processes.entries) (used_rows c.self.inside.used_threads.entries) c.self.inside.alive c.self.inside.registered c.self.invariant.all)
 
 pub recount-self-inside-requires-clause-few : goal.recount-self-inside-requires-clause-few
-recount-self-inside-requires-clause-few c = processes-few c.self.inside.processes.items c.self.inside.threads.items (numbers c.self.inside.used_processes.entries) (used_rows c.self.inside.used_threads.entries) c.self.inside.process_names.entries c.self.inside.thread_names.entries c.self.inside.alive c.self.inside.registered c.self.invariant.all is_doomed_row c.self.inside.dooms c.self.invariant.doomed
+recount-self-inside-requires-clause-few c = processes-few (rows_in c.self.inside.processes) (rows_in c.self.inside.threads) (numbers c.self.inside.used_processes.entries) (used_rows c.self.inside.used_threads.entries) c.self.inside.alive c.self.inside.registered c.self.invariant.all is_doomed_row c.self.inside.dooms c.self.invariant.doomed
 
 pub invariant_of-self : goal.invariant_of-self
 invariant_of-self c =
@@ -38,12 +37,14 @@ invariant_of-self c =
     let new = rw (← c.self.view_is) at c.requires.new in
     let home = rw (← c.self.view_is) at c.requires.process in
     let counted = rw (← c.self.view_is) at c.live_count-live.ensures.count in
-    record {
-      all = rw (c.recount-self-inside.ensures.rows, c.push_reserved.ensures.items, c.add.ensures.entries, c.add-2.ensures.entries, push-map) (kept-thread c.self.inside.processes.items c.self.inside.threads.items (numbers c.self.inside.used_processes.entries) (used_rows c.self.inside.used_threads.entries) c.self.inside.process_names.entries c.self.inside.thread_names.entries c.self.inside.alive c.self.inside.registered c.self.invariant.all t refl (search rules) c.requires.number.below new home (c.live_count-live.result + 1) (ap (λ n. n + 1) counted));
-      doomed = c.recount-self-inside.ensures.dooms;
-      watchers = rw (c.recount-self-inside.ensures.rows) (c.self.invariant.watchers ∙ sym (count-unseen is_watched (has_number c.args.pid) (counting (c.live_count-live.result + 1)) (λ p. refl) c.self.inside.processes.items));
-      tallied = c.recount-self-inside.ensures.children;
-    }
+    let made = c.insert_reserved-key.ensures in
+    thread-made c.self.invariant t refl (search rules) c.requires.number.below new home (c.live_count-live.result + 1) (ap (λ n. n + 1) counted)
+    c.recount-self-inside.new.rows (rw (c.process_key.ensures) at c.recount-self-inside.ensures.rows) c.recount-self-inside.result c.recount-self-inside.ensures.dooms c.recount-self-inside.new.children c.recount-self-inside.ensures.children
+    c.insert_reserved-key.result c.insert_reserved-key.new.self made.table made.listed made.generation c.add.new.self c.add.ensures.firsts c.add.ensures.single c.add-2.new.self.entries c.add-2.ensures.entries
 
 pub returns : goal.returns
-returns c = record { table = rw (← c.self.view_is, c.recount-self-inside.ensures.rows, rows-counting, c.recount-self-inside.ensures.len, c.recount-self-inside.ensures.room, c.add-2.ensures.entries, push-map) (search rules) }
+returns c =
+    let t : ThreadRow = record { number = c.args.tid; process = c.args.pid; birth = c.args.birth; live = true; next_identifier = 1; next_ordinal = 1; registered = c.new.result; own = None } in
+    let rows = rows-push c.self.inside.threads c.insert_reserved-key.new.self c.insert_reserved-key.result t c.insert_reserved-key.ensures.listed in
+    let is = rw (c.process_key.ensures) at c.recount-self-inside.ensures.rows in
+    record { table = rw (← c.self.view_is, rows, counted-shown c.self.invariant c.args.pid (c.live_count-live.result + 1) c.recount-self-inside.new.rows is, counted-spare c.self.invariant c.args.pid (c.live_count-live.result + 1) c.recount-self-inside.new.rows is, c.add-2.ensures.entries, push-map, c.insert_reserved-key.ensures.table, c.add.ensures.room, c.add-2.ensures.room) (search rules) }

@@ -1,22 +1,35 @@
-use Rattle.std.proofs.Common.{refl, sym, ◌∙◌}
-use Rattle.lpc_procs.proofs.Children.{children-left, kept-whole}
-use Rattle.lpc_procs.proofs.Counts.{rows-less}
-use Rattle.lpc_procs.proofs.Stored.{kept-processes_left}
-use Rattle.lpc_procs.specs.Kept.{used_rows}
-use Rattle.lpc_numbers.specs.Numbered.{numbers}
+use Rattle.std.proofs.Common.{◌≡◌, true, false, sym, ap, ◌∙◌, arith}
+use Rattle.lpc_base.specs.Rows.{has, without}
+use Rattle.lpc_base.proofs.RowWords.{without-none}
+use Rattle.lpc_procs.specs.Procs.{Table, is_process_born}
+use Rattle.lpc_procs.proofs.Gone.{fewer-first, unfound-first, without-again}
 use Rattle.lpc_procs.proofs.procs.Procs.free_process_born.Goals as goal
 
-pub invariant_of-self : goal.invariant_of-self
-invariant_of-self c =
+pub loop-birth-smaller : goal.loop-birth-smaller
+loop-birth-smaller c =
+    let test = is_process_born c.args.birth in
+    let some : has test c.loop-birth.self.processes ≡ true = sym c.lose_process_born.ensures.went ∙ c.loop-birth-test.true in
+    let gone = ap (λ (s : Table). s.processes) c.lose_process_born.ensures.table in
+    rw gone (omega (arith, fewer-first test c.loop-birth.self.processes some))
+
+pub loop-birth-preserved : goal.loop-birth-preserved
+loop-birth-preserved c =
+    let test = is_process_born c.args.birth in
+    let some : has test c.loop-birth.self.processes ≡ true = sym c.lose_process_born.ensures.went ∙ c.loop-birth-test.true in
+    let gone = ap (λ (s : Table). s.processes) c.lose_process_born.ensures.table in
     record {
-      all = rw (c.remove_processes.ensures.rows, c.remove_name.ensures.entries) (kept-processes_left c.self.inside.processes.items c.self.inside.threads.items (numbers c.self.inside.used_processes.entries) (used_rows c.self.inside.used_threads.entries) c.self.inside.process_names.entries c.self.inside.thread_names.entries c.self.inside.alive c.self.inside.registered c.self.invariant.all c.args.birth);
-      doomed = rw (c.deref-2.ensures.value) at c.dooms-self-inside.ensures;
-      watchers = rw (c.deref-3.ensures.value) at c.watched-self-inside.ensures;
-      tallied = rw (c.remove_processes.ensures.rows, c.give_up_if.ensures.entries) (λ whole pid.
-          let both = kept-whole c.self.inside.children.whole c.has_life.result (sym c.give_up_if.ensures.whole ∙ whole) in
-          let none = rw (c.deref.ensures.value) at (sym c.has_life.ensures ∙ both.1) in
-          c.self.invariant.tallied both.0 pid ∙ sym (children-left pid c.args.birth c.self.inside.processes.items none));
+      left = ap (without test) gone ∙ without-again test c.loop-birth.self.processes ∙ c.loop-birth.invariant.left;
+      same = c.lose_process_born.ensures.table ∙ (λ i. record (c.loop-birth.invariant.same i) { processes = sym gone i; process_room = c.lose_process_born.new.self.process_room });
+      room = omega (arith, c.loop-birth.invariant.room, c.lose_process_born.ensures.room);
+      most = omega (arith, c.loop-birth.invariant.most, c.lose_process_born.ensures.most);
     }
 
 pub returns-clause-table : goal.returns-clause-table
-returns-clause-table c = rw (← c.self.view_is, c.remove_processes.ensures.rows, rows-less) refl
+returns-clause-table c =
+    let test = is_process_born c.args.birth in
+    let none : has test c.loop-birth.self.processes ≡ false = sym c.lose_process_born.ensures.went ∙ c.loop-birth-test.false in
+    let gone = ap (λ (s : Table). s.processes) c.lose_process_born.ensures.table ∙ unfound-first test c.loop-birth.self.processes none ∙ sym (without-none test c.loop-birth.self.processes none) ∙ c.loop-birth.invariant.left in
+    c.lose_process_born.ensures.table ∙ (λ i. record (c.loop-birth.invariant.same i) { processes = (sym (ap (λ (s : Table). s.processes) c.lose_process_born.ensures.table) ∙ gone) i; process_room = c.lose_process_born.new.self.process_room })
+
+pub returns-clause-most : goal.returns-clause-most
+returns-clause-most c = omega (arith, c.loop-birth.invariant.most, c.lose_process_born.ensures.most)

@@ -1,11 +1,10 @@
-use Rattle.std.proofs.Common.{option_map, ap, sym, ◌∙◌}
+use Rattle.std.proofs.Common.{option_map, ap, ◌∙◌}
 use Rattle.lpc_procs.specs.declared.rows.Counted.{Counted}
-use Rattle.lpc_procs.proofs.Placed.{process-first}
-use Rattle.lpc_procs.proofs.ProcessRows.{process_is}
+use Rattle.lpc_procs.proofs.Tables.{its-process, no-process, process-at}
 use Rattle.lpc_procs.proofs.procs.Procs.process.Goals as goal
 
+pub unreachable-requires : goal.unreachable-requires
+unreachable-requires c = no-process c.self.invariant c.args.pid c.process_key.result c.process_key.ensures c.in-None.ensures.value (rw (← c.self.view_is) at c.requires)
+
 pub returns : goal.returns
-returns c =
-    let ps = c.self.inside.processes.items in
-    let found = process_is ps c.process_place.result c.args.pid c.index.result.now (sym (rw (← c.self.view_is) at c.process_place.ensures)) c.index.ensures in
-    rw (← c.self.view_is) (process-first c.args.pid ps ∙ ap (option_map (λ (p : Counted). p.row)) found.is_first)
+returns c = rw (← c.self.view_is) (process-at c.self.invariant c.args.pid ∙ ap (option_map (λ (p : Counted). p.row)) (its-process c.self.invariant c.args.pid c.process_key.result c.in-Some.process.now c.process_key.ensures c.in-Some.ensures.value))

@@ -1,6 +1,9 @@
-use Rattle.std.proofs.Common.{◌∙◌}
-use Rattle.lpc_procs.proofs.Placed.{process-named}
+use Rattle.std.proofs.Common.{ap, option_map}
+use Rattle.lpc_procs.specs.declared.rows.ProcessRow.{ProcessRow}
 use Rattle.lpc_procs.proofs.procs.Procs.process_born.Goals as goal
 
-pub returns : goal.returns
-returns c = record { number = rw (← c.self.view_is) (c.number_named.ensures ∙ process-named c.args.birth c.self.inside.processes.items c.self.inside.process_names.entries c.self.invariant.all.processes_named) }
+pub returns-in-Some : goal.returns-in-Some
+returns-in-Some c = record { number = ap (option_map (λ (p : ProcessRow). p.number)) c.in-Some.ensures.process }
+
+pub returns-in-None : goal.returns-in-None
+returns-in-None c = record { number = ap (option_map (λ (p : ProcessRow). p.number)) c.in-None.ensures.process }

@@ -1,43 +1,35 @@
-use Rattle.std.proofs.Common.{ℕ, cond, refl, ap, sym, ◌∙◌, arith}
-use Rattle.lpc_procs.specs.Kept.{is_doomed_row, is_peopled_child, is_watched, used_rows}
+use Rattle.std.proofs.Common.{refl, arith, ℕ, cond, ap, ◌+◌, ◌-◌}
+use Rattle.lpc_procs.specs.Kept.{is_watched, rows_in, used_rows}
 use Rattle.lpc_numbers.specs.Numbered.{numbers}
 use Rattle.lpc_procs.specs.Procs.{excepted, registration}
-use Rattle.lpc_procs.proofs.Counts.{count-set}
-use Rattle.lpc_procs.proofs.Events.{count-written, excepted-watched, one-counts}
-use Rattle.lpc_procs.proofs.ProcessRows.{kept-row, process_is, row-changed, with_row}
+use Rattle.lpc_procs.proofs.Events.{excepted-watched}
 use Rattle.lpc_procs.proofs.Stored.{processes-few}
+use Rattle.lpc_procs.proofs.Tables.{its-process, no-process, process-kept, process-one, process-shown}
 use Rattle.lpc_procs.proofs.procs.Procs.set_exception_port.Goals as goal
+
+pub unreachable-requires : goal.unreachable-requires
+unreachable-requires c = no-process c.self.invariant c.args.pid c.process_key.result c.process_key.ensures c.in-None.ensures.value (rw (← c.self.view_is) at c.requires.present)
 
 pub overflow_sub-others : goal.overflow_sub-others
 overflow_sub-others c =
-    let is = sym (rw (← c.self.view_is) at c.process_place-place.ensures) in
-    let ps = c.self.inside.processes.items in
-    let p = c.index_mut-process.result.now in
-    let found = process_is ps c.process_place-place.result c.args.pid p is c.index_mut-process.ensures.value in
-    omega (arith, c.self.invariant.watchers, c.watched_count.ensures, one-counts is_watched ps c.process_place-place.result p found.here)
+    let p = c.in-Some.process.now in
+    let there = its-process c.self.invariant c.args.pid c.process_key.result p c.process_key.ensures c.in-Some.ensures.value in
+    omega (arith, c.self.invariant.watchers, c.watched_count.ensures, process-one c.self.invariant c.args.pid p there is_watched)
 
 pub overflow_add-self : goal.overflow_add-self
 overflow_add-self c =
-    let few = processes-few c.self.inside.processes.items c.self.inside.threads.items (numbers c.self.inside.used_processes.entries) (used_rows c.self.inside.used_threads.entries) c.self.inside.process_names.entries c.self.inside.thread_names.entries c.self.inside.alive c.self.inside.registered c.self.invariant.all is_watched c.self.inside.watched c.self.invariant.watchers in
+    let few = processes-few (rows_in c.self.inside.processes) (rows_in c.self.inside.threads) (numbers c.self.inside.used_processes.entries) (used_rows c.self.inside.used_threads.entries) c.self.inside.alive c.self.inside.registered c.self.invariant.all is_watched c.self.inside.watched c.self.invariant.watchers in
     omega (arith, few)
 
 pub invariant_of-self : goal.invariant_of-self
 invariant_of-self c =
-    let is = sym (rw (← c.self.view_is) at c.process_place-place.ensures) in
-    let ps = c.self.inside.processes.items in
-    let p = c.index_mut-process.result.now in
-    let found = process_is ps c.process_place-place.result c.args.pid p is c.index_mut-process.ensures.value in
+    let p = c.in-Some.process.now in
+    let there = its-process c.self.invariant c.args.pid c.process_key.result p c.process_key.ensures c.in-Some.ensures.value in
     let told = ap {B = ℕ} (λ b. cond b 1 0) (excepted-watched p (registration c.args.port c.args.birth)) in
-    let written = count-written is_watched ps c.process_place-place.result p (with_row (excepted (registration c.args.port c.args.birth)) p) found.here in
-    record {
-      all = kept-row (excepted (registration c.args.port c.args.birth)) ps c.process_place-place.result c.args.pid p is c.index_mut-process.ensures.value c.self.inside.threads.items (numbers c.self.inside.used_processes.entries) (used_rows c.self.inside.used_threads.entries) c.self.inside.process_names.entries c.self.inside.thread_names.entries c.self.inside.alive c.self.inside.registered c.self.invariant.all (record { number = λ p. refl; birth = λ p. refl });
-      doomed = c.self.invariant.doomed ∙ sym (count-set is_doomed_row ps c.process_place-place.result p _ found.here refl);
-      watchers = omega (arith, c.self.invariant.watchers, written, told, c.watched_count.ensures, one-counts is_watched ps c.process_place-place.result p found.here);
-      tallied = λ whole pid. c.self.invariant.tallied whole pid ∙ sym (count-set (is_peopled_child pid) ps c.process_place-place.result p _ found.here refl);
-    }
+    rw (c.process_key.ensures) (process-kept c.self.invariant c.args.pid p there (excepted (registration c.args.port c.args.birth)) (record { number = λ p. refl; birth = λ p. refl; maker = λ p. refl }) c.self.inside.dooms (c.self.inside.watched - c.watched_count.result + 1) refl (omega (arith, c.self.invariant.watchers, c.watched_count.ensures, process-one c.self.invariant c.args.pid p there is_watched, told)))
 
 pub returns : goal.returns
 returns c =
-    let is = sym (rw (← c.self.view_is) at c.process_place-place.ensures) in
-    let changed = row-changed (excepted (registration c.args.port c.args.birth)) c.self.inside.processes.items c.process_place-place.result c.args.pid c.index_mut-process.result.now is c.index_mut-process.ensures.value c.self.inside.threads.items (numbers c.self.inside.used_processes.entries) (used_rows c.self.inside.used_threads.entries) c.self.inside.process_names.entries c.self.inside.thread_names.entries c.self.inside.alive c.self.inside.registered c.self.invariant.all in
-    record { table = rw (← c.self.view_is, ← changed) refl }
+    let p = c.in-Some.process.now in
+    let there = its-process c.self.invariant c.args.pid c.process_key.result p c.process_key.ensures c.in-Some.ensures.value in
+    record { table = rw (← c.self.view_is, c.process_key.ensures, ← process-shown c.self.invariant c.args.pid p there (excepted (registration c.args.port c.args.birth))) refl }

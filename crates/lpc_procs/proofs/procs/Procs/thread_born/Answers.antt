@@ -1,14 +1,9 @@
-use Rattle.std.proofs.Common.{sym, ap, option_map, ◌∙◌}
+use Rattle.std.proofs.Common.{ap, option_map}
 use Rattle.lpc_procs.specs.Procs.{born_thread}
-use Rattle.lpc_procs.proofs.Placed.{thread-named-at, thread-named-none}
 use Rattle.lpc_procs.proofs.procs.Procs.thread_born.Goals as goal
 
 pub returns-in-Some : goal.returns-in-Some
-returns-in-Some c =
-    let found = thread-named-at c.args.birth c.self.inside.threads.items c.self.inside.thread_names.entries c.in-Some.place c.index.result.now c.self.invariant.all.threads_named (sym c.place_named.ensures ∙ c.in-Some.is) c.index.ensures in
-    record { thread = rw (← c.self.view_is, c.born_thread.ensures) (sym (ap (option_map born_thread) found)) }
+returns-in-Some c = record { thread = rw (c.born_thread.ensures) (ap (option_map born_thread) c.in-Some.ensures) }
 
 pub returns-in-None : goal.returns-in-None
-returns-in-None c =
-    let none = thread-named-none c.args.birth c.self.inside.threads.items c.self.inside.thread_names.entries c.self.invariant.all.threads_named (sym c.place_named.ensures ∙ c.in-None.is) in
-    record { thread = rw (← c.self.view_is) (sym (ap (option_map born_thread) none)) }
+returns-in-None c = record { thread = ap (option_map born_thread) c.in-None.ensures }

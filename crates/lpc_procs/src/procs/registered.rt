@@ -1,0 +1,101 @@
+// The ports that threads registered.
+ghost use Rattle.std.specs.Prelude.{◌≡◌, ◌*◌, ◌≤◌, true, length, is_some, option_map, Some, IsSomeAnd};
+ghost use Rattle.lpc_base.specs.Rows.{count, has};
+ghost use Rattle.lpc_base.specs.declared.limits.TheConstants.{REGISTRATION_LIMIT};
+ghost use Rattle.lpc_procs.specs.Procs.{HasRegistrationLeft, all_registrations, first_untold, has_registered, is_of_birth, live_registrations, registering, registration, thread_at, unregistering, with_thread};
+
+use crate::keys::thread_key;
+use crate::procs::Procs;
+use crate::registrations::Registers;
+use crate::searches::first_row;
+use crate::{Registration, registrations};
+use lpc_base::Birth;
+use lpc_slots::Key;
+
+impl Procs {
+    /// Registers a port with the thread, which has a row and registered fewer than 16, behind those that it had.
+    pub fn register(&mut self, tid: u32, port: Key, birth: Birth)
+        requires left { IsSomeAnd (thread_at self.old tid) HasRegistrationLeft }
+        ensures table { let r = registration port birth in
+            self.new ≡ with_thread self.old tid (registering r) }
+    {
+        match self.threads.get_mut(thread_key(&self.used_threads, tid)) {
+            Some(row) => {
+                row.registered.push(Registration { port, birth });
+                self.registered += 1;
+            }
+            None => unreachable!(),
+        }
+    }
+
+    /// Takes the registrations of the port with a birth from the thread, which has a row. The others keep their order.
+    pub fn unregister(&mut self, tid: u32, birth: Birth)
+        requires present { is_some (thread_at self.old tid) ≡ true }
+        ensures table { self.new ≡ with_thread self.old tid (unregistering birth) }
+    {
+        match self.threads.get_mut(thread_key(&self.used_threads, tid)) {
+            Some(row) => {
+                let before = row.registered.len();
+                registrations::forget(&mut row.registered, birth);
+                self.registered -= before - row.registered.len();
+            }
+            None => unreachable!(),
+        }
+    }
+
+    /// The thread, which has a row, registered the port with a birth.
+    pub fn is_registered(&self, tid: u32, birth: Birth) -> bool
+        requires present { is_some (thread_at self.now tid) ≡ true }
+        ensures registered { option_map (has_registered birth) (thread_at self.now tid)
+            ≡ Some result }
+    {
+        registrations::has_birth(&self.thread(tid).registered, birth)
+    }
+
+    /// How many registrations the thread has, which has a row.
+    pub fn registration_count(&self, tid: u32) -> usize
+        requires present { is_some (thread_at self.now tid) ≡ true }
+        ensures count { option_map (λ t. length t.registered.items) (thread_at self.now tid)
+            ≡ Some result }
+        ensures bound { result ≤ REGISTRATION_LIMIT }
+    {
+        self.thread(tid).registered.len()
+    }
+
+    /// How many registrations all threads have, the ended ones too.
+    pub fn registrations(&self) -> usize
+        ensures count { result ≡ length (all_registrations self.now.threads) }
+        ensures bound { result ≤ REGISTRATION_LIMIT * length self.now.threads }
+    {
+        self.registered
+    }
+
+    /// A thread registered the port with a birth, be it live or ended.
+    pub fn names(&self, birth: Birth) -> bool
+        ensures named { result ≡ has (has_registered birth) self.now.threads }
+    {
+        if self.registered == 0 {
+            return false;
+        }
+        first_row(&self.threads, &Registers { birth }).is_some()
+    }
+
+    /// How many registrations of live threads are of the port with a birth.
+    pub fn registered_to(&self, birth: Birth) -> usize
+        ensures count { result ≡ count (is_of_birth birth) (live_registrations self.now.threads) }
+        ensures bound { result ≤ REGISTRATION_LIMIT * length self.now.threads }
+    {
+        if self.registered == 0 {
+            return 0;
+        }
+        registrations::of_birth(&self.threads, birth)
+    }
+
+    /// Of the threads of the process that have ended, the first that still has registrations: its number, and the
+    /// registration that it made first. None exactly where there is no such thread.
+    pub fn first_to_tell(&self, pid: u32) -> Option<(u32, Registration)>
+        ensures registration { result ≡ first_untold self.now.threads pid }
+    {
+        registrations::first_untold(&self.threads, pid)
+    }
+}
