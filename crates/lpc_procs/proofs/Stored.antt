@@ -1,6 +1,6 @@
 -- What the table keeps when a row changes, comes or goes: counts, names and used numbers.
 use Rattle.std.proofs.Common.{◌≡◌, ℕ, zero, suc, ◌+◌, ◌*◌, ◌<◌, ◌≤◌, List, [], ◌∷◌, ◌++◌, Bool, true, false, cond, map, length, set, refl, ap, sym, subst, ◌∙◌, arith}
-use Rattle.std.specs.Prelude.{Some, slice_get, is_some, nat_le, ◌==◌}
+use Rattle.std.specs.Prelude.{None, Some, option_and_then, slice_get, is_some, nat_le, ◌==◌}
 use Rattle.std.proofs.lemmas.Bool.Decides.{nat_tests}
 use Rattle.std.proofs.lemmas.Bool.{lt-ltb}
 use Rattle.std.proofs.lemmas.List.{length-append}
@@ -16,7 +16,7 @@ use Rattle.lpc_procs.specs.declared.rows.Registration.{Registration}
 use Rattle.lpc_procs.specs.declared.rows.ThreadRow.{ThreadRow}
 use Rattle.lpc_procs.specs.declared.rows.UsedThread.{UsedThread}
 use Rattle.lpc_procs.specs.Kept.{AreKept, are_apart, counting, has_number, is_counted, is_limited, is_low, is_of_used, is_used_row, process_name, process_rows}
-use Rattle.lpc_procs.specs.Procs.{HasRegistrationLeft, all_registrations, ended, has_registered, is_of_birth, is_process, is_thread, is_used_thread, lives_in, live_registrations, registered_live, registering, unregistering}
+use Rattle.lpc_procs.specs.Procs.{HasRegistrationLeft, all_registrations, ended, first_registration, first_untold, has_registered, is_of_birth, is_process, is_thread, is_untold, is_used_thread, lives_in, live_registrations, registered_live, registering, unregistering}
 use Rattle.lpc_procs.proofs.Counts.{count-set, counts-ended, counts-less, counts-process, counts-set, counts-thread}
 use Rattle.lpc_procs.proofs.Few.{few, few_processes}
 use Rattle.lpc_procs.proofs.Gone.{count-gone, differ-without_first}
@@ -325,3 +325,18 @@ none-registered_to b (t ∷ ts) none =
     let sum = length-append t.registered.items (all_registrations ts) in
     let own = empty-counts (is_of_birth b) t.registered.items t.live (omega (arith, sum, none)) in
     omega (arith, own, count-append (is_of_birth b) (registered_live t) (live_registrations ts), none-registered_to b ts (omega (arith, sum, none)))
+
+-- and of no thread that has ended is anything to be told
+empty-first : {X : Type 0} (xs : List X) → length xs ≡ 0 → is_some (slice_get xs 0) ≡ false
+empty-first [] none = refl
+empty-first (x ∷ xs) none = absurd (omega (arith, none))
+
+none-left : (pid : ℕ) (ts : List ThreadRow) → all ts ≡ 0 → first (is_untold pid) ts ≡ None
+none-left pid [] none = refl
+none-left pid (t ∷ ts) none =
+    let sum = length-append t.registered.items (all_registrations ts) in
+    let own = empty-first t.registered.items (omega (arith, sum, none)) in
+    grind (arith, own, none-left pid ts (omega (arith, sum, none)))
+
+pub none-untold : (pid : ℕ) (ts : List ThreadRow) → all ts ≡ 0 → first_untold ts pid ≡ None
+none-untold pid ts none = ap (option_and_then first_registration) (none-left pid ts none)

@@ -96,6 +96,9 @@ impl Procs {
     pub fn first_to_tell(&self, pid: u32) -> Option<(u32, Registration)>
         ensures registration { result ≡ first_untold self.now.threads pid }
     {
+        if self.registered == 0 {
+            return None;
+        }
         registrations::first_untold(&self.threads, pid)
     }
 }

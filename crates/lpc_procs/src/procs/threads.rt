@@ -60,6 +60,9 @@ impl Procs {
     pub fn first_live(&self, pid: u32) -> Option<u32>
         ensures number { result ≡ first_thread (lives_in pid) self.now }
     {
+        if !self.is_live(pid) {
+            return None;
+        }
         match first_row(&self.threads, &LivesIn { pid }) {
             Some(t) => Some(t.number),
             None => None,
