@@ -33,7 +33,13 @@ use Rattle.lpc_homes.specs.declared.object.Object.TheVariants as object
 use Rattle.lpc_rows.proofs.Follows as follows
 use Rattle.lpc_rows.proofs.Readings as readings
 
--- a row of the tables names the port
+-- a row of the tables but a name's names the port
+abbrev pub is_used_in : Tables → Key → Bool
+is_used_in it key =
+    has (has_name_of (object.Port key)) it.parts || (has (ports.is_joined_to key) it.ports.ports || (has (ports.is_message_at key) it.ports.messages
+    || has (waits.is_wait_at key) it.waits.rows))
+
+-- one of these names it, or a name does
 abbrev pub is_named_in : Tables → Key → Bool
 is_named_in it key =
     has (has_name_of (object.Port key)) it.parts || (has (ports.is_joined_to key) it.ports.ports || (has (ports.is_message_at key) it.ports.messages
@@ -78,6 +84,15 @@ module _ (it : Tables) (is : AreNamed (births_of it) it) (key : Key) (there : st
   name_same : (rows : Bindings Key) → every (all_pass binding_refs ok) rows ≡ true → has_name same_birth b (map (shown_binding f) rows) ≡ has_name is_key key rows
   name_same [] all = refl
   name_same (row ∷ rows) all = grind (arith, node_same row.0 row.1, name_same rows)
+
+  pub used_is : held.is_used_by_row (shown_by n it) b ≡ is_used_in it key
+  used_is =
+      rw (
+        readings.open_is it is key there,
+        has-map (shown_port f) (all_pass port_refs ok) (ports.is_joined_to key) (held.is_joined_to b) joined_same it.ports.ports is.refs.in_ports,
+        has-map (shown_message f) (all_pass message_refs ok) (ports.is_message_at key) (held.is_message_at b) message_same it.ports.messages is.refs.in_messages,
+        has-map (shown_wait f) (all_pass wait_refs ok) (waits.is_wait_at key) (held.is_wait_at b) wait_same it.waits.rows is.refs.in_waits,
+      ) refl
 
   pub held_is : held.is_named_by_row (shown_by n it) b ≡ is_named_in it key
   held_is =

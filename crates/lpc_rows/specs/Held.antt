@@ -18,7 +18,13 @@ is_message_at b m = is_sent_on b m || is_queued b m
 abbrev pub is_wait_at : Birth → WaitRow → Bool
 is_wait_at b x = is_made_on b x || same_birth x.queue b
 
--- a row but a thread's, a process's or a view names the port: a handle, another port, a message, a wait, or a name
+-- a row but a thread's, a process's, a view's or a name's names the port: a handle, another port, a message, or a wait
+abbrev pub is_used_by_row : World → Birth → Bool
+is_used_by_row w b =
+    is_open w b || (has (is_joined_to b) w.ports || (has (is_message_at b) w.messages
+    || has (is_wait_at b) w.waits))
+
+-- one of these names the port, or a name does
 abbrev pub is_named_by_row : World → Birth → Bool
 is_named_by_row w b =
     is_open w b || (has (is_joined_to b) w.ports || (has (is_message_at b) w.messages
@@ -36,9 +42,14 @@ is_owner w b = has (is_owned_by b) (all_views w)
 abbrev pub is_event_port : World → Birth → Bool
 is_event_port w b = has (same_birth b) (event_ports w)
 
--- Some row names the port: one of these, a thread by a registration, a view that goes with it, or a process whose exceptions
--- it is told of. That is more than what counts: a queue and a name don't hold a port. But the ports of messages' queues and of names are open, the queue of a wait is near the port on which
--- the wait was made, which counts for it, and threads that have ended have no registrations.
+-- Some row but a name's names the port: one of these, a thread by a registration, a view that goes with it, or a process
+-- whose exceptions it is told of.
+abbrev pub is_used : World → Birth → Bool
+is_used w b = is_used_by_row w b || is_registered_port w b || is_owner w b || is_event_port w b
+
+-- Some row names the port, be it a name's. That is more than what counts: a queue and a name don't hold a port. But the
+-- ports of messages' queues and of names are open, the queue of a wait is near the port on which the wait was made, which
+-- counts for it, and threads that have ended have no registrations.
 abbrev pub is_named : World → Birth → Bool
 is_named w b = is_named_by_row w b || is_registered_port w b || is_owner w b || is_event_port w b
 

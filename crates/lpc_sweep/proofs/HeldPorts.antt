@@ -26,7 +26,7 @@ use Rattle.lpc_model.proofs.Linked.Joins.{gone-linked}
 use Rattle.lpc_model.proofs.Sound.Frees.{freed-sound}
 use Rattle.lpc_model.proofs.Held.Events.{ports-freed}
 use Rattle.lpc_model.proofs.Held.Ports.{unheld-parts}
-use Rattle.lpc_rows.specs.Held.{is_joined_to, is_named}
+use Rattle.lpc_rows.specs.Held.{is_event_port, is_joined_to, is_message_at, is_named, is_owner, is_registered_port, is_used, is_wait_at}
 use Rattle.lpc_rows.proofs.Counted.{named-counted}
 use Rattle.lpc_rows.proofs.Registered.{registrations}
 use Rattle.lpc_sweep.specs.Sweeping.{CanSweep}
@@ -102,6 +102,17 @@ held_as w b can = at (is_open w b) refl
         (joins (is_open w b) (has (is_paired_to b) w.ports) (has (is_connected_to b) w.ports) (has (is_sent_on b) w.messages) (has (is_queued b) w.messages) (has (is_made_on b) w.waits) (has (λ x. same_birth x.queue b) w.waits) (has_name same_birth b w.bindings) live owned heard hs held (counted w b) refl
         (λ off. (no_queued w b off w.messages can.queues.messages, no_named w b off w.bindings can.sound.names)) (no_waiting w b held can (unheld-parts w b))
         ∙ sym (parts hs (has (is_sent_on b) w.messages) (has (is_made_on b) w.waits) live owned heard (has (is_paired_to b) w.ports) (has (is_connected_to b) w.ports)))
+
+-- and no name has to be asked for, since names lead to open ports
+pub used_as : (w : World) (b : Birth) → CanSweep w → is_used w b ≡ not (is_unheld w (port_name b))
+used_as w b can =
+    less (is_open w b) (has (is_joined_to b) w.ports) (has (is_message_at b) w.messages) (has (is_wait_at b) w.waits) (has_name same_birth b w.bindings) (is_registered_port w b) (is_owner w b) (is_event_port w b)
+    (λ off. no_named w b off w.bindings can.sound.names)
+    ∙ held_as w b can
+  where
+    less : (o j m x n r v e : Bool) → (o ≡ false → n ≡ false) → ((((o || (j || (m || x))) || r) || v) || e) ≡ ((((o || (j || (m || (x || n)))) || r) || v) || e)
+    less true j m x n r v e held = refl
+    less false j m x n r v e held = let none = held refl in grind (arith, none)
 
 -- a port with another end is held by it
 paired_as : (w : World) (b : Birth) (o : Option PortRow) (q : Birth) → port_row w q ≡ o → is_the b (option_and_then (λ p. p.pair) o) ≡ true → has (is_paired_to b) w.ports ≡ true

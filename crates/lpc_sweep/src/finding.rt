@@ -32,7 +32,8 @@ fn port_key(world: &World, place: usize) -> Key
     world.ports().key_at(place)
 }
 
-/// A row counts for the port. The other end of a pair counts, so that of most ports the row alone tells it.
+/// A row counts for the port. The other end of a pair counts, so that of most ports the row alone tells it. A name leads
+/// to ports that have a handle, so that no name is asked for.
 pub fn is_held(world: &World, port: Key) -> bool
     requires can { CanSweep world.now.rows }
     requires stands { stands world.now.births.ports port ≡ true }
@@ -41,7 +42,7 @@ pub fn is_held(world: &World, port: Key) -> bool
     if let Some(_) = world.port(port).pair {
         return true;
     }
-    world.is_named(port)
+    world.is_used(port)
 }
 
 /// The oldest port that no row holds: None exactly where each port is held.

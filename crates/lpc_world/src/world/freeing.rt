@@ -18,15 +18,15 @@ use lpc_homes::Object;
 use lpc_slots::Key;
 
 impl World {
-    /// A row but a thread's, a process's or a view names the port: a handle, another port, a message, a wait, or a name.
-    fn is_named_by_row(&self, port: Key) -> bool
+    /// A row but a thread's, a process's, a view's or a name's names the port: a handle, another port, a message, or a
+    /// wait.
+    fn is_used_by_row(&self, port: Key) -> bool
         requires { stands self.now.births.ports port ≡ true }
-        ensures { result ≡ held.is_named_by_row self.now.rows (birth_at self.now port) }
+        ensures { result ≡ held.is_used_by_row self.now.rows (birth_at self.now port) }
     {
         self.parts.names(Object::Port(port))
             || self.ports.is_named(port)
             || self.waits.is_named(port)
-            || self.names.has_name(port)
     }
 
     /// A thread registered the port, be it live or ended.
@@ -53,13 +53,13 @@ impl World {
         self.procs.is_event_port(self.port(port).birth)
     }
 
-    /// Some row names the port: one of these, a thread by a registration, a view that goes with it, or a process whose
-    /// exceptions it is told of.
-    pub fn is_named(&self, port: Key) -> bool
+    /// Some row but a name's names the port: one of these, a thread by a registration, a view that goes with it, or a
+    /// process whose exceptions it is told of. Names aren't looked through, since all of them would have to be.
+    pub fn is_used(&self, port: Key) -> bool
         requires { stands self.now.births.ports port ≡ true }
-        ensures { result ≡ held.is_named self.now.rows (birth_at self.now port) }
+        ensures { result ≡ held.is_used self.now.rows (birth_at self.now port) }
     {
-        self.is_named_by_row(port)
+        self.is_used_by_row(port)
             || self.is_registered_port(port)
             || self.is_owner(port)
             || self.is_event_port(port)
