@@ -14,7 +14,7 @@ use Rattle.lpc_slots.specs.declared.Key.{Key}
 use Rattle.lpc_rows.specs.Clauses.{Finds}
 use Rattle.lpc_rows.specs.Names.{name_of, some_stands, stands}
 use Rattle.lpc_rows.specs.Shown.{Births, birth_of, name_by, object_stands}
-use Rattle.lpc_rows.specs.Suspects.{NamesNoLife, NamesPort, is_thread_or_process, names_life}
+use Rattle.lpc_rows.specs.Suspects.{NamesLives, NamesPort, is_process_of, is_thread_of}
 
 module _ (n : Births) (value : ℕ) where
   abbrev shown : Row Object → HandleRow
@@ -42,14 +42,20 @@ module _ (n : Births) (value : ℕ) where
       at (object.Section key) there = refl
       at (object.Token key) there = refl
 
-  pub no-life : (r : Option (Row Object)) (h : Option HandleRow) → Finds r shown h → passes r names_life ≡ false → NamesNoLife h
-  no-life None h is off = subst NamesNoLife (sym is) (λ b. (refl, refl))
-  no-life (Some row) h is off = subst NamesNoLife (sym is) (λ b. neither row.object b off)
+  pub lives-named : (r : Option (Row Object)) (h : Option HandleRow) → Finds r shown h → NamesLives r h
+  lives-named None h is = subst (λ (o : Option HandleRow). NamesLives None o) (sym is) (record { thread = λ b off. refl; process = λ b off. refl })
+  lives-named (Some row) h is = subst (λ (o : Option HandleRow). NamesLives (Some row) o) (sym is) (record { thread = λ b off. no-thread row.object b off; process = λ b off. no-process row.object b off })
     where
-      neither : (o : Object) (b : Birth) → is_thread_or_process o ≡ false
-          → (same_object (name_by (birth_of n) o) (thread_name b) ≡ false) × (same_object (name_by (birth_of n) o) (process_name b) ≡ false)
-      neither (object.Port key) b off = (refl, refl)
-      neither (object.Process birth) b off = absurd (cc)
-      neither (object.Thread birth) b off = absurd (cc)
-      neither (object.Section key) b off = (refl, refl)
-      neither (object.Token key) b off = (refl, refl)
+      no-thread : (o : Object) (b : Birth) → is_thread_of b o ≡ false → same_object (name_by (birth_of n) o) (thread_name b) ≡ false
+      no-thread (object.Port key) b off = refl
+      no-thread (object.Process birth) b off = refl
+      no-thread (object.Thread birth) b off = off
+      no-thread (object.Section key) b off = refl
+      no-thread (object.Token key) b off = refl
+
+      no-process : (o : Object) (b : Birth) → is_process_of b o ≡ false → same_object (name_by (birth_of n) o) (process_name b) ≡ false
+      no-process (object.Port key) b off = refl
+      no-process (object.Process birth) b off = off
+      no-process (object.Thread birth) b off = refl
+      no-process (object.Section key) b off = refl
+      no-process (object.Token key) b off = refl

@@ -16,11 +16,16 @@ use crate::finding::{
     is_held, port_count, process_count, section_count, thread_count, token_count, unheld_port,
     unheld_process, unheld_section, unheld_thread, unheld_token,
 };
+use lpc_base::Birth;
 use lpc_slots::Key;
-use lpc_world::{Object, Suspect, World};
+use lpc_world::{LifeSuspect, Object, Suspect, World};
 
 /// How many ports are looked at one by one, before all are.
 const MOST_LOOKS: u32 = 16;
+
+/// How many threads and processes are, before all are: those that a world remembers, each of which is looked at once, and
+/// one look that finds none.
+const MOST_LIVES: u32 = 17;
 
 /// The row of an object that no row counts for goes. Its room is spare then.
 fn free(world: &mut World, object: Object)
@@ -105,16 +110,70 @@ fn free_processes(world: &mut World)
     }
 }
 
-/// Where a thread or a process may have lost the last row that counted for it, each goes that no row counts for.
+/// No row counts for an object.
+fn is_uncounted(world: &World, object: Object) -> bool
+    requires { object_stands world.now.births object ≡ true }
+    ensures { result ≡ is_unheld world.now.rows (name_at world.now object) }
+{
+    world.pointers_to(object) == 0
+}
+
+/// A thread that may have lost the last row that counted for it is looked at: where no row counts for it, it goes. Where
+/// one does it is suspected no longer.
+fn look_at_thread(world: &mut World, birth: Birth)
+    requires { CanSweep world.old.rows }
+    ensures { SweepsAhead world.old world.new }
+{
+    if is_uncounted(world, Object::Thread(birth)) {
+        free(world, Object::Thread(birth));
+    } else {
+        world.clear_thread(birth);
+    }
+}
+
+/// A process that may have is looked at likewise.
+fn look_at_process(world: &mut World, birth: Birth)
+    requires { CanSweep world.old.rows }
+    ensures { SweepsAhead world.old world.new }
+{
+    if is_uncounted(world, Object::Process(birth)) {
+        free(world, Object::Process(birth));
+    } else {
+        world.clear_process(birth);
+    }
+}
+
+/// The threads and the processes that may have lost the last row that counted for them are looked at, where these are
+/// few. Answers whether that was enough: then some row counts for each thread and each process.
+fn free_suspected_lives(world: &mut World) -> bool
+    requires can { CanSweep world.old.rows }
+    ensures ahead { SweepsAhead world.old world.new }
+    ensures held { result ≡ true → AreLivesHeld world.new.rows }
+{
+    for looked in 0..MOST_LIVES {
+        let _ = looked;
+        match world.life_suspect() {
+            LifeSuspect::Nobody => return true,
+            LifeSuspect::Thread(birth) => look_at_thread(world, birth),
+            LifeSuspect::Process(birth) => look_at_process(world, birth),
+            LifeSuspect::Anybody => return false,
+        }
+    }
+    false
+}
+
+/// Each thread and each process goes that no row counts for: of those that may have lost the last one, where these are
+/// few, else of all.
 fn free_lives(world: &mut World)
     requires can { CanSweep world.old.rows }
     ensures ahead { SweepsAhead world.old world.new }
     ensures held { AreLivesHeld world.new.rows }
 {
-    if world.are_lives_suspected() {
-        free_threads(world);
-        free_processes(world);
+    if free_suspected_lives(world) {
+        return;
     }
+    free_threads(world);
+    free_processes(world);
 }
 
 /// While there is a port that no row counts for, it goes. Some row counts for each thread, each process, each section
@@ -232,9 +291,8 @@ fn free_unheld(world: &mut World)
     }
 }
 
-/// Each object goes that no row counts for, and then each that only those counted for. Threads and processes are looked
-/// at only where one of them may have lost what counted for it, and of the ports those alone that may have, where these
-/// are few.
+/// Each object goes that no row counts for, and then each that only those counted for. Of the threads and the processes
+/// those alone are looked at that may have lost what counted for them, where these are few, and so it is with ports.
 pub fn sweep(world: &mut World)
     requires can { CanSweep world.old.rows }
     requires still { world.old.loose ≡ false → model.unheld world.old.rows ≡ [] }

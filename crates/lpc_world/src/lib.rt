@@ -2,9 +2,11 @@
 #![tactic(auto)]
 
 mod marks;
+mod suspected_lives;
 mod suspects;
 mod world;
 
 pub use lpc_homes::Object;
+pub use suspected_lives::LifeSuspect;
 pub use suspects::Suspect;
 pub use world::World;

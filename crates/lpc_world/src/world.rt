@@ -41,6 +41,7 @@ mod tokens;
 mod views;
 
 use crate::marks::Marks;
+use crate::suspected_lives::SuspectedLives;
 use crate::suspects::Suspects;
 use lpc_base::{Birth, OutOfMemory, PortKind};
 use lpc_handles::TableFault;
@@ -72,7 +73,7 @@ pub struct World {
     token_names: TokenNames,
     marks: Marks,
     suspects: Suspects,
-    lives: bool,
+    lives: SuspectedLives,
     calls: u32,
     made: u32,
     loose: bool,
@@ -137,7 +138,7 @@ impl World {
             token_names: TokenNames::new(alloc),
             marks: Marks::new(alloc),
             suspects: Suspects::none(),
-            lives: false,
+            lives: SuspectedLives::nobody(),
             calls: 0,
             made: 0,
             loose: false,
@@ -227,7 +228,7 @@ impl World {
             } }
     {
         self.made += 1;
-        self.lives = true;
+        self.lives.suspect_process(birth);
         self.procs.add_process(pid, maker, birth, token);
         self.parts.add(pid);
     }

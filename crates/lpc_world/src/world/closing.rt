@@ -1,6 +1,6 @@
 // What goes when a handle is closed, and what is counted of its object.
-ghost use Rattle.std.specs.Prelude.{◌||◌, ◌≡◌, ◌+◌, ◌*◌, ◌≤◌, true, option_and_then};
-ghost use Rattle.lpc_base.specs.Rows.{count, has, passes};
+ghost use Rattle.std.specs.Prelude.{◌≡◌, ◌+◌, ◌*◌, ◌≤◌, true, option_and_then};
+ghost use Rattle.lpc_base.specs.Rows.{count, has};
 ghost use Rattle.lpc_base.specs.declared.limits.TheConstants.{VIEW_LIMIT};
 ghost use Rattle.lpc_homes.specs.Parts.{port_of};
 ghost use Rattle.lpc_model.specs.Basics.{Cuts, DropsHandle, Empties, Unbinds};
@@ -11,7 +11,6 @@ ghost use Rattle.lpc_rows.specs.Capacity.{but_names};
 ghost use Rattle.lpc_rows.specs.Held.{has_handles};
 ghost use Rattle.lpc_rows.specs.Kept.{IsStep, Roomy, owed_rows};
 ghost use Rattle.lpc_rows.specs.Names.{stands};
-ghost use Rattle.lpc_rows.specs.Suspects.{names_life};
 ghost use Rattle.lpc_rows.specs.Shown.{object_stands};
 ghost use Rattle.lpc_rows.specs.Clauses.{after, birth_at, name_at};
 
@@ -75,9 +74,9 @@ impl World {
     {
         let handle = self.handle(pid, value);
         self.loose = true;
-        self.lives = lives_are_suspected(self.lives, handle);
         self.parts.close_handle(pid, value);
         self.suspects.add_some(port_of_handle(handle));
+        self.lives.suspect_named(handle);
     }
 
     /// A handle names an object.
@@ -171,17 +170,4 @@ fn port_of_handle(handle: Option<Row<Object>>) -> Option<Key>
     ensures { result ≡ option_and_then (λ row. port_of row.object) handle }
 {
     handle?.object.port()
-}
-
-// Threads and processes are suspected, once a handle went: where they were, and where it named one.
-fn lives_are_suspected(before: bool, handle: Option<Row<Object>>) -> bool
-    ensures { result ≡ (before || passes handle names_life) }
-{
-    match handle {
-        Some(row) => match row.object {
-            Object::Thread(_) | Object::Process(_) => true,
-            Object::Port(_) | Object::Section(_) | Object::Token(_) => before,
-        },
-        None => before,
-    }
 }

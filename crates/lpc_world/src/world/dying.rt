@@ -1,5 +1,5 @@
 // Ports that threads register, and threads that end.
-ghost use Rattle.std.specs.Prelude.{◌≡◌, ◌+◌, ◌<◌, ◌≤◌, false, true, IfSome, option_map};
+ghost use Rattle.std.specs.Prelude.{◌≡◌, ◌+◌, ◌<◌, ◌≤◌, Some, false, true, IfSome, option_map};
 ghost use Rattle.lpc_base.specs.Rows.{first, has};
 ghost use Rattle.lpc_model.specs.Basics.{Registers, Unregisters};
 ghost use Rattle.lpc_model.specs.Found.{is_live_thread, is_thread, lives_in, waits_as};
@@ -7,6 +7,7 @@ ghost use Rattle.lpc_rows.specs.Clauses.{Finds, after, and_message, birth_at};
 ghost use Rattle.lpc_rows.specs.Kept.{CanMake, IsStep, Roomy, owed_rows};
 ghost use Rattle.lpc_rows.specs.Lawful.{are_single_threads};
 ghost use Rattle.lpc_rows.specs.Names.{stands};
+ghost use Rattle.lpc_rows.specs.Suspects.{home_birth, thread_birth};
 ghost use Rattle.lpc_rows.specs.Registered as registered;
 ghost use Rattle.lpc_rows.specs.Registered.{HasFewRegistrations, untold_of, death_shown, with_ended};
 
@@ -67,11 +68,28 @@ impl World {
         ensures loose { self.new.loose ≡ true }
         ensures capacity { self.new.capacity ≡ self.old.capacity }
     {
+        let born = self.born_of_live(tid);
         self.loose = true;
         let registered = self.procs.registrations() > 0;
-        self.lives = true;
         self.procs.end_thread(tid);
         self.suspects.add_any_if(registered);
+        self.lives.suspect_thread(born.0);
+        self.lives.suspect_process(born.1);
+    }
+
+    /// The birth of a live thread, and that of its process.
+    fn born_of_live(&self, tid: u32) -> (Birth, Birth)
+        requires { has (is_live_thread tid) self.now.rows.threads ≡ true }
+        ensures thread { thread_birth self.now.rows tid ≡ Some result.0 }
+        ensures process { home_birth self.now.rows tid ≡ Some result.1 }
+    {
+        match self.live_thread(tid) {
+            Some(thread) => (
+                thread.birth,
+                self.procs.birth(Number::Process(thread.process)),
+            ),
+            None => unreachable!(),
+        }
     }
 
     /// The client port of a thread's accepted connect: None exactly where the thread doesn't wait with one.

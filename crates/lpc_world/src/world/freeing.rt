@@ -1,9 +1,11 @@
 // What names a port in the tables, and the rows that go. The sweep, which stands above, lets them go.
 ghost use Rattle.std.specs.Prelude.{◌≡◌, ◌+◌, ◌≤◌, true, false};
 ghost use Rattle.lpc_model.specs.Basics.{Frees};
-ghost use Rattle.lpc_model.specs.Found.{port_name, process_name, thread_name};
+ghost use Rattle.lpc_model.specs.Found.{is_born_process, is_born_thread, port_name, process_name, thread_name};
 ghost use Rattle.lpc_model.specs.Linked.{AreLivesHeld, HasHeldPorts};
 ghost use Rattle.lpc_model.specs.Sweep.{is_unheld};
+ghost use Rattle.lpc_base.specs.Rows.{has};
+ghost use Rattle.lpc_world.specs.declared.suspected_lives.LifeSuspect.TheVariants as life;
 ghost use Rattle.lpc_world.specs.declared.suspects.Suspect.TheVariants.{Nobody};
 ghost use Rattle.lpc_rows.specs.Held as held;
 ghost use Rattle.lpc_rows.specs.Held.{has_holders};
@@ -11,6 +13,7 @@ ghost use Rattle.lpc_rows.specs.Kept.{GainsNoLives, Roomy, owed_rows};
 ghost use Rattle.lpc_rows.specs.Names.{KeepsOthers, stands};
 ghost use Rattle.lpc_rows.specs.Clauses.{after, birth_at};
 
+use crate::suspected_lives::{LifeSuspect, SuspectedLives};
 use crate::suspects::{Suspect, Suspects};
 use crate::world::World;
 use lpc_base::Birth;
@@ -95,11 +98,30 @@ impl World {
         self.suspects.remove(port);
     }
 
-    /// A thread or a process may have lost the last row that counted for it. Where not, some row counts for each.
-    pub fn are_lives_suspected(&self) -> bool
-        ensures { result ≡ false → AreLivesHeld self.now.rows }
+    /// A thread or a process that may have lost the last row that counted for it, or nobody, and then some row counts for
+    /// each thread and each process.
+    pub fn life_suspect(&self) -> LifeSuspect
+        ensures nobody { result ≡ life.Nobody → AreLivesHeld self.now.rows }
     {
-        self.lives
+        self.lives.first()
+    }
+
+    /// A thread is no longer suspected for which some row counts, or which doesn't stand any more.
+    pub fn clear_thread(&mut self, birth: Birth)
+        requires held { has (is_born_thread birth) self.old.rows.threads ≡ true
+            → is_unheld self.old.rows (thread_name birth) ≡ false }
+        ensures { self.new ≡ self.old }
+    {
+        self.lives.remove_thread(birth);
+    }
+
+    /// A process is no longer suspected for which some row counts, or which doesn't stand any more.
+    pub fn clear_process(&mut self, birth: Birth)
+        requires held { has (is_born_process birth) self.old.rows.processes ≡ true
+            → is_unheld self.old.rows (process_name birth) ≡ false }
+        ensures { self.new ≡ self.old }
+    {
+        self.lives.remove_process(birth);
     }
 
     /// No sweep is due, until a call is made again that takes rows away which may name objects, or such names. Some row
@@ -117,7 +139,7 @@ impl World {
     {
         self.loose = false;
         self.suspects = Suspects::none();
-        self.lives = false;
+        self.lives = SuspectedLives::nobody();
     }
 
     /// The row of a thread that has ended goes.
@@ -137,6 +159,7 @@ impl World {
     {
         self.loose = true;
         self.procs.free_thread_born(birth);
+        self.lives.remove_thread(birth);
     }
 
     /// The row of a process goes of which no thread lives. Its number and its table of handles stay.
@@ -157,6 +180,7 @@ impl World {
         self.loose = true;
         self.procs.free_process_born(birth);
         self.suspects.add_any();
+        self.lives.remove_process(birth);
     }
 
     /// A port that no row names goes. Its room is spare then.

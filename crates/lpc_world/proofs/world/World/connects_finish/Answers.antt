@@ -12,7 +12,7 @@ use Rattle.lpc_rows.proofs.Capacities as capacities
 use Rattle.lpc_rows.proofs.Suspecting as suspecting
 use Rattle.lpc_rows.proofs.Lived as lived
 use Rattle.std.proofs.Common.{subst}
-use Rattle.lpc_model.specs.Linked.{AreLivesHeld}
+use Rattle.lpc_rows.specs.Suspects.{AreLivesWatched}
 use Rattle.lpc_world.proofs.world.World.connects_finish.Goals as goal
 
 pub add_handle-requires-clause-one : goal.add_handle-requires-clause-one
@@ -38,7 +38,7 @@ invariant_of-self c = record {
       rw (c.in-Ok.ensures.parts, c.remove.ensures, steps.end_is (tables_of c.self.inside.procs c.self.inside.parts.items c.self.inside.ports c.self.inside.waits c.self.inside.names c.self.inside.sections c.self.inside.tokens c.self.inside.token_names c.self.inside.marks) c.self.inside.calls c.self.inside.made c.self.invariant.kept c.args.tid c.end-ended.new.self c.end-ended.result c.end-ended.ensures.value c.end-ended.ensures.rows c.end-ended.ensures.spare c.end-ended.ensures.made)
       (finished.finished (tables_of c.self.inside.procs c.self.inside.parts.items c.self.inside.ports c.self.inside.waits c.self.inside.names c.self.inside.sections c.self.inside.tokens c.self.inside.token_names c.self.inside.marks) c.self.inside.calls c.self.inside.made c.self.invariant.kept c.args.tid c.waiting-wait.result.process there.waits there.connect own c.in-Ok.value (record { object = c.args.object; access = c.args.access }) there.object there.left there.budget);
   watched = let own = suspecting.given-to (tables_of c.self.inside.procs c.self.inside.parts.items c.self.inside.ports c.self.inside.waits c.self.inside.names c.self.inside.sections c.self.inside.tokens c.self.inside.token_names c.self.inside.marks) c.self.inside.calls c.self.inside.made c.self.invariant.kept c.self.inside.suspects c.self.invariant.watched c.waiting-wait.result.process c.in-Ok.value (record { object = c.args.object; access = c.args.access }) (basic (rows_by (tables_of c.self.inside.procs c.self.inside.parts.items c.self.inside.ports c.self.inside.waits c.self.inside.names c.self.inside.sections c.self.inside.tokens c.self.inside.token_names c.self.inside.marks)) (AddsHandle c.waiting-wait.result.process (shown_handle (birth_of (births_of (tables_of c.self.inside.procs c.self.inside.parts.items c.self.inside.ports c.self.inside.waits c.self.inside.names c.self.inside.sections c.self.inside.tokens c.self.inside.token_names c.self.inside.marks))) (c.in-Ok.value, (record { object = c.args.object; access = c.args.access }))))) c.in-Ok.ensures.value refl in let here = rw (← c.self.view_is) at c.requires in let home = rw (← c.self.view_is) at c.waiting-wait.ensures.wait.process in rw (c.in-Ok.ensures.parts, steps.end_is (tables_of c.self.inside.procs c.self.inside.parts.items c.self.inside.ports c.self.inside.waits c.self.inside.names c.self.inside.sections c.self.inside.tokens c.self.inside.token_names c.self.inside.marks) c.self.inside.calls c.self.inside.made c.self.invariant.kept c.args.tid c.end-ended.new.self c.end-ended.result c.end-ended.ensures.value c.end-ended.ensures.rows c.end-ended.ensures.spare c.end-ended.ensures.made, c.add_some.ensures, c.port_of.ensures) (suspecting.ended-to (tables_of c.self.inside.procs c.self.inside.parts.items c.self.inside.ports c.self.inside.waits c.self.inside.names c.self.inside.sections c.self.inside.tokens c.self.inside.token_names c.self.inside.marks) c.self.invariant.kept.named c.self.invariant.kept.lawful.single (basic (rows_by (tables_of c.self.inside.procs c.self.inside.parts.items c.self.inside.ports c.self.inside.waits c.self.inside.names c.self.inside.sections c.self.inside.tokens c.self.inside.token_names c.self.inside.marks)) (AddsHandle c.waiting-wait.result.process (shown_handle (birth_of (births_of (tables_of c.self.inside.procs c.self.inside.parts.items c.self.inside.ports c.self.inside.waits c.self.inside.names c.self.inside.sections c.self.inside.tokens c.self.inside.token_names c.self.inside.marks))) (c.in-Ok.value, (record { object = c.args.object; access = c.args.access }))))) refl c.self.inside.suspects own c.args.tid _ c.end-ended.result c.end-ended.ensures.value (finished.rows_after (tables_of c.self.inside.procs c.self.inside.parts.items c.self.inside.ports c.self.inside.waits c.self.inside.names c.self.inside.sections c.self.inside.tokens c.self.inside.token_names c.self.inside.marks) c.self.inside.calls c.self.inside.made c.self.invariant.kept c.args.tid c.waiting-wait.result.process here.waits here.connect home c.in-Ok.value (record { object = c.args.object; access = c.args.access }) here.object));
-  lived = let here = rw (← c.self.view_is) at c.requires in let home = rw (← c.self.view_is) at c.waiting-wait.ensures.wait.process in rw (c.in-Ok.ensures.parts, c.remove.ensures, steps.end_is (tables_of c.self.inside.procs c.self.inside.parts.items c.self.inside.ports c.self.inside.waits c.self.inside.names c.self.inside.sections c.self.inside.tokens c.self.inside.token_names c.self.inside.marks) c.self.inside.calls c.self.inside.made c.self.invariant.kept c.args.tid c.end-ended.new.self c.end-ended.result c.end-ended.ensures.value c.end-ended.ensures.rows c.end-ended.ensures.spare c.end-ended.ensures.made) (λ calm. subst AreLivesHeld (sym (finished.rows_after (tables_of c.self.inside.procs c.self.inside.parts.items c.self.inside.ports c.self.inside.waits c.self.inside.names c.self.inside.sections c.self.inside.tokens c.self.inside.token_names c.self.inside.marks) c.self.inside.calls c.self.inside.made c.self.invariant.kept c.args.tid c.waiting-wait.result.process here.waits here.connect home c.in-Ok.value (record { object = c.args.object; access = c.args.access }) here.object)) (let held = lived.given-to (tables_of c.self.inside.procs c.self.inside.parts.items c.self.inside.ports c.self.inside.waits c.self.inside.names c.self.inside.sections c.self.inside.tokens c.self.inside.token_names c.self.inside.marks) c.self.inside.calls c.self.inside.made c.self.invariant.kept (c.self.invariant.lived calm) c.waiting-wait.result.process c.in-Ok.value (record { object = c.args.object; access = c.args.access }) (basic (rows_by (tables_of c.self.inside.procs c.self.inside.parts.items c.self.inside.ports c.self.inside.waits c.self.inside.names c.self.inside.sections c.self.inside.tokens c.self.inside.token_names c.self.inside.marks)) (AddsHandle c.waiting-wait.result.process (shown_handle (birth_of (births_of (tables_of c.self.inside.procs c.self.inside.parts.items c.self.inside.ports c.self.inside.waits c.self.inside.names c.self.inside.sections c.self.inside.tokens c.self.inside.token_names c.self.inside.marks))) (c.in-Ok.value, (record { object = c.args.object; access = c.args.access }))))) c.in-Ok.ensures.value refl in record { threads = held.threads; processes = held.processes }));
+  lived = let here = rw (← c.self.view_is) at c.requires in let home = rw (← c.self.view_is) at c.waiting-wait.ensures.wait.process in rw (c.in-Ok.ensures.parts, c.remove.ensures, steps.end_is (tables_of c.self.inside.procs c.self.inside.parts.items c.self.inside.ports c.self.inside.waits c.self.inside.names c.self.inside.sections c.self.inside.tokens c.self.inside.token_names c.self.inside.marks) c.self.inside.calls c.self.inside.made c.self.invariant.kept c.args.tid c.end-ended.new.self c.end-ended.result c.end-ended.ensures.value c.end-ended.ensures.rows c.end-ended.ensures.spare c.end-ended.ensures.made) (λ calm. subst (λ w. AreLivesWatched w c.self.inside.lives) (sym (finished.rows_after (tables_of c.self.inside.procs c.self.inside.parts.items c.self.inside.ports c.self.inside.waits c.self.inside.names c.self.inside.sections c.self.inside.tokens c.self.inside.token_names c.self.inside.marks) c.self.inside.calls c.self.inside.made c.self.invariant.kept c.args.tid c.waiting-wait.result.process here.waits here.connect home c.in-Ok.value (record { object = c.args.object; access = c.args.access }) here.object)) (let held = lived.given-to (tables_of c.self.inside.procs c.self.inside.parts.items c.self.inside.ports c.self.inside.waits c.self.inside.names c.self.inside.sections c.self.inside.tokens c.self.inside.token_names c.self.inside.marks) c.self.inside.calls c.self.inside.made c.self.invariant.kept (c.self.invariant.lived calm) c.waiting-wait.result.process c.in-Ok.value (record { object = c.args.object; access = c.args.access }) (basic (rows_by (tables_of c.self.inside.procs c.self.inside.parts.items c.self.inside.ports c.self.inside.waits c.self.inside.names c.self.inside.sections c.self.inside.tokens c.self.inside.token_names c.self.inside.marks)) (AddsHandle c.waiting-wait.result.process (shown_handle (birth_of (births_of (tables_of c.self.inside.procs c.self.inside.parts.items c.self.inside.ports c.self.inside.waits c.self.inside.names c.self.inside.sections c.self.inside.tokens c.self.inside.token_names c.self.inside.marks))) (c.in-Ok.value, (record { object = c.args.object; access = c.args.access }))))) c.in-Ok.ensures.value refl in record { threads = held.threads; processes = held.processes }));
 }
 
 pub unreachable-requires : goal.unreachable-requires

@@ -1,6 +1,5 @@
 use Rattle.std.proofs.Common.{sym, ◌∙◌, arith}
 use Rattle.std.specs.Prelude.{option_and_then}
-use Rattle.lpc_base.specs.Rows.{passes}
 use Rattle.lpc_homes.specs.Parts.{closing, port_of}
 use Rattle.lpc_rows.specs.Shown.{tables_of}
 use Rattle.lpc_rows.proofs.Dropped as dropped
@@ -13,7 +12,6 @@ use Rattle.std.proofs.Common.{refl}
 use Rattle.lpc_model.specs.Found.{handle_at}
 use Rattle.lpc_rows.proofs.Lived as lived
 use Rattle.lpc_rows.proofs.NamedObjects as named
-use Rattle.lpc_rows.specs.Suspects.{names_life}
 use Rattle.lpc_world.proofs.world.World.handles_close.Goals as goal
 
 pub close_handle-requires-clause-one : goal.close_handle-requires-clause-one
@@ -27,7 +25,7 @@ invariant_of-self c = record {
   kept =
       rw c.close_handle.ensures.parts (dropped.dropped_lawful (tables_of c.self.inside.procs c.self.inside.parts.items c.self.inside.ports c.self.inside.waits c.self.inside.names c.self.inside.sections c.self.inside.tokens c.self.inside.token_names c.self.inside.marks) c.self.inside.calls c.self.inside.made c.self.invariant.kept c.args.pid c.args.value);
   watched = let found = rw (← c.self.view_is) at c.handle-handle.ensures.row in let stood = rw (← c.self.view_is) at c.handle-handle.ensures.stands in rw (c.close_handle.ensures.parts, c.add_some.ensures, c.port_of_handle.ensures) (suspected.closed-to (rows_by (tables_of c.self.inside.procs c.self.inside.parts.items c.self.inside.ports c.self.inside.waits c.self.inside.names c.self.inside.sections c.self.inside.tokens c.self.inside.token_names c.self.inside.marks)) (births_of (tables_of c.self.inside.procs c.self.inside.parts.items c.self.inside.ports c.self.inside.waits c.self.inside.names c.self.inside.sections c.self.inside.tokens c.self.inside.token_names c.self.inside.marks)).ports c.self.inside.suspects c.self.invariant.watched _ c.args.pid c.args.value (handle_at (rows_by (tables_of c.self.inside.procs c.self.inside.parts.items c.self.inside.ports c.self.inside.waits c.self.inside.names c.self.inside.sections c.self.inside.tokens c.self.inside.token_names c.self.inside.marks)) c.args.pid c.args.value) (option_and_then (λ row. port_of row.object) c.handle-handle.result) c.self.invariant.kept.lawful.tables_single refl (named.port-named (births_of (tables_of c.self.inside.procs c.self.inside.parts.items c.self.inside.ports c.self.inside.waits c.self.inside.names c.self.inside.sections c.self.inside.tokens c.self.inside.token_names c.self.inside.marks)) c.args.value c.handle-handle.result _ found) (named.port-stands (births_of (tables_of c.self.inside.procs c.self.inside.parts.items c.self.inside.ports c.self.inside.waits c.self.inside.names c.self.inside.sections c.self.inside.tokens c.self.inside.token_names c.self.inside.marks)) c.args.value c.handle-handle.result stood) (dropped.drops (tables_of c.self.inside.procs c.self.inside.parts.items c.self.inside.ports c.self.inside.waits c.self.inside.names c.self.inside.sections c.self.inside.tokens c.self.inside.token_names c.self.inside.marks) c.self.inside.calls c.self.inside.made c.self.invariant.kept c.args.pid c.args.value));
-  lived = let found = rw (← c.self.view_is) at c.handle-handle.ensures.row in rw c.close_handle.ensures.parts (λ calm. lived.closed-unless (rows_by (tables_of c.self.inside.procs c.self.inside.parts.items c.self.inside.ports c.self.inside.waits c.self.inside.names c.self.inside.sections c.self.inside.tokens c.self.inside.token_names c.self.inside.marks)) c.self.inside.lives (passes c.handle-handle.result names_life) c.self.invariant.lived _ c.args.pid c.args.value c.self.invariant.kept.lawful.tables_single (named.no-life (births_of (tables_of c.self.inside.procs c.self.inside.parts.items c.self.inside.ports c.self.inside.waits c.self.inside.names c.self.inside.sections c.self.inside.tokens c.self.inside.token_names c.self.inside.marks)) c.args.value c.handle-handle.result _ found) (dropped.drops (tables_of c.self.inside.procs c.self.inside.parts.items c.self.inside.ports c.self.inside.waits c.self.inside.names c.self.inside.sections c.self.inside.tokens c.self.inside.token_names c.self.inside.marks) c.self.inside.calls c.self.inside.made c.self.invariant.kept c.args.pid c.args.value) (sym c.lives_are_suspected-self-inside.ensures ∙ calm));
+  lived = let found = rw (← c.self.view_is) at c.handle-handle.ensures.row in rw (c.close_handle.ensures.parts, c.suspect_named.ensures) (λ calm. lived.closed-to (rows_by (tables_of c.self.inside.procs c.self.inside.parts.items c.self.inside.ports c.self.inside.waits c.self.inside.names c.self.inside.sections c.self.inside.tokens c.self.inside.token_names c.self.inside.marks)) c.self.inside.lives c.self.invariant.lived _ c.args.pid c.args.value c.handle-handle.result c.self.invariant.kept.lawful.tables_single (named.lives-named (births_of (tables_of c.self.inside.procs c.self.inside.parts.items c.self.inside.ports c.self.inside.waits c.self.inside.names c.self.inside.sections c.self.inside.tokens c.self.inside.token_names c.self.inside.marks)) c.args.value c.handle-handle.result _ found) (dropped.drops (tables_of c.self.inside.procs c.self.inside.parts.items c.self.inside.ports c.self.inside.waits c.self.inside.names c.self.inside.sections c.self.inside.tokens c.self.inside.token_names c.self.inside.marks) c.self.inside.calls c.self.inside.made c.self.invariant.kept c.args.pid c.args.value) calm);
 }
 
 pub returns-clause-rows : goal.returns-clause-rows

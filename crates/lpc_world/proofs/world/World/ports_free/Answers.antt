@@ -14,7 +14,7 @@ use Rattle.lpc_rows.proofs.Unheld as unheld
 use Rattle.lpc_rows.proofs.Suspected as suspected
 use Rattle.lpc_rows.proofs.Suspecting as suspecting
 use Rattle.std.proofs.Common.{subst}
-use Rattle.lpc_model.specs.Linked.{AreLivesHeld}
+use Rattle.lpc_rows.specs.Suspects.{AreLivesWatched}
 use Rattle.lpc_world.proofs.world.World.ports_free.Goals as goal
 
 pub free-requires : goal.free-requires
@@ -37,7 +37,7 @@ invariant_of-self c = record {
       let owned = sym (owned_has (tables_of c.self.inside.procs c.self.inside.parts.items c.self.inside.ports c.self.inside.waits c.self.inside.names c.self.inside.sections c.self.inside.tokens c.self.inside.token_names c.self.inside.marks) c.self.invariant.kept.named c.args.port h.stands) ∙ all.1 in
       rw c.free.ensures.table (frees.freed_lawful (tables_of c.self.inside.procs c.self.inside.parts.items c.self.inside.ports c.self.inside.waits c.self.inside.names c.self.inside.sections c.self.inside.tokens c.self.inside.token_names c.self.inside.marks) c.self.inside.calls c.self.inside.made c.args.port (c.self.inside.ports.port_room + 1) c.self.invariant.kept h.stands none owned (frees.none_sent (rows_by (tables_of c.self.inside.procs c.self.inside.parts.items c.self.inside.ports c.self.inside.waits c.self.inside.names c.self.inside.sections c.self.inside.tokens c.self.inside.token_names c.self.inside.marks)) (name_of (births_of (tables_of c.self.inside.procs c.self.inside.parts.items c.self.inside.ports c.self.inside.waits c.self.inside.names c.self.inside.sections c.self.inside.tokens c.self.inside.token_names c.self.inside.marks)).ports c.args.port) h.free) off.1 whole.1);
   watched = let there = rw (← c.self.view_is) at c.requires in let found = rw (← c.self.view_is) at c.port-row.ensures.found in let pairs = rw (← c.self.view_is) at c.port-row.ensures.pair in let stood = rw (← c.self.view_is) at c.port-row.ensures.pair_stands in let connections = rw (← c.self.view_is) at c.port-row.ensures.connection in let stood' = rw (← c.self.view_is) at c.port-row.ensures.connection_stands in let whole = or_parts _ _ there.free in let all = or_parts _ _ whole.0 in let off = or_parts _ _ all.0 in let none = sym (unheld.held_is (tables_of c.self.inside.procs c.self.inside.parts.items c.self.inside.ports c.self.inside.waits c.self.inside.names c.self.inside.sections c.self.inside.tokens c.self.inside.token_names c.self.inside.marks) c.self.invariant.kept.named c.args.port there.stands) ∙ off.0 in let owned = sym (owned_has (tables_of c.self.inside.procs c.self.inside.parts.items c.self.inside.ports c.self.inside.waits c.self.inside.names c.self.inside.sections c.self.inside.tokens c.self.inside.token_names c.self.inside.marks) c.self.invariant.kept.named c.args.port there.stands) ∙ all.1 in rw (c.free.ensures.table, c.add_some-2.ensures, c.add_some.ensures) (suspected.freed-to (rows_by (tables_of c.self.inside.procs c.self.inside.parts.items c.self.inside.ports c.self.inside.waits c.self.inside.names c.self.inside.sections c.self.inside.tokens c.self.inside.token_names c.self.inside.marks)) (births_of (tables_of c.self.inside.procs c.self.inside.parts.items c.self.inside.ports c.self.inside.waits c.self.inside.names c.self.inside.sections c.self.inside.tokens c.self.inside.token_names c.self.inside.marks)).ports c.self.inside.suspects c.self.invariant.watched _ _ c.args.port _ c.port-row.result.now.pair c.port-row.result.now.connection (suspecting.single-ports (tables_of c.self.inside.procs c.self.inside.parts.items c.self.inside.ports c.self.inside.waits c.self.inside.names c.self.inside.sections c.self.inside.tokens c.self.inside.token_names c.self.inside.marks) c.self.invariant.kept.named) found pairs connections stood stood' (frees.keeps (tables_of c.self.inside.procs c.self.inside.parts.items c.self.inside.ports c.self.inside.waits c.self.inside.names c.self.inside.sections c.self.inside.tokens c.self.inside.token_names c.self.inside.marks) c.self.invariant.kept.named c.args.port (c.self.inside.ports.port_room + 1)) (frees.frees (tables_of c.self.inside.procs c.self.inside.parts.items c.self.inside.ports c.self.inside.waits c.self.inside.names c.self.inside.sections c.self.inside.tokens c.self.inside.token_names c.self.inside.marks) c.self.invariant.kept.named c.args.port (c.self.inside.ports.port_room + 1) none owned there.stands));
-  lived = let there = rw (← c.self.view_is) at c.requires in let found = rw (← c.self.view_is) at c.port-row.ensures.found in let pairs = rw (← c.self.view_is) at c.port-row.ensures.pair in let stood = rw (← c.self.view_is) at c.port-row.ensures.pair_stands in let connections = rw (← c.self.view_is) at c.port-row.ensures.connection in let stood' = rw (← c.self.view_is) at c.port-row.ensures.connection_stands in let whole = or_parts _ _ there.free in let all = or_parts _ _ whole.0 in let off = or_parts _ _ all.0 in let none = sym (unheld.held_is (tables_of c.self.inside.procs c.self.inside.parts.items c.self.inside.ports c.self.inside.waits c.self.inside.names c.self.inside.sections c.self.inside.tokens c.self.inside.token_names c.self.inside.marks) c.self.invariant.kept.named c.args.port there.stands) ∙ off.0 in let owned = sym (owned_has (tables_of c.self.inside.procs c.self.inside.parts.items c.self.inside.ports c.self.inside.waits c.self.inside.names c.self.inside.sections c.self.inside.tokens c.self.inside.token_names c.self.inside.marks) c.self.invariant.kept.named c.args.port there.stands) ∙ all.1 in rw c.free.ensures.table (λ calm. subst AreLivesHeld (sym (frees.frees (tables_of c.self.inside.procs c.self.inside.parts.items c.self.inside.ports c.self.inside.waits c.self.inside.names c.self.inside.sections c.self.inside.tokens c.self.inside.token_names c.self.inside.marks) c.self.invariant.kept.named c.args.port (c.self.inside.ports.port_room + 1) none owned there.stands)) (let held = c.self.invariant.lived calm in record { threads = held.threads; processes = held.processes }));
+  lived = let there = rw (← c.self.view_is) at c.requires in let found = rw (← c.self.view_is) at c.port-row.ensures.found in let pairs = rw (← c.self.view_is) at c.port-row.ensures.pair in let stood = rw (← c.self.view_is) at c.port-row.ensures.pair_stands in let connections = rw (← c.self.view_is) at c.port-row.ensures.connection in let stood' = rw (← c.self.view_is) at c.port-row.ensures.connection_stands in let whole = or_parts _ _ there.free in let all = or_parts _ _ whole.0 in let off = or_parts _ _ all.0 in let none = sym (unheld.held_is (tables_of c.self.inside.procs c.self.inside.parts.items c.self.inside.ports c.self.inside.waits c.self.inside.names c.self.inside.sections c.self.inside.tokens c.self.inside.token_names c.self.inside.marks) c.self.invariant.kept.named c.args.port there.stands) ∙ off.0 in let owned = sym (owned_has (tables_of c.self.inside.procs c.self.inside.parts.items c.self.inside.ports c.self.inside.waits c.self.inside.names c.self.inside.sections c.self.inside.tokens c.self.inside.token_names c.self.inside.marks) c.self.invariant.kept.named c.args.port there.stands) ∙ all.1 in rw c.free.ensures.table (λ calm. subst (λ w. AreLivesWatched w c.self.inside.lives) (sym (frees.frees (tables_of c.self.inside.procs c.self.inside.parts.items c.self.inside.ports c.self.inside.waits c.self.inside.names c.self.inside.sections c.self.inside.tokens c.self.inside.token_names c.self.inside.marks) c.self.invariant.kept.named c.args.port (c.self.inside.ports.port_room + 1) none owned there.stands)) (let held = c.self.invariant.lived calm in record { threads = held.threads; processes = held.processes }));
 }
 
 pub returns-clause-rows : goal.returns-clause-rows

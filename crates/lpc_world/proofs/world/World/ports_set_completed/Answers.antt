@@ -11,7 +11,7 @@ use Rattle.lpc_rows.specs.Joined.{with_completed}
 use Rattle.std.proofs.Common.{ap}
 use Rattle.lpc_model.specs.Found.{is_port}
 use Rattle.std.proofs.Common.{subst}
-use Rattle.lpc_model.specs.Linked.{AreLivesHeld}
+use Rattle.lpc_rows.specs.Suspects.{AreLivesWatched}
 use Rattle.std.proofs.Common.{sym}
 use Rattle.lpc_world.proofs.world.World.ports_set_completed.Goals as goal
 
@@ -21,7 +21,7 @@ invariant_of-self c = record {
       let there = rw (← c.self.view_is) at c.requires in
       rw c.set_completed.ensures (joins.completed_lawful (tables_of c.self.inside.procs c.self.inside.parts.items c.self.inside.ports c.self.inside.waits c.self.inside.names c.self.inside.sections c.self.inside.tokens c.self.inside.token_names c.self.inside.marks) c.self.invariant.kept.named c.args.port c.args.completed there c.self.inside.calls c.self.inside.made c.self.invariant.kept);
   watched = let there = rw (← c.self.view_is) at c.requires in rw c.set_completed.ensures (suspecting.names-to (rows_by (record (tables_of c.self.inside.procs c.self.inside.parts.items c.self.inside.ports c.self.inside.waits c.self.inside.names c.self.inside.sections c.self.inside.tokens c.self.inside.token_names c.self.inside.marks) { ports = joins.completed_table (tables_of c.self.inside.procs c.self.inside.parts.items c.self.inside.ports c.self.inside.waits c.self.inside.names c.self.inside.sections c.self.inside.tokens c.self.inside.token_names c.self.inside.marks) c.self.invariant.kept.named c.args.port c.args.completed there })) (births_of (tables_of c.self.inside.procs c.self.inside.parts.items c.self.inside.ports c.self.inside.waits c.self.inside.names c.self.inside.sections c.self.inside.tokens c.self.inside.token_names c.self.inside.marks)).ports _ c.self.inside.suspects (ap (λ (b : Births). b.ports) (joins.completed_names (tables_of c.self.inside.procs c.self.inside.parts.items c.self.inside.ports c.self.inside.waits c.self.inside.names c.self.inside.sections c.self.inside.tokens c.self.inside.token_names c.self.inside.marks) c.self.invariant.kept.named c.args.port c.args.completed there)) (suspected.ports-to (rows_by (tables_of c.self.inside.procs c.self.inside.parts.items c.self.inside.ports c.self.inside.waits c.self.inside.names c.self.inside.sections c.self.inside.tokens c.self.inside.token_names c.self.inside.marks)) (births_of (tables_of c.self.inside.procs c.self.inside.parts.items c.self.inside.ports c.self.inside.waits c.self.inside.names c.self.inside.sections c.self.inside.tokens c.self.inside.token_names c.self.inside.marks)).ports c.self.inside.suspects c.self.invariant.watched _ (is_port (name_of (births_of (tables_of c.self.inside.procs c.self.inside.parts.items c.self.inside.ports c.self.inside.waits c.self.inside.names c.self.inside.sections c.self.inside.tokens c.self.inside.token_names c.self.inside.marks)).ports c.args.port)) (with_completed c.args.completed) (λ p. refl) (λ p. refl) (λ p. refl) (joins.completes (tables_of c.self.inside.procs c.self.inside.parts.items c.self.inside.ports c.self.inside.waits c.self.inside.names c.self.inside.sections c.self.inside.tokens c.self.inside.token_names c.self.inside.marks) c.self.invariant.kept.named c.args.port c.args.completed there)));
-  lived = let there = rw (← c.self.view_is) at c.requires in rw c.set_completed.ensures (λ calm. subst AreLivesHeld (sym (joins.completes (tables_of c.self.inside.procs c.self.inside.parts.items c.self.inside.ports c.self.inside.waits c.self.inside.names c.self.inside.sections c.self.inside.tokens c.self.inside.token_names c.self.inside.marks) c.self.invariant.kept.named c.args.port c.args.completed there)) (let held = c.self.invariant.lived calm in record { threads = held.threads; processes = held.processes }));
+  lived = let there = rw (← c.self.view_is) at c.requires in rw c.set_completed.ensures (λ calm. subst (λ w. AreLivesWatched w c.self.inside.lives) (sym (joins.completes (tables_of c.self.inside.procs c.self.inside.parts.items c.self.inside.ports c.self.inside.waits c.self.inside.names c.self.inside.sections c.self.inside.tokens c.self.inside.token_names c.self.inside.marks) c.self.invariant.kept.named c.args.port c.args.completed there)) (let held = c.self.invariant.lived calm in record { threads = held.threads; processes = held.processes }));
 }
 
 pub returns-clause-step : goal.returns-clause-step

@@ -11,7 +11,7 @@ invariant_of-self c = record {
       let there = rw (← c.self.view_is) at c.requires in
       rw c.free_process_born.ensures.table (vacated.process-gone (tables_of c.self.inside.procs c.self.inside.parts.items c.self.inside.ports c.self.inside.waits c.self.inside.names c.self.inside.sections c.self.inside.tokens c.self.inside.token_names c.self.inside.marks) c.self.inside.calls c.self.inside.made c.self.invariant.kept c.args.birth c.free_process_born.new.self.process_room there.empty);
   watched = rw (c.add_any.ensures) (λ calm. absurd (cc));
-  lived = rw (c.free_process_born.ensures.table) (λ calm. lived.process-gone-to (rows_by (tables_of c.self.inside.procs c.self.inside.parts.items c.self.inside.ports c.self.inside.waits c.self.inside.names c.self.inside.sections c.self.inside.tokens c.self.inside.token_names c.self.inside.marks)) (c.self.invariant.lived calm) _ c.args.birth (vacated.process-shown (tables_of c.self.inside.procs c.self.inside.parts.items c.self.inside.ports c.self.inside.waits c.self.inside.names c.self.inside.sections c.self.inside.tokens c.self.inside.token_names c.self.inside.marks) c.self.inside.calls c.self.inside.made c.self.invariant.kept c.args.birth c.free_process_born.new.self.process_room));
+  lived = rw (c.free_process_born.ensures.table, c.remove_process.ensures) (λ calm. lived.process-freed-to (rows_by (tables_of c.self.inside.procs c.self.inside.parts.items c.self.inside.ports c.self.inside.waits c.self.inside.names c.self.inside.sections c.self.inside.tokens c.self.inside.token_names c.self.inside.marks)) c.self.inside.lives (c.self.invariant.lived calm) _ c.args.birth (vacated.process-shown (tables_of c.self.inside.procs c.self.inside.parts.items c.self.inside.ports c.self.inside.waits c.self.inside.names c.self.inside.sections c.self.inside.tokens c.self.inside.token_names c.self.inside.marks) c.self.inside.calls c.self.inside.made c.self.invariant.kept c.args.birth c.free_process_born.new.self.process_room));
 }
 
 pub returns-clause-rows : goal.returns-clause-rows

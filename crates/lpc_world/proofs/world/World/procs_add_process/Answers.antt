@@ -11,6 +11,7 @@ use Rattle.lpc_rows.proofs.Suspected as suspected
 use Rattle.lpc_rows.specs.Shown.{births_of}
 use Rattle.lpc_rows.specs.Shown.{shown_process}
 use Rattle.lpc_rows.proofs.Changes as changes
+use Rattle.lpc_rows.proofs.Lived as lived
 use Rattle.lpc_world.proofs.world.World.procs_add_process.Goals as goal
 
 pub add-requires-clause-new : goal.add-requires-clause-new
@@ -26,7 +27,7 @@ invariant_of-self c = record {
       rw (c.add_process.ensures.table, c.add.ensures.items)
       (steps.added_process (tables_of c.self.inside.procs c.self.inside.parts.items c.self.inside.ports c.self.inside.waits c.self.inside.names c.self.inside.sections c.self.inside.tokens c.self.inside.token_names c.self.inside.marks) c.self.inside.calls c.self.inside.made c.self.invariant.kept (record { number = c.args.pid; maker = c.args.maker; birth = c.args.birth; token = c.args.token.now; debug_port = None; exception_port = None; doom = None }) (new_part c.args.pid) (c.self.inside.procs.process_room - 1) refl refl refl refl refl there.budget there.new there.birth there.fresh);
   watched = rw (c.add_process.ensures.table, c.add.ensures.items) (suspected.process-to (rows_by (tables_of c.self.inside.procs c.self.inside.parts.items c.self.inside.ports c.self.inside.waits c.self.inside.names c.self.inside.sections c.self.inside.tokens c.self.inside.token_names c.self.inside.marks)) (births_of (tables_of c.self.inside.procs c.self.inside.parts.items c.self.inside.ports c.self.inside.waits c.self.inside.names c.self.inside.sections c.self.inside.tokens c.self.inside.token_names c.self.inside.marks)).ports c.self.inside.suspects c.self.invariant.watched _ (shown_process (record { number = c.args.pid; maker = c.args.maker; birth = c.args.birth; token = c.args.token.now; debug_port = None; exception_port = None; doom = None })) (changes.adds_process (tables_of c.self.inside.procs c.self.inside.parts.items c.self.inside.ports c.self.inside.waits c.self.inside.names c.self.inside.sections c.self.inside.tokens c.self.inside.token_names c.self.inside.marks) c.self.invariant.kept.named (record { number = c.args.pid; maker = c.args.maker; birth = c.args.birth; token = c.args.token.now; debug_port = None; exception_port = None; doom = None }) (new_part c.args.pid) (c.self.inside.procs.process_room - 1) refl refl refl));
-  lived = λ calm. absurd (cc);
+  lived = rw (c.add_process.ensures.table, c.add.ensures.items, c.suspect_process.ensures) (λ calm. lived.began-to (rows_by (tables_of c.self.inside.procs c.self.inside.parts.items c.self.inside.ports c.self.inside.waits c.self.inside.names c.self.inside.sections c.self.inside.tokens c.self.inside.token_names c.self.inside.marks)) c.self.inside.lives c.self.invariant.lived _ (shown_process (record { number = c.args.pid; maker = c.args.maker; birth = c.args.birth; token = c.args.token.now; debug_port = None; exception_port = None; doom = None })) (changes.adds_process (tables_of c.self.inside.procs c.self.inside.parts.items c.self.inside.ports c.self.inside.waits c.self.inside.names c.self.inside.sections c.self.inside.tokens c.self.inside.token_names c.self.inside.marks) c.self.invariant.kept.named (record { number = c.args.pid; maker = c.args.maker; birth = c.args.birth; token = c.args.token.now; debug_port = None; exception_port = None; doom = None }) (new_part c.args.pid) (c.self.inside.procs.process_room - 1) refl refl refl) calm);
 }
 
 pub returns-clause-room : goal.returns-clause-room

@@ -11,7 +11,7 @@ use Rattle.lpc_rows.specs.Kept.{rows_by}
 use Rattle.lpc_rows.specs.Shown.{births_of}
 use Rattle.lpc_rows.specs.Names.{name_of}
 use Rattle.std.proofs.Common.{subst}
-use Rattle.lpc_model.specs.Linked.{AreLivesHeld}
+use Rattle.lpc_rows.specs.Suspects.{AreLivesWatched}
 use Rattle.std.proofs.Common.{sym}
 use Rattle.lpc_world.proofs.world.World.tokens_free.Goals as goal
 
@@ -24,7 +24,7 @@ invariant_of-self c = record {
       let table = frees.removed_there (tables_of c.self.inside.procs c.self.inside.parts.items c.self.inside.ports c.self.inside.waits c.self.inside.names c.self.inside.sections c.self.inside.tokens c.self.inside.token_names c.self.inside.marks) c.self.invariant.kept.named c.args.token h.stands c.remove.result c.remove.new.self c.remove.ensures.value c.remove.ensures.table in
       frees.freed_lawful (tables_of c.self.inside.procs c.self.inside.parts.items c.self.inside.ports c.self.inside.waits c.self.inside.names c.self.inside.sections c.self.inside.tokens c.self.inside.token_names c.self.inside.marks) c.self.invariant.kept.named c.args.token c.remove.new.self less unused c.self.inside.calls c.self.inside.made c.self.invariant.kept h.stands table;
   watched = let h = rw (← c.self.view_is) at c.requires in let less = removed_rows c.self.inside.tokens c.remove.new.self c.args.token c.remove.result c.remove.ensures.value c.remove.ensures.table c.remove.ensures.listed in let unused = frees.unused (tables_of c.self.inside.procs c.self.inside.parts.items c.self.inside.ports c.self.inside.waits c.self.inside.names c.self.inside.sections c.self.inside.tokens c.self.inside.token_names c.self.inside.marks) c.self.invariant.kept.named c.args.token h.stands h.handles in let table = frees.removed_there (tables_of c.self.inside.procs c.self.inside.parts.items c.self.inside.ports c.self.inside.waits c.self.inside.names c.self.inside.sections c.self.inside.tokens c.self.inside.token_names c.self.inside.marks) c.self.invariant.kept.named c.args.token h.stands c.remove.result c.remove.new.self c.remove.ensures.value c.remove.ensures.table in suspected.untokened-to (rows_by (tables_of c.self.inside.procs c.self.inside.parts.items c.self.inside.ports c.self.inside.waits c.self.inside.names c.self.inside.sections c.self.inside.tokens c.self.inside.token_names c.self.inside.marks)) (births_of (tables_of c.self.inside.procs c.self.inside.parts.items c.self.inside.ports c.self.inside.waits c.self.inside.names c.self.inside.sections c.self.inside.tokens c.self.inside.token_names c.self.inside.marks)).ports c.self.inside.suspects c.self.invariant.watched _ (name_of (births_of (tables_of c.self.inside.procs c.self.inside.parts.items c.self.inside.ports c.self.inside.waits c.self.inside.names c.self.inside.sections c.self.inside.tokens c.self.inside.token_names c.self.inside.marks)).tokens c.args.token) (frees.frees (tables_of c.self.inside.procs c.self.inside.parts.items c.self.inside.ports c.self.inside.waits c.self.inside.names c.self.inside.sections c.self.inside.tokens c.self.inside.token_names c.self.inside.marks) c.self.invariant.kept.named c.args.token c.remove.new.self less unused h.stands);
-  lived = let h = rw (← c.self.view_is) at c.requires in let less = removed_rows c.self.inside.tokens c.remove.new.self c.args.token c.remove.result c.remove.ensures.value c.remove.ensures.table c.remove.ensures.listed in let unused = frees.unused (tables_of c.self.inside.procs c.self.inside.parts.items c.self.inside.ports c.self.inside.waits c.self.inside.names c.self.inside.sections c.self.inside.tokens c.self.inside.token_names c.self.inside.marks) c.self.invariant.kept.named c.args.token h.stands h.handles in let table = frees.removed_there (tables_of c.self.inside.procs c.self.inside.parts.items c.self.inside.ports c.self.inside.waits c.self.inside.names c.self.inside.sections c.self.inside.tokens c.self.inside.token_names c.self.inside.marks) c.self.invariant.kept.named c.args.token h.stands c.remove.result c.remove.new.self c.remove.ensures.value c.remove.ensures.table in λ calm. subst AreLivesHeld (sym (frees.frees (tables_of c.self.inside.procs c.self.inside.parts.items c.self.inside.ports c.self.inside.waits c.self.inside.names c.self.inside.sections c.self.inside.tokens c.self.inside.token_names c.self.inside.marks) c.self.invariant.kept.named c.args.token c.remove.new.self less unused h.stands)) (let held = c.self.invariant.lived calm in record { threads = held.threads; processes = held.processes });
+  lived = let h = rw (← c.self.view_is) at c.requires in let less = removed_rows c.self.inside.tokens c.remove.new.self c.args.token c.remove.result c.remove.ensures.value c.remove.ensures.table c.remove.ensures.listed in let unused = frees.unused (tables_of c.self.inside.procs c.self.inside.parts.items c.self.inside.ports c.self.inside.waits c.self.inside.names c.self.inside.sections c.self.inside.tokens c.self.inside.token_names c.self.inside.marks) c.self.invariant.kept.named c.args.token h.stands h.handles in let table = frees.removed_there (tables_of c.self.inside.procs c.self.inside.parts.items c.self.inside.ports c.self.inside.waits c.self.inside.names c.self.inside.sections c.self.inside.tokens c.self.inside.token_names c.self.inside.marks) c.self.invariant.kept.named c.args.token h.stands c.remove.result c.remove.new.self c.remove.ensures.value c.remove.ensures.table in λ calm. subst (λ w. AreLivesWatched w c.self.inside.lives) (sym (frees.frees (tables_of c.self.inside.procs c.self.inside.parts.items c.self.inside.ports c.self.inside.waits c.self.inside.names c.self.inside.sections c.self.inside.tokens c.self.inside.token_names c.self.inside.marks) c.self.invariant.kept.named c.args.token c.remove.new.self less unused h.stands)) (let held = c.self.invariant.lived calm in record { threads = held.threads; processes = held.processes });
 }
 
 pub returns-clause-rows : goal.returns-clause-rows
