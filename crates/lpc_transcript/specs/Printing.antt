@@ -4,7 +4,7 @@ use Rattle.lpc_base.specs.declared.status.Status.{Status}
 use Rattle.lpc_sid.specs.Spelling.{spelling}
 use Rattle.lpc_sid.specs.declared.sid.Sid.{Sid}
 use Rattle.lpc_model.specs.Listed.{Aside, shown_entry, shown_field, shown_value}
-use Rattle.lpc_model.specs.Text.{by_text, entries_text, entry_text, field_text, fields_text, rest_text, status_text, value_text, word_text}
+use Rattle.lpc_model.specs.Text.{by_text, entries_text, entry_text, field_text, fields_text, name_text, rest_text, status_text, value_text, word_text}
 use Rattle.lpc_model.specs.declared.entry.CallName.{CallName}
 use Rattle.lpc_model.specs.declared.entry.Entry.{Entry}
 use Rattle.lpc_model.specs.declared.entry.Field.{Field}
@@ -51,6 +51,10 @@ lines_of line aside entries = entries_text line (map (shown_entry aside) entries
 -- the text of a SID behind another: a comma comes first
 abbrev pub further_text : Sid → List ℕ
 further_text sid = codes "," ++ spelling sid
+
+-- what a field begins with: a space, its name and an equals sign
+abbrev pub front_of : FieldName → List ℕ
+front_of name = codes " " ++ name_text name ++ codes "="
 
 -- a thread, its call and the status with which the call ended; a thread that died; a directive and its status
 abbrev pub ended_text : ℕ → CallName → Status → List ℕ

@@ -3,7 +3,7 @@ ghost use Rattle.std.specs.Prelude.{◌≤◌, OnErr, vec_capacity};
 ghost use Rattle.lpc_transcript.specs.Printing.{BeginsWith, LacksRoom, Puts, aside_of, field_of, fields_of, value_of};
 
 use crate::sids::put_sids;
-use crate::words::{field_name, kind_name, put, put_bytes, put_digits, put_number, put_read};
+use crate::words::{field_front, kind_name, put, put_digits, put_number, put_read};
 use lpc_base::OutOfMemory;
 use lpc_model::{FieldName, Fields, Value};
 use lpc_sid::Sid;
@@ -25,7 +25,7 @@ fn put_value(
         Value::Number(number) => put_number(into, *number),
         Value::Hex(number) => put_digits(into, *number),
         Value::Kind(kind) => put(into, kind_name(*kind)),
-        Value::Bytes(bytes) => put_bytes(into, bytes.as_slice()),
+        Value::Bytes(bytes) => put_read(into, bytes.as_slice()),
         Value::Read => put_read(into, read),
         Value::Sids(sids) => put_sids(into, sids.as_slice()),
         Value::TokenGroups => put_sids(into, groups),
@@ -47,9 +47,7 @@ fn put_field(
     ensures wanting { OnErr result (LacksRoom into.old
         (field_of (aside_of read.now groups.now) name value.now)) }
 {
-    put(into, b" ")?;
-    put(into, field_name(name))?;
-    put(into, b"=")?;
+    put(into, field_front(name))?;
     put_value(into, value, read, groups)
 }
 

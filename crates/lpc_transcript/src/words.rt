@@ -1,10 +1,9 @@
 // The words of a transcript's line, each put behind the text so far. Each wants for memory only where there was no room
 // for it behind the text; what stood before still begins the text then. The text's capacity never shrinks.
-ghost use Rattle.std.specs.Prelude.{◌≡◌, ◌≤◌, ◌++◌, length, decimal, OnErr, vec_capacity};
-ghost use Rattle.lpc_base.specs.declared.limits.TheConstants.{MESSAGE_LIMIT};
+ghost use Rattle.std.specs.Prelude.{◌≡◌, ◌≤◌, ◌++◌, decimal, OnErr, vec_capacity};
 ghost use Rattle.hex.specs.Hex.{encode_lower};
-ghost use Rattle.lpc_model.specs.Text.{eight_digits, kind_text, name_text, by_text, status_text};
-ghost use Rattle.lpc_transcript.specs.Printing.{BeginsWith, LacksRoom, Puts, died_text, directive_text, ended_text};
+ghost use Rattle.lpc_model.specs.Text.{eight_digits, kind_text, by_text, status_text};
+ghost use Rattle.lpc_transcript.specs.Printing.{BeginsWith, LacksRoom, Puts, died_text, directive_text, ended_text, front_of};
 
 use lpc_base::{OutOfMemory, Status};
 use lpc_model::{CallName, FieldName, ObjectKind, Word};
@@ -62,20 +61,6 @@ pub fn put_digits(into: &mut Vec<u8>, number: u32) -> Result<(), OutOfMemory>
     put(into, &digits)
 }
 
-/// The bytes of a field, at most 256, as pairs of hexadecimal digits.
-pub(crate) fn put_bytes(into: &mut Vec<u8>, bytes: &[u8]) -> Result<(), OutOfMemory>
-    requires { length bytes.now ≤ MESSAGE_LIMIT }
-    ensures ok { Puts into.old.items into.new.items (encode_lower bytes.now) result }
-    ensures err { OnErr result (BeginsWith into.new.items into.old.items) }
-    ensures capacity { vec_capacity into.old ≤ vec_capacity into.new }
-    ensures wanting { OnErr result (LacksRoom into.old (encode_lower bytes.now)) }
-{
-    let mut buffer = [0u8; 512];
-    let digits = &mut buffer[..2 * bytes.len()];
-    hex::encode_to_slice(bytes, digits).unwrap();
-    put(into, digits)
-}
-
 /// Bytes as pairs of hexadecimal digits, written where they are to stand: there may be too many for a buffer on the
 /// stack.
 ///
@@ -109,31 +94,31 @@ pub fn kind_name(kind: ObjectKind) -> &'static [u8]
     }
 }
 
-/// The name of a field, as transcripts spell it.
-pub(crate) fn field_name(name: FieldName) -> &'static [u8]
-    ensures { result.now ≡ name_text name }
+/// What a field begins with: a space, its name as transcripts spell it, and an equals sign.
+pub(crate) fn field_front(name: FieldName) -> &'static [u8]
+    ensures { result.now ≡ front_of name }
 {
     match name {
-        FieldName::H => b"h",
-        FieldName::FirstThread => b"thread",
-        FieldName::Id => b"id",
-        FieldName::Ctx => b"ctx",
-        FieldName::Msg => b"msg",
-        FieldName::Data => b"data",
-        FieldName::Max => b"max",
-        FieldName::Info => b"info",
-        FieldName::ObjectType => b"type",
-        FieldName::Access => b"access",
-        FieldName::Handles => b"handles",
-        FieldName::Pointers => b"pointers",
-        FieldName::Base => b"base",
-        FieldName::Size => b"size",
-        FieldName::Target => b"target",
-        FieldName::ViewBase => b"vbase",
-        FieldName::ViewSize => b"vsize",
-        FieldName::User => b"user",
-        FieldName::Groups => b"groups",
-        FieldName::Level => b"level",
+        FieldName::H => b" h=",
+        FieldName::FirstThread => b" thread=",
+        FieldName::Id => b" id=",
+        FieldName::Ctx => b" ctx=",
+        FieldName::Msg => b" msg=",
+        FieldName::Data => b" data=",
+        FieldName::Max => b" max=",
+        FieldName::Info => b" info=",
+        FieldName::ObjectType => b" type=",
+        FieldName::Access => b" access=",
+        FieldName::Handles => b" handles=",
+        FieldName::Pointers => b" pointers=",
+        FieldName::Base => b" base=",
+        FieldName::Size => b" size=",
+        FieldName::Target => b" target=",
+        FieldName::ViewBase => b" vbase=",
+        FieldName::ViewSize => b" vsize=",
+        FieldName::User => b" user=",
+        FieldName::Groups => b" groups=",
+        FieldName::Level => b" level=",
     }
 }
 
