@@ -5,7 +5,7 @@ ghost use Rattle.lpc_script.specs.Feeding.{IsParted, before_end, has_end, is_mor
 
 use lpc_base::OutOfMemory;
 use lpc_base::limits::LINE_LIMIT;
-use lpc_words::split_once;
+use lpc_words::split_far;
 use std::alloc::Global;
 use std::marker::Model;
 
@@ -115,7 +115,7 @@ fn up_to_end(piece: &[u8]) -> (&[u8], bool)
     ensures text { result.0.now ≡ before_end piece.now }
     ensures end { result.1 ≡ has_end piece.now }
 {
-    match split_once(piece, b'\n') {
+    match split_far(piece, b'\n') {
         Some((text, _)) => (text, true),
         None => (piece, false),
     }

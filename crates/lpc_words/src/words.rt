@@ -7,6 +7,7 @@ ghost use Rattle.lpc_model.specs.Grammar as grammar;
 ghost use Rattle.lpc_words.specs.Gives.{Gives, seen_four, seen_one_or_two, seen_three, seen_two, seen_two_and_more, seen_two_or_three};
 
 use lpc_model::LineFault;
+use memchr::memchr;
 
 /// How many words may follow the first two at most, where any number may.
 const MORE_WORDS: usize = 16;
@@ -27,6 +28,23 @@ pub fn split_once(text: &[u8], by: u8) -> Option<(&[u8], &[u8])>
         }
     }
     None
+}
+
+/// What stands before the first byte `by`, and what after it; none where it isn't there. It is for a byte that may stand
+/// far behind, since it looks at many at once.
+pub fn split_far(text: &[u8], by: u8) -> Option<(&[u8], &[u8])>
+    ensures parts { MatchOption result
+        (parts by text.now ≡ text.now ∷ [])
+        (λ p. parts by text.now ≡ p.0.now ∷ parts by p.1.now) }
+    ensures first { option_map seen_two result ≡ spec.split_once by text.now }
+    ensures front { IfSome result (λ p. length p.0.now ≤ length text.now) }
+    ensures back { IfSome result (λ p. length p.1.now ≤ length text.now) }
+    ensures both { IfSome result (λ p. length p.0.now + length p.1.now ≤ length text.now) }
+{
+    match memchr(by, text) {
+        Some(at) => Some((&text[..at], &text[at + 1..])),
+        None => None,
+    }
 }
 
 /// A text without the spaces that it begins with.
