@@ -54,6 +54,7 @@ fn put_field(
 /// The fields, with these bytes where a memory read stands, and these groups where those of a token do. Where memory is
 /// wanting, there was no room for them behind the text, and what stood before still begins it.
 #[tactic(auto, using(std::proofs::Common::append_assoc, crate::proofs::Begins::begins_before))]
+#[inline(always)]
 pub(crate) fn put_fields(
     into: &mut Vec<u8>,
     fields: &Fields,

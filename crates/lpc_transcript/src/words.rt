@@ -1,5 +1,6 @@
 // The words of a transcript's line, each put behind the text so far. Each wants for memory only where there was no room
-// for it behind the text; what stood before still begins the text then. The text's capacity never shrinks.
+// for it behind the text; what stood before still begins the text then. The text's capacity never shrinks. Those that
+// each line's text is made of are inlined, since a call of one costs as much as the few bytes that it puts.
 ghost use Rattle.std.specs.Prelude.{◌≡◌, ◌≤◌, ◌++◌, decimal, OnErr, vec_capacity};
 ghost use Rattle.hex.specs.Hex.{encode_lower};
 ghost use Rattle.lpc_model.specs.Text.{eight_digits, kind_text, by_text, status_text};
@@ -26,6 +27,7 @@ pub fn put(into: &mut Vec<u8>, bytes: &[u8]) -> Result<(), OutOfMemory>
 /// Appends a number in decimal.
 ///
 /// OutOfMemory comes only where there was no room for it; the text begins as it was then.
+#[inline(always)]
 pub fn put_number(into: &mut Vec<u8>, number: u64) -> Result<(), OutOfMemory>
     ensures ok { Puts into.old.items into.new.items (decimal number) result }
     ensures err { OnErr result (BeginsWith into.new.items into.old.items) }
@@ -50,6 +52,7 @@ pub fn put_long_number(into: &mut Vec<u8>, number: u128) -> Result<(), OutOfMemo
 /// Appends a number as eight hexadecimal digits.
 ///
 /// OutOfMemory comes only where there was no room for it; the text begins as it was then.
+#[inline(always)]
 pub fn put_digits(into: &mut Vec<u8>, number: u32) -> Result<(), OutOfMemory>
     ensures ok { Puts into.old.items into.new.items (eight_digits number) result }
     ensures err { OnErr result (BeginsWith into.new.items into.old.items) }
@@ -65,6 +68,7 @@ pub fn put_digits(into: &mut Vec<u8>, number: u32) -> Result<(), OutOfMemory>
 /// stack.
 ///
 /// OutOfMemory comes only where there was no room for them; the text begins as it was then.
+#[inline(always)]
 pub fn put_read(into: &mut Vec<u8>, bytes: &[u8]) -> Result<(), OutOfMemory>
     ensures ok { Puts into.old.items into.new.items (encode_lower bytes.now) result }
     ensures err { OnErr result (BeginsWith into.new.items into.old.items) }
@@ -124,6 +128,7 @@ pub(crate) fn field_front(name: FieldName) -> &'static [u8]
 
 /// A thread and its call.
 #[tactic(auto, using(std::proofs::Common::append_assoc, crate::proofs::Begins::begins_before))]
+#[inline(always)]
 pub(crate) fn put_by(into: &mut Vec<u8>, tid: u32, call: CallName) -> Result<(), OutOfMemory>
     ensures ok { Puts into.old.items into.new.items (by_text tid call) result }
     ensures err { OnErr result (BeginsWith into.new.items into.old.items) }
@@ -148,6 +153,7 @@ fn put_status(into: &mut Vec<u8>, status: Status) -> Result<(), OutOfMemory>
 
 /// A thread, its call and the status with which the call ended.
 #[tactic(auto, using(std::proofs::Common::append_assoc, crate::proofs::Begins::begins_before))]
+#[inline(always)]
 pub(crate) fn put_ended(
     into: &mut Vec<u8>,
     tid: u32,
