@@ -23,6 +23,8 @@ use lpc_world::World;
 /// queue yet. So has one that tells that a client port is closed: it is sent on that port, and none in a queue tells so
 /// yet. Every other message has the room that was made for it. The thread that takes the message is told, which wants
 /// room for an entry where a thread waits.
+// Inlined, so that the fields are written where the entry is to stand, and aren't moved there.
+#[inline(always)]
 pub fn deliver(
     world: &mut World,
     queue: Key,

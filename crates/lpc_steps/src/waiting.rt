@@ -81,6 +81,8 @@ pub fn wait_with(world: &mut World, tid: u32, wait: Wait, message: &Message)
 }
 
 /// A thread's wait ends, and it is told so. No message of the thread's own stands in a queue.
+// Inlined, so that the fields are written where the entry is to stand, and aren't moved there.
+#[inline(always)]
 pub fn wake(world: &mut World, tid: u32, status: Status, fields: Fields, out: &mut Entries)
     requires spare { 1 ≤ out.old.spare }
     requires waits { has (waits_as tid) world.old.rows.waits ≡ true }
@@ -100,6 +102,8 @@ pub fn wake(world: &mut World, tid: u32, status: Status, fields: Fields, out: &m
 }
 
 /// A thread's wait ends, and it is told that the call with which it waits ended so.
+// Inlined, as `wake` is.
+#[inline(always)]
 pub(crate) fn tell_wake(
     world: &mut World,
     tid: u32,
