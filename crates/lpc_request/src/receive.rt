@@ -97,6 +97,8 @@ fn wait_for_message(
 }
 
 /// The oldest message of the queue is taken, or the thread waits for one; a reply is made before.
+// Inlined, so that the message is copied to the entry and no further.
+#[inline(always)]
 fn take_or_wait(
     world: &mut World,
     by: &Caller,

@@ -113,6 +113,8 @@ fn reply_to_event(world: &mut World, answered: u32, message: &Message, out: &mut
 
 /// A reply to a request wakes the thread that asked, with the reply's message; one to an event wakes the thread of its
 /// exception, or marks the event as not handled.
+// Inlined, so that the message is copied to the entry and no further.
+#[inline(always)]
 pub(crate) fn return_reply(world: &mut World, answered: u32, message: &Message, out: &mut Entries)
     requires spare { 1 ≤ out.old.spare }
     requires waits { has (waits_as answered) world.old.rows.waits ≡ true }

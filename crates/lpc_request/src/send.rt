@@ -37,6 +37,8 @@ pub struct Sendable {
 }
 
 /// The tests of a message that is sent: the handle, the message, no route.
+// Inlined, since what it hands back holds a message.
+#[inline(always)]
 fn send_test(world: &World, tid: u32, handle: u32, bytes: &[u8]) -> Result<Sendable, Status>
     requires { is_ready world.now.rows tid ≡ true }
     ensures found { Answers result (shown world.now) (may_send world.now tid handle bytes.now) }
