@@ -266,18 +266,22 @@ impl Waits {
         }
     }
 
-    /// Makes room for this many more waits. Room that is there already counts.
+    /// Makes room for this many more waits. Room that is there already counts. Where it grows there is room for as many
+    /// waits as there are at least.
     ///
-    /// OutOfMemory comes only where that room wasn't there, nor is there then; the waits stay as they are, and the room
-    /// never shrinks.
+    /// OutOfMemory comes only where that room wasn't there, and then it is as it was; the waits stay as they are, and
+    /// the room never shrinks.
     pub fn reserve(&mut self, more: usize) -> Result<(), OutOfMemory>
         ensures room { OnOk result (more ≤ self.new.spare) }
         ensures wanting { OnErr result (self.old.spare < more) }
         ensures lacking { OnErr result (self.new.spare < more) }
+        ensures err { OnErr result (self.new.spare ≡ self.old.spare) }
         ensures kept { self.new ≡ record self.old { spare = self.new.spare } }
         ensures spare { self.old.spare ≤ self.new.spare }
         ensures most { let rows = length self.old.rows in
             self.new.spare ≤ grown_room self.old.spare more rows }
+        ensures grown { let rows = length self.old.rows in
+            OnOk result (self.old.spare < more → rows ≤ self.new.spare) }
         ensures enough { more ≤ self.old.spare → self.new.spare ≡ self.old.spare }
     {
         self.chains.suit(&mut self.rows, more)?;

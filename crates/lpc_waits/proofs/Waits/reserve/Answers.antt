@@ -1,4 +1,4 @@
-use Rattle.std.proofs.Common.{◌≡◌, ◌≤◌, ◌∙◌, ℕ, length, ap, sym, subst, arith}
+use Rattle.std.proofs.Common.{◌≡◌, ◌<◌, ◌≤◌, ◌∙◌, ℕ, OnOk, length, ap, sym, subst, arith}
 use Rattle.lpc_base.specs.Room.{grown_room}
 use Rattle.lpc_slots.specs.Table.{listed}
 use Rattle.lpc_waits.specs.Lent.{keyed, shown}
@@ -30,3 +30,12 @@ returns-clause-most c =
     let most : c.reserve.new.self.spare ≤ grown_room mid.spare c.args.more (length (listed mid)) = c.reserve.ensures.most in
     rw (← c.self.view_is)
     (subst (λ (n : ℕ). c.reserve.new.self.spare ≤ grown_room rows.spare c.args.more n) long (subst (λ (n : ℕ). c.reserve.new.self.spare ≤ grown_room n c.args.more (length (listed mid))) c.suit.ensures.rows.spare most))
+
+pub returns-clause-grown : goal.returns-clause-grown
+returns-clause-grown c =
+    let rows = c.self.inside.rows in
+    let mid = c.suit.new.rows in
+    let long : length (listed mid) ≡ length (shown (keyed rows)) = sym (length_seen mid) ∙ ap (λ all. length (shown all)) (kept_keyed rows mid c.suit.ensures.rows) in
+    let grown : OnOk c.reserve.result (mid.spare < c.args.more → length (listed mid) ≤ c.reserve.new.self.spare) = c.reserve.ensures.grown in
+    rw (← c.self.view_is)
+    (subst (λ (n : ℕ). OnOk c.reserve.result (rows.spare < c.args.more → n ≤ c.reserve.new.self.spare)) long (subst (λ (n : ℕ). OnOk c.reserve.result (n < c.args.more → length (listed mid) ≤ c.reserve.new.self.spare)) c.suit.ensures.rows.spare grown))
