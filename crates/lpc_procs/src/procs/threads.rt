@@ -31,6 +31,8 @@ impl Procs {
     }
 
     /// The live thread that has the number, as a caller; None exactly where there is none.
+    // Inlined, since each line asks for a caller several times, mostly for a part of it.
+    #[inline(always)]
     pub fn live_row(&self, tid: u32) -> Option<Caller>
         ensures row { result
             ≡ option_map caller_of (first (is_live_thread tid) self.now.threads) }
