@@ -1,10 +1,12 @@
 #!/usr/bin/env python3
-"""How the program grows: processor seconds and peak memory, for scripts of three lengths.
+"""How the program grows: processor seconds and peak memory, for scripts of three lengths and beside rows that stand.
 
     bench/run.py [PROGRAM]
     bench/run.py --peer PEER [--longest LINES] [PROGRAM]
 
-PROGRAM is crates/ntlpc/out/ntlpc where it isn't given. Each script is run once; the table goes to standard output.
+PROGRAM is crates/ntlpc/out/ntlpc where it isn't given. Each script is run once; the table goes to standard output. A
+second table has scripts beside 5,000 rows that stand: processes, threads that wait on a port each, connects that wait
+for one port, names, or messages in queues. Each is run five times, and what making the rows takes is taken off.
 
 With --peer the program and PEER, another one that replays the same scripts, are run in turn, five times each, over seven
 kinds of scripts of about 1,000, 10,000, 100,000 and 1,000,000 lines, or up to LINES. What counts is the least processor
@@ -31,6 +33,10 @@ FEW = (100, 300, 1_000)
 # Beside a peer: the lengths, and how often each script is run.
 LENGTHS = (1_000, 10_000, 100_000, 1_000_000)
 TURNS = 5
+# Rows that stand: how many, and the lines of a script beside them.
+STANDING, LINES_BESIDE = 5_000, 10_000
+# Where the numbers of their processes and threads begin: no script of these lengths has one of them.
+FIRST_STANDING = 10_000_000
 HERE = os.path.dirname(os.path.abspath(__file__))
 
 
@@ -208,6 +214,44 @@ def boots(lines):
         yield f"boot {process} {process}"
 
 
+def processes(count):
+    """Rows that stand: processes with a thread each."""
+    for number in range(FIRST_STANDING, FIRST_STANDING + count):
+        yield f"boot {number} {number}"
+
+
+def receives(count):
+    """Rows that stand: threads, each of which waits on a port of its own."""
+    for number in range(FIRST_STANDING, FIRST_STANDING + count):
+        yield from (f"boot {number} {number}", f"{number} NtCreatePort -", f"{number} NtReplyWaitReceivePort 4")
+
+
+def waiting_connects(count):
+    """Rows that stand: threads that wait for one port, to which each connects; nobody receives what asks for that."""
+    yield from (f"boot {FIRST_STANDING} {FIRST_STANDING}", f"{FIRST_STANDING} NtCreatePort \\Q")
+    for number in range(FIRST_STANDING + 1, FIRST_STANDING + 1 + count):
+        yield from (f"boot {number} {number}", f"{number} NtConnectPort \\Q - - -")
+
+
+def names(count):
+    """Rows that stand: directories."""
+    for number in range(count):
+        yield f"dir \\directory-{number}"
+
+
+def messages(count):
+    """Rows that stand: datagrams in queues, 32 of each port, and as many ports of a process as it may have handles."""
+    for port in range(count // 32):
+        process, place = FIRST_STANDING + port // 256, port % 256
+        if place == 0:
+            yield f"boot {process} {process}"
+        yield f"{process} NtCreatePort -"
+        yield from [f"{process} NtRequestPort {4 * place + 4} d:41"] * 32
+
+
+ROWS = processes, receives, waiting_connects, names, messages
+
+
 def peak(process):
     """The highest resident size of a running process so far, in MiB; 0 where it has ended."""
     try:
@@ -315,6 +359,30 @@ def print_lengths(program, folder):
             )
 
 
+def print_beside_rows(program, folder):
+    """Prints the table of scripts beside rows that stand."""
+    print("\n| Script | Lines | Beside | Processor seconds | Alone | A line costs | Status |")
+    print("|---|---|---|---|---|---|---|")
+    path = os.path.join(folder, "script")
+
+    def run(lines):
+        write_script(path, lambda _: lines, 0)
+        return run_in_turn([program], path)[0]
+
+    making = [(rows, run(list(rows(STANDING)))) for rows in ROWS]
+    for kind in (requests, datagrams, closings, connects, endings, creations):
+        script = list(kind(LINES_BESIDE))
+        alone = run(script)
+        for rows, made in making:
+            both = run([*rows(STANDING), *script])
+            beside = both.seconds - made.seconds
+            print(
+                f"| {kind.__name__} | {len(script)} | {STANDING} {rows.__name__} | {beside:.3f} | {alone.seconds:.3f} "
+                f"| {beside / alone.seconds:.1f} times | {max(it.status for it in (made, alone, both))} |",
+                flush=True,
+            )
+
+
 class Least:
     """The least processor time and the most memory of several runs of one program, and the greatest status."""
 
@@ -376,6 +444,7 @@ def main():
             print_beside(program, peer, longest, folder)
         else:
             print_lengths(program, folder)
+            print_beside_rows(program, folder)
 
 
 if __name__ == "__main__":

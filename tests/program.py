@@ -43,6 +43,16 @@ WORLDS = 20
 # page by page makes it up to four times as long on some machines.
 SHORT_SCRIPT, LONG_SCRIPT, TIMES_LONGER, TIMES_LONGER_WITH_ROWS = 10_000, 100_000, 3, 6
 RUNS = 5
+# Beside how many rows of a kind which scripts take no longer than alone, line by line, and how they are compared. The
+# other scripts still search there: docs/PERFORMANCE.md tells what.
+LINES_BESIDE, RUNS_BESIDE = 100_000, 3
+FLAT = (
+    (bench.processes, 10_000, (bench.requests, bench.datagrams, bench.closings)),
+    (bench.receives, 10_000, (bench.requests, bench.datagrams, bench.closings)),
+    (bench.waiting_connects, 10_000, (bench.requests, bench.datagrams, bench.closings)),
+    (bench.names, 40_000, (bench.requests, bench.datagrams, bench.connects, bench.creations)),
+    (bench.messages, 20_000, (bench.requests, bench.datagrams, bench.closings)),
+)
 
 
 class Wrong(Exception):
@@ -575,7 +585,7 @@ def memory_runs_out(program, replay=Program.replay):
 def growth():
     """Ten times the lines take about ten times as long, where a script leaves as many rows as it finds, where it makes
     processes alone, where it makes and ends them, and where connections stay. Lines on a view take as long whatever the
-    size of its section."""
+    size of its section, and most lines as long whatever rows stand that they don't name."""
     scripts = (
         bench.requests,
         bench.datagrams,
@@ -593,6 +603,8 @@ def growth():
     for script in bench.boots, bench.creations, bench.connects:
         yield f"time grows with the lines: {script.__name__}", grows_with_lines(script, TIMES_LONGER_WITH_ROWS)
     yield "time doesn't grow with a section's size", grows_not_with_sections
+    for rows, count, scripts in FLAT:
+        yield f"time doesn't grow with rows that stand: {rows.__name__}", grows_not_with_rows(rows, count, scripts)
 
 
 def grows_with_lines(script, times):
@@ -615,11 +627,31 @@ def grows_not_with_sections(program):
         raise Wrong(f"a line on a view of 4 MiB takes {large / small:.1f} times as long as on one of 4 KiB")
 
 
-def processor_seconds(program, lines):
+def grows_not_with_rows(rows, count, scripts):
+    """A check that a line of each script takes at most so many times as long beside many rows as alone. What making the
+    rows takes is taken off."""
+
+    def check(program):
+        standing = list(rows(count))
+        making = processor_seconds(program, standing, RUNS_BESIDE)
+        slower = []
+        for script in scripts:
+            lines = list(script(LINES_BESIDE))
+            alone = processor_seconds(program, lines, RUNS_BESIDE)
+            beside = processor_seconds(program, standing + lines, RUNS_BESIDE) - making
+            if beside > TIMES_LONGER * alone:
+                slower.append(f"{script.__name__} {beside / alone:.1f} times")
+        if slower:
+            raise Wrong(f"a line takes longer beside {count:,} rows than alone: {', '.join(slower)}")
+
+    return check
+
+
+def processor_seconds(program, lines, runs=RUNS):
     """The least processor seconds that a run over the script took, of some runs: what else the machine does adds to it."""
     script = [line.encode() + b"\n" for line in lines]
     taken = []
-    for _ in range(RUNS):
+    for _ in range(runs):
         with open(os.devnull, "wb") as sink, program.started(script, sink) as child:
             _, status, used = os.wait4(child.pid, 0)
             child.returncode = os.waitstatus_to_exitcode(status)
