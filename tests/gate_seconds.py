@@ -12,7 +12,7 @@ crate, in the order of crates.txt, and one for the sums. The columns:
     edits   the check of the crate as it stands that its edits begin with, that which they end with, and those of each
     all     these, and what compiles a proved program
 
-`-` stands where nothing of the kind was run: what an earlier run passed is kept, and isn't done again.
+`-` stands where nothing of the kind was run, as where a crate has no tests, or no edits.
 
 Seconds are those of user and system. /proc is looked at twice a second, so what a process takes after the last look at
 it isn't seen, nor is a process that ends before the first: only the last line's count of all processes has those. A
