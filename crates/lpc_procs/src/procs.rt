@@ -25,9 +25,9 @@ use std::marker::Model;
 ///
 /// A number is used once. It stays used when the row of its process or thread goes, so no number names two things in
 /// a run. Contracts see the rows in order of making, the used numbers, and the room; they don't see the keys under which
-/// rows stand, the maps by which a number or a name leads to its row, nor the counts that are kept: of live threads, of those of each process, of
-/// registrations, of live processes that are to end, of processes of whose exceptions a port is told, and of the live
-/// processes that each made.
+/// rows stand, the maps by which a number or a name leads to its row, nor the counts that are kept: of live threads, of
+/// those of each process, of registrations, of live processes that are to end, of processes of whose exceptions a port
+/// is told, and of the live processes that each made.
 pub struct Procs {
     processes: Slots<Counted>,
     threads: Slots<ThreadRow>,
