@@ -1,8 +1,9 @@
 -- What the parts of the calls find and do.
-use Rattle.std.specs.Prelude.{◌≡◌, ℕ, Bool, List, [], ◌∷◌, ◌++◌, Option, Some, Result, option_map}
+use Rattle.std.specs.Prelude.{◌≡◌, ℕ, Bool, not, nat_lt, List, [], ◌∷◌, ◌++◌, Option, Some, Result, option_map}
 use Rattle.lpc_base.specs.Rows.{first}
 use Rattle.lpc_base.specs.declared.birth.Birth.{Birth}
 use Rattle.lpc_base.specs.declared.status.Status.{Status}
+use Rattle.lpc_base.specs.declared.status.TheConstants.{ACCESS_DENIED, BAD_IMPERSONATION_LEVEL}
 use Rattle.lpc_connect.specs.declared.accept.ConnectAnswer.{ConnectAnswer}
 use Rattle.lpc_connect.specs.declared.accept.Sharing.{Sharing}
 use Rattle.lpc_connect.specs.Sharing.{shown_sharing}
@@ -17,12 +18,17 @@ use Rattle.lpc_waits.specs.declared.Offer.{Offer}
 use Rattle.std.specs.Option.{option_map_or}
 use Rattle.lpc_model.specs.Basics.{Awaits, Basic, DrawsIdentifier, DrawsOrdinal, Makes, Secures}
 use Rattle.lpc_model.specs.Connect as connect
-use Rattle.lpc_model.specs.Found.{free_handle, is_queued_connect}
+use Rattle.lpc_model.specs.Found.{access_list, free_handle, is_queued_connect}
 use Rattle.lpc_model.specs.Lines.{accept_connect_port}
-use Rattle.lpc_model.specs.World.{Dacl, Security, ThreadRow, World}
+use Rattle.lpc_model.specs.Refusal.{refuse_if}
+use Rattle.lpc_model.specs.Then.{◌>>=◌}
+use Rattle.lpc_model.specs.World.{Dacl, Effective, Security, ThreadRow, World}
 use Rattle.lpc_model.specs.declared.message.Message.{Message}
 use Rattle.lpc_procs.specs.declared.rows.Caller.{Caller}
+use Rattle.lpc_sid.specs.Access.{grants}
 use Rattle.lpc_slots.specs.declared.Key.{Key}
+use Rattle.lpc_tokens.specs.Tokens.{counts_as}
+use Rattle.lpc_tokens.specs.declared.level.TheConstants.{IMPERSONATION}
 use Rattle.lpc_rows.specs.Called.{service}
 use Rattle.lpc_rows.specs.Callers.{as_caller}
 use Rattle.lpc_rows.specs.Clauses.{birth_at, port_at, thread_row}
@@ -54,6 +60,12 @@ creating_guarded w by name dacl made = creating w by made ++ connect.guard_steps
 -- a thread draws the identifier of its connection request, and the birth of its client port
 abbrev pub draws : ℕ → List Basic
 draws tid = DrawsIdentifier tid ∷ DrawsOrdinal tid ∷ []
+
+-- a thread that acts with this token may connect to a port
+abbrev pub token_test : World → Effective → Birth → Result Unit Status
+token_test w acting connection = do
+  _ ← refuse_if (nat_lt (counts_as acting) IMPERSONATION) BAD_IMPERSONATION_LEVEL
+  refuse_if (not (grants acting.token (access_list w connection) connect.CONNECT_RIGHT)) ACCESS_DENIED
 
 -- the size of what is offered
 abbrev pub size_offered : Option Offer → ℕ

@@ -3,8 +3,8 @@ ghost use Rattle.lpc_rows.specs.Capacity.{KeepsOtherPlaces, KeepsOtherViewPlaces
 ghost use Rattle.std.specs.Prelude.{◌≡◌, ◌≤◌, ◌<◌, ◌+◌, Ok, Err, None, Some, IfErr, IfOk, OnOk, OnErr, false, is_some, length, option_copied, true, IsErr};
 ghost use Rattle.lpc_base.specs.Rows.{every, has};
 ghost use Rattle.lpc_base.specs.declared.limits.TheConstants.{HANDLE_LIMIT, HEADER_SIZE, LINES_LIMIT, MESSAGE_LIMIT, VIEW_LIMIT};
-ghost use Rattle.lpc_rows.specs.Clauses.{HasHandleRoom, birth_at, has_section};
-ghost use Rattle.lpc_connect.specs.Calls.{HasCaller, allowing, allowing_with, beginning, connecting_with, draws, requesting, size_offered};
+ghost use Rattle.lpc_rows.specs.Clauses.{HasHandleRoom, birth_at, has_process, has_section};
+ghost use Rattle.lpc_connect.specs.Calls.{HasCaller, allowing, allowing_with, beginning, connecting_with, draws, requesting, size_offered, token_test};
 ghost use Rattle.lpc_connect.specs.Room.{KeepsHandleRoom, KeepsViewRoom, lacks_connect_room, lacks_room_of_view};
 ghost use Rattle.lpc_model.specs.Basics.{basic, world_after, Makes};
 ghost use Rattle.lpc_model.specs.Connect as connect;
@@ -34,13 +34,13 @@ use lpc_model::{
 };
 use lpc_ports::Creator;
 use lpc_procs::Caller;
-use lpc_sid::{Dacl, access_check};
+use lpc_sid::{Dacl, Token, access_check};
 use lpc_slots::Key;
 use lpc_steps::{
     base_of, deliver, handles_test, map_view, offer_test, view_test, wait_with, wanted_test,
 };
-use lpc_tokens::level::IMPERSONATION;
-use lpc_tokens::{Qos, Security};
+use lpc_tokens::level::{DELEGATION, IMPERSONATION};
+use lpc_tokens::{Effective, Level, Qos, Security};
 use lpc_views::View;
 use lpc_waits::{Offer, Wait, WaitKind};
 use lpc_world::World;
@@ -73,34 +73,69 @@ fn access_list(world: &World, port: Key) -> Option<&Dacl>
     }
 }
 
-/// A thread may connect to a port: BAD_IMPERSONATION_LEVEL where it acts with a token of its own of a level below 2;
-/// ACCESS_DENIED where the port's access list doesn't grant the token with which it acts the right to connect.
-fn access_test(world: &World, by: u32, connection: Key) -> Result<(), Status>
-    requires live { has (is_live_thread by) world.now.rows.threads ≡ true }
-    requires connection { stands world.now.births.ports connection ≡ true }
-    ensures test { let port = birth_at world.now connection in
-        result ≡ connect.access_test world.now.rows (caller world.now.rows by) port }
+/// A thread that acts with a token of its own of this level, or with its process's, may connect to a port:
+/// BAD_IMPERSONATION_LEVEL where the level is below 2; ACCESS_DENIED where the port's access list doesn't grant the token
+/// the right to connect.
+fn token_test(
+    world: &World,
+    level: Option<Level>,
+    token: &Token,
+    connection: Key,
+) -> Result<(), Status>
+    requires { stands world.now.births.ports connection ≡ true }
+    ensures { let port = birth_at world.now connection in
+        result ≡ token_test world.now.rows (record { token = token.now; level = level }) port }
 {
-    let acting = world.acting_token(by);
-    if acting.counts_as() < IMPERSONATION {
+    if level.unwrap_or(DELEGATION) < IMPERSONATION {
         return Err(BAD_IMPERSONATION_LEVEL);
     }
-    if !access_check(&acting.token, access_list(world, connection), CONNECT_RIGHT) {
+    if !access_check(token, access_list(world, connection), CONNECT_RIGHT) {
         return Err(ACCESS_DENIED);
     }
     Ok(())
 }
 
+/// A thread may connect to a port: BAD_IMPERSONATION_LEVEL where it acts with a token of its own of a level below 2;
+/// ACCESS_DENIED where the port's access list doesn't grant the token with which it acts the right to connect.
+fn access_test(world: &World, by: &Caller, connection: Key) -> Result<(), Status>
+    requires live { has (is_live_thread by.now.number) world.now.rows.threads ≡ true }
+    requires row { by.now ≡ as_caller (caller world.now.rows by.now.number) }
+    requires process { has_process world.now.rows by.now.process ≡ true }
+    requires connection { stands world.now.births.ports connection ≡ true }
+    ensures test { let port = birth_at world.now connection in
+        result ≡ connect.access_test world.now.rows (caller world.now.rows by.now.number) port }
+{
+    match world.own_token(by.number) {
+        Some(own) => token_test(world, Some(own.level), &own.token, connection),
+        None => token_test(world, None, world.process_token(by.process), connection),
+    }
+}
+
 /// What a connect allows the server: the quality of service that it asks for, and with it the token with which its thread
 /// acts.
-fn allowed(world: &World, by: u32, quality: Qos) -> Security
-    requires { has (is_live_thread by) world.now.rows.threads ≡ true }
-    ensures { let acting = found.acting_token world.now.rows (caller world.now.rows by) in
-        result ≡ Allows quality acting }
+fn allowed(world: &World, by: &Caller, quality: Qos) -> Security
+    requires live { has (is_live_thread by.now.number) world.now.rows.threads ≡ true }
+    requires row { by.now ≡ as_caller (caller world.now.rows by.now.number) }
+    requires process { has_process world.now.rows by.now.process ≡ true }
+    ensures { let own = caller world.now.rows by.now.number in
+        result ≡ Allows quality (found.acting_token world.now.rows own) }
 {
-    Security::Allows {
-        quality,
-        kept: world.acting_token(by),
+    // Copied where it is handed back: each move of a token is one of 1,288 bytes.
+    match world.own_token(by.number) {
+        Some(own) => Security::Allows {
+            quality,
+            kept: Effective {
+                token: own.token.copy(),
+                level: Some(own.level),
+            },
+        },
+        None => Security::Allows {
+            quality,
+            kept: Effective {
+                token: world.process_token(by.process).copy(),
+                level: None,
+            },
+        },
     }
 }
 
@@ -129,6 +164,7 @@ fn connect_test(
 ) -> Result<Connecting, Status>
     requires ready { is_ready world.now.rows by.now.number ≡ true }
     requires row { by.now ≡ as_caller (caller world.now.rows by.now.number) }
+    requires process { has_process world.now.rows by.now.process ≡ true }
     requires table { has (is_table by.now.process) world.now.rows.handles ≡ true }
     requires live { has (is_live_thread by.now.number) world.now.rows.threads ≡ true }
     requires sizes { every is_sized world.now.rows.sections ≡ true }
@@ -153,7 +189,7 @@ fn connect_test(
     info_test(info)?;
     let offer = offer_test(world, wanted)?;
     let connection = world.named_port(name)?;
-    access_test(world, by.number, connection)?;
+    access_test(world, by, connection)?;
     handles_test(world, by.process, 1)?;
     let own = match view_test(world, by.process, offer) {
         Ok(own) => own,
@@ -481,7 +517,7 @@ pub fn nt_connect_port(
     reserve_view(world, caller.process, connect.own)?;
     world.begin_call();
     let message = connection_request(&caller, connect.offer, info);
-    let allowed = allowed(world, by, quality);
+    let allowed = allowed(world, &caller, quality);
     start_allowing(world, &caller, connect, &message, allowed, out);
     Ok(Outcome::Waits)
 }
