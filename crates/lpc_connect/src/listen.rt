@@ -12,7 +12,7 @@ ghost use Rattle.lpc_rows.specs.Does.{Does, Took};
 ghost use Rattle.lpc_rows.specs.Kept.{HasWholeBudget};
 ghost use Rattle.lpc_rows.specs.Names.{stands};
 ghost use Rattle.lpc_rows.specs.Ready.{HasRoom, caller, is_ready};
-ghost use Rattle.lpc_rows.specs.Callers.{shown_caller};
+ghost use Rattle.lpc_rows.specs.Callers.{as_caller, shown_caller};
 
 use lpc_base::Status;
 use lpc_base::status::{INVALID_PORT_HANDLE, SUCCESS};
@@ -94,8 +94,18 @@ fn take_or_wait(world: &mut World, by: &Caller, port: Key, out: &mut Entries) ->
     }
 }
 
-fn listen(world: &mut World, tid: u32, handle: u32, out: &mut Entries) -> Result<Outcome, Status>
+fn listen(
+    world: &mut World,
+    tid: u32,
+    by: &Caller,
+    handle: u32,
+    out: &mut Entries,
+) -> Result<Outcome, Status>
     requires ready { is_ready world.old.rows tid ≡ true }
+    requires row { by.now ≡ as_caller (caller world.old.rows tid) }
+    requires number { by.now.number ≡ tid }
+    requires live { has (is_live_thread tid) world.old.rows.threads ≡ true }
+    requires still { has (waits_as tid) world.old.rows.waits ≡ false }
     requires spare { 2 ≤ out.old.spare }
     requires budget { HasWholeBudget world.old }
     ensures does { let does = service world.old.rows tid (listen_port handle) in
@@ -105,8 +115,7 @@ fn listen(world: &mut World, tid: u32, handle: u32, out: &mut Entries) -> Result
     ensures spare { out.old.spare ≤ out.new.spare + 2 }
 {
     let port = listen_test(world, tid, handle)?;
-    let by = world.caller(tid);
-    Ok(take_or_wait(world, &by, port, out))
+    Ok(take_or_wait(world, by, port, out))
 }
 
 /// `NtListenPort`: takes the oldest connection request of the connection port of a handle, or waits for one.
@@ -125,7 +134,7 @@ pub fn nt_listen_port(world: &mut World, by: u32, handle: u32, out: &mut Entries
 {
     let caller = world.caller(by);
     world.begin_call();
-    match listen(world, by, handle, out) {
+    match listen(world, by, &caller, handle, out) {
         Ok(outcome) => outcome,
         Err(status) => refuse(caller.number, CallName::NtListenPort, status, out),
     }

@@ -12,7 +12,8 @@ ghost use Rattle.lpc_rows.specs.Called.{Served};
 ghost use Rattle.lpc_rows.specs.Clauses.{birth_at};
 ghost use Rattle.lpc_rows.specs.Kept.{HasWholeBudget, Roomy, StaysReady};
 ghost use Rattle.lpc_rows.specs.Names.{stands};
-ghost use Rattle.lpc_rows.specs.Ready.{HasRoom, is_ready};
+ghost use Rattle.lpc_rows.specs.Callers.{as_caller};
+ghost use Rattle.lpc_rows.specs.Ready.{HasRoom, caller, is_ready};
 ghost use Rattle.lpc_steps.specs.Settling.{CanSettle};
 
 use crate::reply::return_reply;
@@ -147,8 +148,18 @@ fn take_or_wait(
 
 /// A receive without a message.
 #[tactic(auto, unfolding(lpc_model::specs::Request::nt_reply_wait_receive_port))]
-fn receive(world: &mut World, tid: u32, handle: u32, out: &mut Entries) -> Result<Outcome, Status>
+fn receive(
+    world: &mut World,
+    tid: u32,
+    by: &Caller,
+    handle: u32,
+    out: &mut Entries,
+) -> Result<Outcome, Status>
     requires ready { is_ready world.old.rows tid ≡ true }
+    requires row { by.now ≡ as_caller (caller world.old.rows tid) }
+    requires number { by.now.number ≡ tid }
+    requires live { has (is_live_thread tid) world.old.rows.threads ≡ true }
+    requires still { has (waits_as tid) world.old.rows.waits ≡ false }
     requires spare { 2 ≤ out.old.spare }
     requires budget { HasWholeBudget world.old }
     ensures does { Received result tid handle None world.old world.new out.old out.new }
@@ -159,8 +170,7 @@ fn receive(world: &mut World, tid: u32, handle: u32, out: &mut Entries) -> Resul
 {
     let port = port_at(world, tid, handle)?;
     let queue = receive_test(world, port)?;
-    let by = world.caller(tid);
-    Ok(take_or_wait(world, &by, port, queue, &None, out))
+    Ok(take_or_wait(world, by, port, queue, &None, out))
 }
 
 /// A receive with a message, with which it replies first.
@@ -168,11 +178,16 @@ fn receive(world: &mut World, tid: u32, handle: u32, out: &mut Entries) -> Resul
 fn reply_and_receive(
     world: &mut World,
     tid: u32,
+    by: &Caller,
     handle: u32,
     reply: &[u8],
     out: &mut Entries,
 ) -> Result<Outcome, Status>
     requires ready { is_ready world.old.rows tid ≡ true }
+    requires row { by.now ≡ as_caller (caller world.old.rows tid) }
+    requires number { by.now.number ≡ tid }
+    requires live { has (is_live_thread tid) world.old.rows.threads ≡ true }
+    requires still { has (waits_as tid) world.old.rows.waits ≡ false }
     requires spare { 2 ≤ out.old.spare }
     requires unmarked { world.old.rows.marks ≡ [] }
     requires budget { HasWholeBudget world.old }
@@ -186,9 +201,8 @@ fn reply_and_receive(
     let message = kept(&read_message(reply)?);
     let queue = receive_test(world, port)?;
     let thread = reply_test(world, port, message.header)?;
-    let by = world.caller(tid);
     let replied = Some(Replied { thread, message });
-    Ok(take_or_wait(world, &by, port, queue, &replied, out))
+    Ok(take_or_wait(world, by, port, queue, &replied, out))
 }
 
 /// `NtReplyWaitReceivePort`: replies as `NtReplyPort` does, where it is given a message, and then takes the oldest message
@@ -220,8 +234,8 @@ pub fn nt_reply_wait_receive_port(
     let caller = world.caller(by);
     world.begin_call();
     let ended = match reply {
-        Some(message) => reply_and_receive(world, by, handle, message, out),
-        None => receive(world, by, handle, out),
+        Some(message) => reply_and_receive(world, by, &caller, handle, message, out),
+        None => receive(world, by, &caller, handle, out),
     };
     match ended {
         Ok(outcome) => outcome,

@@ -14,7 +14,8 @@ ghost use Rattle.lpc_request.specs.Replied.{KeepsButWaits, MakesWaits, Returns};
 ghost use Rattle.lpc_rows.specs.Called.{Served};
 ghost use Rattle.lpc_rows.specs.Does.{Took};
 ghost use Rattle.lpc_rows.specs.Kept.{Roomy, StaysReady, has_queued};
-ghost use Rattle.lpc_rows.specs.Ready.{HasRoom, is_ready, waiter};
+ghost use Rattle.lpc_rows.specs.Callers.{as_caller};
+ghost use Rattle.lpc_rows.specs.Ready.{HasRoom, caller, is_ready, waiter};
 ghost use Rattle.lpc_steps.specs.Settling.{CanSettle};
 
 use byteorder::{ByteOrder, LittleEndian};
@@ -22,6 +23,7 @@ use lpc_base::Status;
 use lpc_base::status::{DBG_CONTINUE, SUCCESS};
 use lpc_message::kind;
 use lpc_model::{CallName, Entries, Entry, Fields, Message, Outcome, kept, message_field, refuse};
+use lpc_procs::Caller;
 use lpc_steps::{port_at, read_message, reply_test, wake};
 use lpc_world::World;
 
@@ -39,11 +41,13 @@ pub fn as_reply(message: &Message) -> Message
 fn reply(
     world: &mut World,
     tid: u32,
+    by: &Caller,
     handle: u32,
     message: &[u8],
     out: &mut Entries,
 ) -> Result<Outcome, Status>
     requires ready { is_ready world.old.rows tid ≡ true }
+    requires row { by.now ≡ as_caller (caller world.old.rows tid) }
     requires spare { 2 ≤ out.old.spare }
     requires unmarked { world.old.rows.marks ≡ [] }
     ensures does { Answered result tid handle message.now world.old world.new out.old out.new }
@@ -55,7 +59,7 @@ fn reply(
     let port = port_at(world, tid, handle)?;
     let message = kept(&read_message(message)?);
     let answered = reply_test(world, port, message.header)?;
-    send_reply(world, tid, answered, &message, out);
+    send_reply(world, tid, by, answered, &message, out);
     Ok(Outcome::Answered(SUCCESS))
 }
 
@@ -144,9 +148,16 @@ pub(crate) fn return_reply(world: &mut World, answered: u32, message: &Message, 
 }
 
 /// A reply is answered, and made.
-fn send_reply(world: &mut World, tid: u32, answered: u32, message: &Message, out: &mut Entries)
+fn send_reply(
+    world: &mut World,
+    tid: u32,
+    by: &Caller,
+    answered: u32,
+    message: &Message,
+    out: &mut Entries,
+)
     requires spare { 2 ≤ out.old.spare }
-    requires ready { is_ready world.old.rows tid ≡ true }
+    requires row { by.now ≡ as_caller (caller world.old.rows tid) }
     requires waits { has (waits_as answered) world.old.rows.waits ≡ true }
     requires left { has_queued world.old.rows answered ≡ false }
     requires unmarked { has (is_mark answered) world.old.rows.marks ≡ false }
@@ -156,7 +167,8 @@ fn send_reply(world: &mut World, tid: u32, answered: u32, message: &Message, out
     ensures capacity { world.new.capacity ≡ world.old.capacity }
     ensures spare { out.old.spare ≤ out.new.spare + 2 }
 {
-    let by = world.caller(tid);
+    // The contract alone speaks of it.
+    let _ = tid;
     out.push(Entry::Answer {
         tid: by.number,
         call: CallName::NtReplyPort,
@@ -192,7 +204,7 @@ pub fn nt_reply_port(
 {
     let caller = world.caller(by);
     world.begin_call();
-    match reply(world, by, handle, message, out) {
+    match reply(world, by, &caller, handle, message, out) {
         Ok(outcome) => outcome,
         Err(status) => refuse(caller.number, CallName::NtReplyPort, status, out),
     }

@@ -12,8 +12,8 @@ ghost use Rattle.lpc_request.specs.Sent.{Requests, Sends, may_post, may_send, sh
 ghost use Rattle.lpc_rows.specs.Called.{MayServe, Served, service};
 ghost use Rattle.lpc_rows.specs.Kept.{HasWholeBudget, grown_messages};
 ghost use Rattle.lpc_rows.specs.Names.{stands};
-ghost use Rattle.lpc_rows.specs.Ready.{HasRoom, is_ready};
-ghost use Rattle.lpc_rows.specs.Callers.{shown_caller};
+ghost use Rattle.lpc_rows.specs.Ready.{HasRoom, caller, is_ready};
+ghost use Rattle.lpc_rows.specs.Callers.{as_caller, shown_caller};
 
 use lpc_base::status::{PORT_DISCONNECTED, SUCCESS};
 use lpc_base::{OutOfMemory, Status};
@@ -222,11 +222,17 @@ fn send_request(
 fn request(
     world: &mut World,
     tid: u32,
+    by: &Caller,
     handle: u32,
     message: &[u8],
     out: &mut Entries,
 ) -> Result<Outcome, Status>
     requires ready { is_ready world.old.rows tid ≡ true }
+    requires row { by.now ≡ as_caller (caller world.old.rows tid) }
+    requires number { by.now.number ≡ tid }
+    requires thread { has (is_thread tid) world.old.rows.threads ≡ true }
+    requires live { has (is_live_thread tid) world.old.rows.threads ≡ true }
+    requires still { has (waits_as tid) world.old.rows.waits ≡ false }
     requires spare { 2 ≤ out.old.spare }
     requires budget { HasWholeBudget world.old }
     ensures does { Asked result tid handle message.now world.old world.new out.old out.new }
@@ -235,8 +241,7 @@ fn request(
     ensures spare { out.old.spare ≤ out.new.spare + 2 }
 {
     let sent = send_test(world, tid, handle, message)?;
-    let by = world.caller(tid);
-    send_request(world, &by, sent.port, sent.queue, &sent.message, out);
+    send_request(world, by, sent.port, sent.queue, &sent.message, out);
     Ok(Outcome::Waits)
 }
 
@@ -263,7 +268,7 @@ pub fn nt_request_wait_reply_port(
 {
     let caller = world.caller(by);
     world.begin_call();
-    match request(world, by, handle, message, out) {
+    match request(world, by, &caller, handle, message, out) {
         Ok(outcome) => outcome,
         Err(status) => refuse(caller.number, CallName::NtRequestWaitReplyPort, status, out),
     }

@@ -11,6 +11,6 @@ unfolding nt_reply_wait_receive_port
 returns-clause-does c =
     let found : reply_test c.args.world.now.rows (port_at c.args.world.now c.in_ok-port.port) (message_of c.in_ok-read_message.field-0.now) ≡ Ok (waiter c.args.world.now.rows c.in_ok-thread.thread) =
     subst (λ (m : Message). reply_test c.args.world.now.rows (port_at c.args.world.now c.in_ok-port.port) m ≡ Ok (waiter c.args.world.now.rows c.in_ok-thread.thread)) c.kept-message.ensures c.in_ok-thread.ensures.found in
-    let takes = rw (c.kept-message.ensures, c.caller-by.ensures.row) at c.take_or_wait.ensures.takes in
-    let outcome = rw (c.kept-message.ensures, c.caller-by.ensures.row) at c.take_or_wait.ensures.outcome in
+    let takes = rw (c.kept-message.ensures, c.requires.row) at c.take_or_wait.ensures.takes in
+    let outcome = rw (c.kept-message.ensures, c.requires.row) at c.take_or_wait.ensures.outcome in
     rw (c.in_ok-port.ensures.port, c.in_ok-read_message.ensures.message, c.in_ok-queue.ensures.queue, found) (λ i. Ok (record { left = sym takes i; outcome = sym outcome i }))
