@@ -1,6 +1,6 @@
 // The directives that make processes, threads, directories and links, and give tokens names: refusals in their order,
 // else the steps.
-ghost use Rattle.std.specs.Prelude.{◌≡◌, ◌<◌, ◌≤◌, Err, false, IsErr, length, MatchResult, Ok, OnErr, OnOk, option_copied, true};
+ghost use Rattle.std.specs.Prelude.{◌≡◌, ◌<◌, ◌≤◌, Err, false, IfErr, IsErr, IsOk, length, MatchResult, Ok, OnErr, OnOk, option_copied, true};
 ghost use Rattle.lpc_model.specs.Found.{was_process, was_thread};
 ghost use Rattle.lpc_model.specs.Machine as model;
 ghost use Rattle.lpc_model.specs.Machine.{boot_line, dir_line, link_line, thread_line, token_line};
@@ -42,34 +42,50 @@ fn bound_status(bound: Result<(), BindFault>) -> Result<Status, OutOfMemory>
     }
 }
 
-/// The token that a `boot` names, and where it names none the local system's: OBJECT_NAME_NOT_FOUND where no token has
-/// the name.
-fn boot_token(world: &World, name: Option<&[u8]>) -> Result<Token, Status>
-    ensures { result ≡ model.boot_token world.now.rows (option_copied name.entry) }
+/// A token has the name that a `boot` gives, where it gives one; OBJECT_NAME_NOT_FOUND where none has.
+fn token_test(world: &World, name: Option<&[u8]>) -> Result<(), Status>
+    ensures { let found = model.boot_token world.now.rows (option_copied name.entry) in
+        MatchResult result (λ u. IsOk found) (λ s. found ≡ Err s) }
 {
-    let Some(name) = name else {
-        return Ok(Token::system());
-    };
-    match world.named_token(name) {
-        Some(token) => Ok(token.copy()),
-        None => Err(OBJECT_NAME_NOT_FOUND),
+    match name {
+        Some(name) => match world.named_token(name) {
+            Some(_) => Ok(()),
+            None => Err(OBJECT_NAME_NOT_FOUND),
+        },
+        None => Ok(()),
     }
 }
 
-/// The token of a process that a `boot` makes, or why it makes none.
+/// The token that a `boot` names, which stands, and where it names none the local system's.
+fn boot_token(world: &World, name: Option<&[u8]>) -> Token
+    requires { IsOk (model.boot_token world.now.rows (option_copied name)) }
+    ensures { model.boot_token world.now.rows (option_copied name.entry) ≡ Ok result }
+{
+    let Some(name) = name else {
+        return Token::system();
+    };
+    match world.named_token(name) {
+        Some(token) => token.copy(),
+        None => unreachable!(),
+    }
+}
+
+/// Why a `boot` makes no process: no token has the name that it gives, or a number was ever used. The token itself is
+/// looked up later: each move of one is one of some 1,400 bytes.
 #[tactic(auto, unfolding(lpc_model::specs::Machine::boot_line))]
-fn boot_test(world: &World, pid: u32, tid: u32, token: Option<&[u8]>) -> Result<Token, Status>
-    ensures line { let line = boot_line world.now.rows pid tid (option_copied token.entry) in
-        MatchResult result (λ content. line ≡ Ok (model.boot_steps pid tid content))
-        (λ s. line ≡ Err s) }
+fn boot_test(world: &World, pid: u32, tid: u32, token: Option<&[u8]>) -> Result<(), Status>
+    ensures refused { let line = boot_line world.now.rows pid tid (option_copied token.entry) in
+        IfErr result (λ s. line ≡ Err s) }
+    ensures token { let found = model.boot_token world.now.rows (option_copied token.entry) in
+        OnOk result (IsOk found) }
     ensures process { OnOk result (was_process world.now.rows pid ≡ false) }
     ensures thread { OnOk result (was_thread world.now.rows tid ≡ false) }
 {
-    let content = boot_token(world, token)?;
+    token_test(world, token)?;
     if world.was_process(pid) || world.was_thread(tid) {
         return Err(OBJECT_NAME_COLLISION);
     }
-    Ok(content)
+    Ok(())
 }
 
 /// `boot`: makes a process without a maker, and its first thread. The process has the token of a name, and where none is
@@ -78,6 +94,7 @@ fn boot_test(world: &World, pid: u32, tid: u32, token: Option<&[u8]>) -> Result<
 /// Refusals, in this order: OBJECT_NAME_NOT_FOUND where no token has the name that is given; OBJECT_NAME_COLLISION where
 /// the number was ever used for a process, or the other for a thread. It wants for memory only where there is no room for
 /// a process with a thread; then nothing has changed but the room.
+#[tactic(auto, unfolding(lpc_model::specs::Machine::boot_line))]
 pub fn boot(
     world: &mut World,
     pid: u32,
@@ -107,16 +124,14 @@ pub fn boot(
     ensures asked_messages { let new = world.new.capacity in
         new.messages ≤ grown_messages world.old 1 }
 {
-    let content = match boot_test(world, pid, tid, token) {
-        Ok(content) => content,
-        Err(status) => {
-            world.begin_call();
-            return Ok(status);
-        }
-    };
+    if let Err(status) = boot_test(world, pid, tid, token) {
+        world.begin_call();
+        return Ok(status);
+    }
     thread_reserve(world)?;
     world.procs_reserve(1, 1)?;
     world.begin_call();
+    let content = boot_token(world, token);
     world.procs_add_process(pid, None, directive_birth(pid, pid), &content);
     world.procs_add_thread(tid, pid, directive_birth(tid, pid));
     Ok(SUCCESS)

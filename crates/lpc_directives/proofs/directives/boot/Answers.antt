@@ -12,7 +12,7 @@ use Rattle.lpc_directives.proofs.directives.boot.Goals as goal
 pub procs_add_thread-requires-clause-process : goal.procs_add_thread-requires-clause-process
 procs_add_thread-requires-clause-process c =
     ap (λ (w : World). has (is_process c.args.pid) w.processes) c.procs_add_process.ensures.rows
-    ∙ has-push (is_process c.args.pid) c.begin_call-2.new.self.rows.processes (new_process c.args.pid None c.directive_birth.result c.in-Ok.content) (grind arith)
+    ∙ has-push (is_process c.args.pid) c.begin_call-2.new.self.rows.processes (new_process c.args.pid None c.directive_birth.result c.boot_token-content.result) (grind arith)
 
 pub procs_add_thread-requires-clause-table : goal.procs_add_thread-requires-clause-table
 procs_add_thread-requires-clause-table c =
