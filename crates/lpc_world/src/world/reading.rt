@@ -36,6 +36,8 @@ impl World {
     }
 
     /// A thread that can make a call, as a caller.
+    // Inlined, since each call asks for it and mostly uses a part of it.
+    #[inline(always)]
     pub fn caller(&self, tid: u32) -> Caller
         requires { is_ready self.now.rows tid ≡ true }
         ensures row { result ≡ as_caller (caller self.now.rows tid) }
