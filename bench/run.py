@@ -33,8 +33,9 @@ FEW = (100, 300, 1_000)
 # Beside a peer: the lengths, and how often each script is run.
 LENGTHS = (1_000, 10_000, 100_000, 1_000_000)
 TURNS = 5
-# Rows that stand: how many, and the lines of a script beside them.
-STANDING, LINES_BESIDE = 5_000, 10_000
+# Rows that stand: how many, and the lines of a script beside them: of endings and creations, which walk some rows, few.
+STANDING = 5_000
+MANY_BESIDE, FEW_BESIDE = 100_000, 10_000
 # Where the numbers of their processes and threads begin: no script of these lengths has one of them.
 FIRST_STANDING = 10_000_000
 HERE = os.path.dirname(os.path.abspath(__file__))
@@ -371,7 +372,7 @@ def print_beside_rows(program, folder):
 
     making = [(rows, run(list(rows(STANDING)))) for rows in ROWS]
     for kind in (requests, datagrams, closings, connects, endings, creations):
-        script = list(kind(LINES_BESIDE))
+        script = list(kind(FEW_BESIDE if kind in (endings, creations) else MANY_BESIDE))
         alone = run(script)
         for rows, made in making:
             both = run([*rows(STANDING), *script])
