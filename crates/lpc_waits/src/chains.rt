@@ -203,8 +203,9 @@ impl Chains {
         connects
     }
 
-    /// Makes chains enough for so many more rows, where there is memory for them. OutOfMemory comes only where there are
-    /// none, and rows stand or are to come; nothing has changed then.
+    /// Makes chains enough for so many more rows, where there is memory for them: of each kind half as many as rows may
+    /// stand, or more. OutOfMemory comes only where there are none, and rows stand or are to come; nothing has changed
+    /// then.
     pub fn suit(&mut self, rows: &mut Slots<WaitRow>, more: usize) -> Result<(), OutOfMemory>
         ensures on { AreOn rows.old self.old (keyed rows.old)
             → AreOn rows.new self.new (keyed rows.new) }
@@ -216,10 +217,11 @@ impl Chains {
         ensures rows { KeepsRows rows.old rows.new }
     {
         let wanted = rows.count().saturating_add(more);
-        if wanted <= self.least() {
+        if wanted <= self.least().saturating_mul(2) {
             return Ok(());
         }
-        match self.widen(rows, wanted.saturating_mul(2).saturating_add(1)) {
+        // An odd number, by which numbers of one parity leave all remainders.
+        match self.widen(rows, wanted | 1) {
             Ok(()) => Ok(()),
             Err(_) => self.some(),
         }
