@@ -13,18 +13,18 @@ use Rattle.lpc_slots.specs.declared.chain.Links.{Links}
 use Rattle.lpc_slots.proofs.Frames.{at_inserted, away_listed, inserted_beside, keys_parts, parts_push, parts_without, removed_beside, stands_beside, stands_kept}
 use Rattle.lpc_slots.proofs.Keys.{key_itself}
 use Rattle.lpc_slots.proofs.Same.{first_own}
+use Rattle.lpc_slots.specs.Buckets.{Stand, keys_in}
+use Rattle.lpc_slots.proofs.Bucketed.{beside_stand, empty_chain}
 use Rattle.lpc_waits.specs.Table.{WaitingThread, are_apart, is_of}
 use Rattle.lpc_waits.specs.declared.chains.Chains.{Chains}
 use Rattle.lpc_waits.specs.declared.numbers.Numbers.{Numbers}
 use Rattle.lpc_waits.specs.declared.WaitRow.{WaitRow}
-use Rattle.lpc_waits.specs.Buckets.{Stand, keys_in}
 use Rattle.lpc_waits.specs.Kept.{AreKept, has_offer, is_event_row, seen}
 use Rattle.lpc_waits.specs.Lent.{keyed, order_links, shown, waiting_of}
 use Rattle.lpc_waits.specs.Layout.{AreOn, AreWide, IsOf, KeepsRows, by_port, by_process, by_queue, by_thread, port_links, process_links, queue_links, thread_links, with_order, with_port, with_process, with_queue, with_thread}
 use Rattle.lpc_waits.specs.Numbers.{numbers_of}
 use Rattle.lpc_waits.specs.Sought.{is_by, key_of_first}
 use Rattle.lpc_waits.proofs.Apart.{apart_push, apart_without}
-use Rattle.lpc_waits.proofs.Bucketed.{beside_stand, empty_chain}
 use Rattle.lpc_waits.proofs.Chained.{kept_keyed, keyed_distinct, length_keyed}
 use Rattle.lpc_waits.proofs.Changed.{agree, one-if, without_agreed}
 use Rattle.lpc_waits.proofs.Found.{all_apart, found_is, length_shown, row_found}

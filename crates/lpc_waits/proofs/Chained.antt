@@ -13,9 +13,9 @@ use Rattle.lpc_slots.proofs.Keys.{key_is}
 use Rattle.lpc_slots.proofs.Ordered.{found_in}
 use Rattle.lpc_slots.proofs.Same.{listed_apart}
 use Rattle.lpc_slots.proofs.Frames.{distinct_listed, keys_parts, parts_push, parts_without, same_parts}
+use Rattle.lpc_slots.specs.Buckets.{Enters, IsPlaced, Leaves, RelinksSome, Stand}
 use Rattle.lpc_waits.specs.Table.{WaitingThread}
 use Rattle.lpc_waits.specs.declared.WaitRow.{WaitRow}
-use Rattle.lpc_waits.specs.Buckets.{Enters, IsPlaced, Leaves, RelinksSome, Stand}
 use Rattle.lpc_waits.specs.Lent.{keyed, waiting_of}
 use Rattle.lpc_waits.specs.Layout.{KeepsRows}
 

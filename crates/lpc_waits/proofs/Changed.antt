@@ -12,11 +12,11 @@ use Rattle.lpc_slots.specs.Chain.{IsAway, IsDistinct, StandsFor, links_at}
 use Rattle.lpc_slots.proofs.Chains.{SameLinks, at_other, at_same, linked_same}
 use Rattle.lpc_slots.proofs.Keys.{key_apart, key_cases, key_itself}
 use Rattle.lpc_slots.proofs.Same.{listed_put}
+use Rattle.lpc_slots.specs.Buckets.{Stand, keys_in}
 use Rattle.lpc_waits.specs.Table.{WaitingThread, are_apart, is_of, with_row}
 use Rattle.lpc_waits.specs.declared.chains.Chains.{Chains}
 use Rattle.lpc_waits.specs.declared.numbers.Numbers.{Numbers}
 use Rattle.lpc_waits.specs.declared.WaitRow.{WaitRow}
-use Rattle.lpc_waits.specs.Buckets.{Stand, keys_in}
 use Rattle.lpc_waits.specs.Kept.{AreKept, has_offer, is_event_row, seen}
 use Rattle.lpc_waits.specs.Lent.{keyed, order_links, shown, waiting_of}
 use Rattle.lpc_waits.specs.Layout.{AreOn, by_port, by_process, by_queue, by_thread, port_links, process_links, queue_links, row_numbers, thread_links}

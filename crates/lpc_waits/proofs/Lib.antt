@@ -1,11 +1,9 @@
 pub mod Apart
 pub mod Begun
 pub mod Beside
-pub mod Bucketed
 pub mod Chained
 pub mod Changed
 pub mod Found
-pub mod Lists
 pub mod Marks
 pub mod Precede
 pub mod Walked

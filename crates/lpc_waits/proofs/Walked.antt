@@ -14,13 +14,13 @@ use Rattle.lpc_slots.specs.Chain.{IsAway, IsDistinct, StandsFor, first_or, last_
 use Rattle.lpc_slots.proofs.Chains.{away_right, neighbours, present_in}
 use Rattle.lpc_slots.proofs.Keys.{key_apart, key_is, key_itself}
 use Rattle.lpc_slots.proofs.Same.{at_first}
+use Rattle.lpc_slots.specs.Buckets.{Stand, first_under, keys_in}
+use Rattle.lpc_slots.proofs.Lists.{distinct_by}
 use Rattle.lpc_waits.specs.Table.{WaitingThread}
 use Rattle.lpc_waits.specs.declared.WaitRow.{WaitRow}
-use Rattle.lpc_waits.specs.Buckets.{Stand, first_under, keys_in}
 use Rattle.lpc_waits.specs.Lent.{keyed, waiting_of}
 use Rattle.lpc_waits.specs.Walk.{chain_rows, is_beside, rows_from}
 use Rattle.lpc_waits.proofs.Chained.{keyed_distinct, keys_append}
-use Rattle.lpc_waits.proofs.Lists.{distinct_by}
 
 abbrev Row : Type 0
 Row = Key × WaitingThread

@@ -5,12 +5,12 @@ use Rattle.lpc_slots.specs.declared.chain.Links.{Links}
 use Rattle.lpc_base.specs.Rows.{first, without}
 use Rattle.lpc_slots.specs.Chain.{IsAway, IsDistinct, StandsFor}
 use Rattle.lpc_slots.specs.Table.{Table, at, at_key, keys_of, parts}
+use Rattle.lpc_slots.specs.Buckets.{Stand as StandIn}
 use Rattle.lpc_waits.specs.Table.{WaitingThread}
 use Rattle.lpc_waits.specs.declared.numbers.Numbers.{Numbers}
 use Rattle.lpc_waits.specs.declared.WaitRow.{WaitRow}
 use Rattle.lpc_waits.specs.declared.chains.Chains.{Chains}
 use Rattle.lpc_waits.specs.Lent.{keyed, order_links, waiting_of}
-use Rattle.lpc_waits.specs.Buckets.{Stand as StandIn}
 use Rattle.lpc_waits.specs.Numbers.{numbers_of}
 
 -- the links of a row on each chain by numbers, and the row with other links

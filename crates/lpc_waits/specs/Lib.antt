@@ -1,4 +1,3 @@
-pub mod Buckets
 pub mod Kept
 pub mod Layout
 pub mod Lent

@@ -4,12 +4,11 @@ ghost use Rattle.lpc_base.specs.Rows.{count};
 ghost use Rattle.lpc_slots.specs.Table.{at, listed};
 ghost use Rattle.lpc_waits.specs.Sought.{found, is_by, is_connect_by, is_found_in, is_found_on, is_made_by, key_of_first};
 
-use crate::buckets::Buckets;
 use crate::numbers::{Numbers, apart, numbers_of};
 use crate::sought::Sought;
 use crate::{WaitRow, mark_place};
 use lpc_base::OutOfMemory;
-use lpc_slots::{Chain, Key, Slots};
+use lpc_slots::{Buckets, Chain, Key, Slots};
 use std::alloc::Global;
 
 /// The chains on which the rows stand: one of all of them, and others by their threads, by the ports on which waits were

@@ -10,7 +10,6 @@ ghost use Rattle.lpc_waits.specs.Lent.{IsOrder, waiting_of, waits_of};
 ghost use Rattle.lpc_waits.specs.Sought.{earlier, is_before, is_found_at, is_unmarked_in, is_unmarked_on};
 ghost use Rattle.lpc_waits.specs.Table.{accepted_of, accepted_port, accepted_port_in, begun, begun_row, first_thread, is_accepted, is_accepted_at, is_accepted_on, is_connect, is_connect_of, is_event, is_event_on, is_made_at, is_made_on, is_mark, is_of, is_offered, is_offered_to, is_offering, is_receive, is_receive_on, is_receiver_at, is_request, is_request_on, is_taker_on, is_unreceived_event_in, is_unreceived_request_in, is_wait_at, message_of, offer_of, raised_by, raised_in, received, row_of, takes, with_accepted, with_message, with_offer, with_row};
 
-mod buckets;
 mod chains;
 mod linked;
 mod numbers;

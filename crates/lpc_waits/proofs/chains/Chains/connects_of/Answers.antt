@@ -2,7 +2,7 @@ use Rattle.std.proofs.Common.{◌≡◌, ℕ, Bool, true, false, cond, refl, ap,
 use Rattle.std.proofs.lemmas.Bool.{ne_eqb}
 use Rattle.lpc_base.specs.Rows.{count}
 use Rattle.lpc_base.proofs.RowWords.{count-bound}
-use Rattle.lpc_waits.specs.Buckets.{first_under}
+use Rattle.lpc_slots.specs.Buckets.{first_under}
 use Rattle.lpc_waits.specs.Lent.{keyed, waiting_of}
 use Rattle.lpc_waits.specs.Layout.{by_process, process_links, with_process}
 use Rattle.lpc_waits.specs.Numbers.{apart}

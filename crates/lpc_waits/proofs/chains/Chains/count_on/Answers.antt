@@ -1,7 +1,7 @@
 use Rattle.std.proofs.Common.{◌≡◌, ℕ, Bool, true, false, cond, refl, ap, sym, ◌∙◌, length, arith}
 use Rattle.lpc_base.specs.Rows.{count}
 use Rattle.lpc_base.proofs.RowWords.{count-bound}
-use Rattle.lpc_waits.specs.Buckets.{first_under}
+use Rattle.lpc_slots.specs.Buckets.{first_under}
 use Rattle.lpc_waits.specs.Lent.{keyed, waiting_of}
 use Rattle.lpc_waits.specs.Layout.{by_port, port_links, with_port}
 use Rattle.lpc_waits.specs.Sought.{is_made_by}

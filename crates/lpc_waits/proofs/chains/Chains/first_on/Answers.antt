@@ -1,8 +1,8 @@
 use Rattle.std.proofs.Common.{◌≡◌, true, false, is_some, refl, ap, sym, ◌∙◌, length, option_map}
 use Rattle.lpc_base.specs.Rows.{first}
 use Rattle.lpc_slots.specs.declared.Key.{Key}
+use Rattle.lpc_slots.specs.Buckets.{first_under}
 use Rattle.lpc_waits.specs.Table.{WaitingThread, is_marked}
-use Rattle.lpc_waits.specs.Buckets.{first_under}
 use Rattle.lpc_waits.specs.Lent.{keyed, waiting_of}
 use Rattle.lpc_waits.specs.Layout.{by_port, port_links, with_port}
 use Rattle.lpc_waits.specs.Sought.{is_found_on}

@@ -2,8 +2,8 @@ use Rattle.std.proofs.Common.{refl, ap, sym, ◌∙◌, length, option_map, eq-e
 use Rattle.std.proofs.lemmas.Bool.{ne_eqb}
 use Rattle.lpc_base.specs.Rows.{first}
 use Rattle.lpc_slots.specs.declared.Key.{Key}
+use Rattle.lpc_slots.specs.Buckets.{first_under}
 use Rattle.lpc_waits.specs.Table.{WaitingThread}
-use Rattle.lpc_waits.specs.Buckets.{first_under}
 use Rattle.lpc_waits.specs.Lent.{keyed, waiting_of}
 use Rattle.lpc_waits.specs.Layout.{by_thread, thread_links, with_thread}
 use Rattle.lpc_waits.specs.Sought.{is_by}

@@ -2,11 +2,11 @@ use Rattle.std.proofs.Common.{lit<, refl, sym, ap, subst, List, ◌∷◌, ◌++
 use Rattle.lpc_slots.specs.declared.Key.{Key}
 use Rattle.lpc_slots.specs.Chain.{StandsFor}
 use Rattle.lpc_slots.proofs.Frames.{keys_without}
-use Rattle.lpc_waits.specs.Buckets.{RelinksSome}
+use Rattle.lpc_slots.specs.Buckets.{RelinksSome}
+use Rattle.lpc_slots.proofs.Bucketed.{across_chain, across_stand}
 use Rattle.lpc_waits.specs.Lent.{order_links}
 use Rattle.lpc_waits.specs.declared.numbers.Numbers.{Numbers}
 use Rattle.lpc_waits.specs.Layout.{by_port, by_process, by_queue, by_thread, port_links, process_links, queue_links, thread_links, with_order, with_port, with_process, with_queue, with_thread}
-use Rattle.lpc_waits.proofs.Bucketed.{across_chain, across_stand}
 use Rattle.lpc_waits.proofs.Chained.{keeps, keeps_twice, leaves_on, placed_on, split_key}
 use Rattle.lpc_waits.proofs.chains.Chains.unlink.Goals as goal
 

@@ -1,5 +1,4 @@
--- The rows that pass a test among all rows. As the lists of lpc_ports have it for the messages of a port, here for any
--- test.
+-- The rows that pass a test among all rows.
 use Rattle.std.proofs.Common.{◌≡◌, ◌≢◌, ◌⊎◌, ℕ, zero, suc, Bool, true, false, cond, refl, sym, ap, ◌∙◌, subst, inl, inr, List, [], ◌∷◌, ◌++◌, Option, Some, None, option_to_list, set, slice_get, arith}
 use Rattle.std.proofs.lemmas.Bool.{cases_Bool}
 use Rattle.lpc_base.specs.Rows.{which, without, first}

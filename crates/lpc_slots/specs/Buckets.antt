@@ -1,5 +1,4 @@
--- Chains of rows by a number of each row: those whose numbers leave one remainder stand on one chain. No public clause
--- cites this module.
+-- Chains of rows by a number of each row: those whose numbers leave one remainder stand on one chain.
 use Rattle.std.specs.Prelude.{◌≡◌, ◌==◌, ◌%◌, ◌++◌, ℕ, Bool, List, [], ◌∷◌, Option, None, Some, length, option_and_then, slice_get}
 use Rattle.lpc_base.specs.Rows.{first, which, without}
 use Rattle.lpc_slots.specs.declared.Key.{Key}

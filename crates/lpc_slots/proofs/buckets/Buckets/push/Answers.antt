@@ -1,5 +1,5 @@
-use Rattle.lpc_waits.proofs.Bucketed.{push_stand, reads}
-use Rattle.lpc_waits.proofs.buckets.Buckets.push.Goals as goal
+use Rattle.lpc_slots.proofs.Bucketed.{push_stand, reads}
+use Rattle.lpc_slots.proofs.buckets.Buckets.push.Goals as goal
 
 pub returns-clause-enters : goal.returns-clause-enters
 returns-clause-enters g c rows stand distinct away =

@@ -1,6 +1,6 @@
 use Rattle.std.proofs.Common.{lit<}
-use Rattle.lpc_waits.proofs.Bucketed.{reads, stands_on, unlink_stand}
-use Rattle.lpc_waits.proofs.buckets.Buckets.unlink.Goals as goal
+use Rattle.lpc_slots.proofs.Bucketed.{reads, stands_on, unlink_stand}
+use Rattle.lpc_slots.proofs.buckets.Buckets.unlink.Goals as goal
 
 pub unlink-requires : goal.unlink-requires
 unlink-requires g c =

@@ -11,8 +11,8 @@ use Rattle.lpc_slots.specs.declared.chain.Chain.{Chain}
 use Rattle.lpc_slots.specs.Table.{Table, at, at_key, keys_of}
 use Rattle.lpc_slots.specs.Chain.{IsAway, IsDistinct, Relinks, StandsFor, first_or, last_or}
 use Rattle.lpc_slots.proofs.Frames.{EachAway, each_cons, stands_apart, stands_across, stands_beside}
-use Rattle.lpc_waits.specs.Buckets.{AreEmpty, IsPlaced, RelinksSome, Stand, keys_in, leaves}
-use Rattle.lpc_waits.proofs.Lists.{away_by, disjoint, ends_last, ends_next, gone_off, gone_on, push_off, push_on, split_by, written}
+use Rattle.lpc_slots.specs.Buckets.{AreEmpty, IsPlaced, RelinksSome, Stand, keys_in, leaves}
+use Rattle.lpc_slots.proofs.Lists.{away_by, disjoint, ends_last, ends_next, gone_off, gone_on, push_off, push_on, split_by, written}
 
 -- what is read at an index within a list stands there
 pub reads : {A : Type 0} (xs : List A) (i : ℕ) (x : A) → i < length xs → x ≡ get_or xs i x → slice_get xs i ≡ Some x

@@ -1,17 +1,21 @@
 // Chains of rows by a number of each row.
 ghost use Rattle.std.specs.Prelude.{◌≡◌, ◌%◌, ◌<◌, ◌≤◌, [], IsSome, OnOk, length, vec_capacity};
 ghost use Rattle.lpc_slots.specs.Table.{at};
-ghost use Rattle.lpc_waits.specs.Buckets.{Enters, HasPlaced, Leaves, AreEmpty, RelinksSome, first_under};
+ghost use Rattle.lpc_slots.specs.Buckets.{Enters, HasPlaced, Leaves, AreEmpty, RelinksSome, first_under};
 
+use crate::{Chain, Key, Linked, Slots};
 use lpc_base::{OutOfMemory, reserve_rows};
-use lpc_slots::{Chain, Key, Linked, Slots};
 use std::alloc::Global;
 
 /// Chains of the rows of a table. Each row has a number: those whose numbers leave one remainder stand on one chain, in
-/// the order in which they came. No call but `make_room` takes memory.
+/// the order in which they came. A row's number is told at each call: nothing but the caller keeps it.
+///
+/// Over given slots they stand for a sequence of different rows, each with its number. No call but `make_room` takes
+/// memory. This project's own.
 #[derive(Drop)]
-pub(crate) struct Buckets<const LIST: usize> {
-    chains: Vec<Chain<LIST>>,
+pub struct Buckets<const LIST: usize> {
+    /// The chains; the rows whose numbers leave a remainder stand on the one at that place.
+    pub chains: Vec<Chain<LIST>>,
 }
 
 impl<const LIST: usize> Buckets<LIST> {
