@@ -3,9 +3,11 @@ pub mod Counts
 pub mod Events
 pub mod Few
 pub mod Gone
+pub mod Grouped
 pub mod Keeping
 pub mod Keyed
 pub mod Led
+pub mod Owned
 pub mod Placed
 pub mod ProcessRows
 pub mod Stored

@@ -1,7 +1,7 @@
 -- What the table keeps of its rows and numbers.
-use Rattle.std.specs.Prelude.{ℕ, ◌≡◌, ◌≤◌, ◌+◌, ◌==◌, ◌&&◌, ◌||◌, Bool, true, false, is_some, length, map, nat_le, nat_lt, List, Option, Some, None, option_map, if◌then◌else◌}
+use Rattle.std.specs.Prelude.{ℕ, ◌≡◌, ◌≤◌, ◌+◌, ◌==◌, ◌&&◌, ◌||◌, Bool, true, false, is_some, length, map, nat_le, nat_lt, List, Option, Some, None, option_map, option_to_list, if◌then◌else◌}
 use Rattle.lpc_base.specs.declared.birth.Birth.{Birth}
-use Rattle.lpc_base.specs.Rows.{change, count, differ_by, every, first, has}
+use Rattle.lpc_base.specs.Rows.{change, count, differ_by, each, every, first, has, which}
 use Rattle.lpc_base.specs.declared.limits.TheConstants.{REGISTRATION_LIMIT}
 use Rattle.lpc_numbers.specs.Named.{AreNamed, Named}
 use Rattle.lpc_numbers.specs.Numbered.{numbers, value_at}
@@ -14,7 +14,9 @@ use Rattle.lpc_procs.specs.declared.rows.ProcessRow.{ProcessRow}
 use Rattle.lpc_procs.specs.declared.rows.ThreadRow.{ThreadRow}
 use Rattle.lpc_procs.specs.declared.rows.UsedThread.{UsedThread}
 use Rattle.lpc_procs.specs.declared.keys.Use.{Use}
-use Rattle.lpc_procs.specs.Procs.{all_registrations, doomed_as, is_made_by, is_process, is_process_born, is_used_thread, lives_in}
+use Rattle.lpc_procs.specs.declared.members.Member.{Member}
+use Rattle.lpc_procs.specs.Members.{Members, is_of_process}
+use Rattle.lpc_procs.specs.Procs.{all_registrations, doomed_as, is_made_by, is_process, is_process_born, is_thread, is_used_thread, lives_in}
 
 -- the rows of a table, in the order of making
 abbrev pub rows_in : {T : Type 0} → Table T → List T
@@ -193,11 +195,31 @@ pub record AreFound (processes : Table Counted) (threads : Table ThreadRow) (use
   pub processes_named : AreNamed (map process_name (rows_in processes)) process_names
   pub threads_named : AreNamed (map thread_name (rows_in threads)) thread_names
 
--- What the tables keep: all that, how many live processes are to end, of how many a port is told of exceptions, and
--- how many live processes each made.
-pub record IsStored (processes : Table Counted) (threads : Table ThreadRow) (used_processes : List (ℕ × Key)) (used_threads : List (ℕ × Use)) (process_names thread_names : Named) (alive registered dooms watched : ℕ) (children : Tally) : Type 0 where
+-- a thread is of the process, and the thread among those of its process
+abbrev pub is_in : ℕ → ThreadRow → Bool
+is_in pid t = t.process == pid
+
+abbrev pub member_of : ThreadRow → Member
+member_of t = record { process = t.process; thread = t.number }
+
+-- no thread of another process passes
+abbrev pub PassesOnly : ℕ → (ThreadRow → Bool) → Type 0
+PassesOnly pid test = (t : ThreadRow) → test t ≡ true → is_in pid t ≡ true
+
+-- the members of each process are its threads, in the order of making, where each was put among them
+abbrev pub AreGrouped : List ThreadRow → Members → Type 0
+AreGrouped threads members = members.whole ≡ true → (pid : ℕ) → which (is_of_process pid) members.rows ≡ map member_of (which (is_in pid) threads)
+
+-- the threads of the members' numbers
+abbrev pub rows_of : List ThreadRow → List Member → List ThreadRow
+rows_of threads members = each (λ m. option_to_list (first (is_thread m.thread) threads)) members
+
+-- What the tables keep: all that, how many live processes are to end, of how many a port is told of exceptions,
+-- how many live processes each made, and which threads are of each.
+pub record IsStored (processes : Table Counted) (threads : Table ThreadRow) (used_processes : List (ℕ × Key)) (used_threads : List (ℕ × Use)) (process_names thread_names : Named) (alive registered dooms watched : ℕ) (children : Tally) (members : Members) : Type 0 where
   pub all : AreKept (rows_in processes) (rows_in threads) (numbers used_processes) (used_rows used_threads) alive registered
   pub found : AreFound processes threads used_processes used_threads process_names thread_names
   pub doomed : dooms ≡ count is_doomed_row (rows_in processes)
   pub watchers : watched ≡ count is_watched (rows_in processes)
   pub tallied : AreTallied (rows_in processes) children
+  pub grouped : AreGrouped (rows_in threads) members

@@ -1,3 +1,4 @@
 pub mod Callers
 pub mod Kept
+pub mod Members
 pub mod Procs

@@ -6,6 +6,7 @@ mod births;
 mod exceptions;
 mod keys;
 mod lists;
+mod members;
 mod procs;
 mod registrations;
 mod rows;

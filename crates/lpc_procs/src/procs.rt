@@ -11,6 +11,7 @@ mod registered;
 mod threads;
 
 use crate::keys::{Use, process_key};
+use crate::members::Members;
 use crate::rows::Counted;
 use crate::{Number, ProcessRow, ThreadRow, lists};
 use arrayvec::ArrayVec;
@@ -27,7 +28,8 @@ use std::marker::Model;
 /// a run. Contracts see the rows in order of making, the used numbers, and the room; they don't see the keys under which
 /// rows stand, the maps by which a number or a name leads to its row, nor the counts that are kept: of live threads, of
 /// those of each process, of registrations, of live processes that are to end, of processes of whose exceptions a port
-/// is told, and of the live processes that each made.
+/// is told, and of the live processes that each made; nor that the threads of each process stand together once more, so
+/// that one of them is found without a look at the others.
 pub struct Procs {
     processes: Slots<Counted>,
     threads: Slots<ThreadRow>,
@@ -40,6 +42,7 @@ pub struct Procs {
     dooms: usize,
     watched: usize,
     children: Tally,
+    members: Members,
 }
 
 impl Model for Procs {
@@ -59,7 +62,7 @@ impl Model for Procs {
       thread_room = min s.threads.spare (min s.thread_names.room s.used_threads.room);
     } };
 
-    ghost invariant = { λ s. IsStored s.processes s.threads s.used_processes.entries s.used_threads.entries s.process_names s.thread_names s.alive s.registered s.dooms s.watched s.children };
+    ghost invariant = { λ s. IsStored s.processes s.threads s.used_processes.entries s.used_threads.entries s.process_names s.thread_names s.alive s.registered s.dooms s.watched s.children s.members };
 }
 
 // Written out, so that a proof about what holds these tables lets them go in one step, and not map by map.
@@ -77,6 +80,7 @@ impl Drop for Procs {
             dooms: _,
             watched: _,
             children: _,
+            members: _,
         } = self;
     }
 }
@@ -98,6 +102,7 @@ impl Procs {
             dooms: 0,
             watched: 0,
             children: Tally::new(alloc),
+            members: Members::new(alloc),
         }
     }
 
@@ -130,6 +135,7 @@ impl Procs {
         self.used_processes.reserve(processes)?;
         self.children
             .promise(self.processes.count().saturating_add(processes));
+        self.members.promise(threads);
         self.threads.reserve(threads)?;
         self.thread_names.reserve(threads, self.threads.count())?;
         self.used_threads.reserve(threads)
@@ -213,6 +219,7 @@ impl Procs {
         });
         self.thread_names.add(tid, birth);
         self.used_threads.add(tid, Use { process: pid, key });
+        self.members.add(pid, tid);
         self.alive += 1;
     }
 

@@ -2,12 +2,11 @@
 ghost use Rattle.std.specs.Prelude.{◌≡◌, ◌*◌, ◌<◌, ◌≤◌, ◌^◌, length};
 ghost use Rattle.lpc_base.specs.Rows.{count, has, without};
 ghost use Rattle.lpc_base.specs.declared.limits.TheConstants.{REGISTRATION_LIMIT};
-ghost use Rattle.lpc_procs.specs.Procs as procs;
 ghost use Rattle.lpc_procs.specs.Kept.{rows_in};
 ghost use Rattle.lpc_procs.specs.Procs.{first_registered, first_registration, is_of_birth, is_untold, live_registrations, registered_live};
 
 use crate::keys::row_at;
-use crate::searches::{Test, first_row};
+use crate::searches::Test;
 use crate::{Registration, ThreadRow};
 use arrayvec::ArrayVec;
 use lpc_base::Birth;
@@ -21,8 +20,8 @@ fn first_registered(t: &ThreadRow) -> Option<Registration>
     t.registered.first().copied()
 }
 
-// The thread with the registration that it made first.
-fn first_registration(t: &ThreadRow) -> Option<(u32, Registration)>
+/// The thread with the registration that it made first.
+pub fn first_registration(t: &ThreadRow) -> Option<(u32, Registration)>
     ensures { result ≡ first_registration t.now }
 {
     match first_registered(t) {
@@ -52,16 +51,6 @@ impl Test<ThreadRow> for Untold {
 
     fn passes(&self, t: &ThreadRow) -> bool {
         is_untold(t, self.pid)
-    }
-}
-
-/// Of the threads of the process that have ended, the first that still has registrations, with its first.
-pub fn first_untold(threads: &Slots<ThreadRow>, pid: u32) -> Option<(u32, Registration)>
-    ensures { result ≡ procs.first_untold (rows_in threads.now) pid }
-{
-    match first_row(threads, &Untold { pid }) {
-        Some(t) => first_registration(t),
-        None => None,
     }
 }
 

@@ -107,6 +107,7 @@ impl Procs {
             Some(thread) => {
                 self.registered -= thread.registered.len();
                 self.thread_names.remove_name(birth);
+                self.members.remove(thread.process, thread.number);
                 true
             }
             None => unreachable!(),

@@ -6,7 +6,7 @@ ghost use Rattle.lpc_procs.specs.Procs.{HasRegistrationLeft, all_registrations, 
 
 use crate::keys::thread_key;
 use crate::procs::Procs;
-use crate::registrations::Registers;
+use crate::registrations::{Registers, Untold};
 use crate::searches::first_row;
 use crate::{Registration, registrations};
 use lpc_base::Birth;
@@ -99,6 +99,9 @@ impl Procs {
         if self.registered == 0 {
             return None;
         }
-        registrations::first_untold(&self.threads, pid)
+        match self.first_of(pid, &Untold { pid }) {
+            Some(t) => registrations::first_registration(t),
+            None => None,
+        }
     }
 }

@@ -2,15 +2,16 @@
 ghost use Rattle.std.specs.Prelude.{◌≡◌, ◌<◌, ◌≤◌, true, length, is_some, option_copied, option_map, slice_get, Some, IsSomeAnd};
 ghost use Rattle.lpc_base.specs.Rows.{count, first, has};
 ghost use Rattle.lpc_procs.specs.Callers.{caller_of};
-ghost use Rattle.lpc_procs.specs.Kept.{life_of_first};
+ghost use Rattle.lpc_procs.specs.Kept.{PassesOnly, life_of_first, rows_of};
 ghost use Rattle.lpc_procs.specs.Procs as procs;
 ghost use Rattle.lpc_procs.specs.Procs.{HasIdentifierLeft, HasOrdinalLeft, acting, first_thread, is_life, is_live_client, is_live_thread, is_thread_born, lives_in, past_birth, past_identifier, thread_at, thread_born, thread_life, with_thread};
 
 use crate::births::{LifeOf, ThreadNamed};
 use crate::keys::{row_at, thread_key};
 use crate::lists::LivesIn;
+use crate::members::Member;
 use crate::procs::Procs;
-use crate::searches::{count_rows, first_row};
+use crate::searches::{Test, count_rows, first_row};
 use crate::{BornThread, Caller, Life, ThreadRow, births, lists};
 use lpc_base::Birth;
 use lpc_message::ClientId;
@@ -65,7 +66,7 @@ impl Procs {
         if !self.is_live(pid) {
             return None;
         }
-        match first_row(&self.threads, &LivesIn { pid }) {
+        match self.first_of(pid, &LivesIn { pid }) {
             Some(t) => Some(t.number),
             None => None,
         }
@@ -210,6 +211,32 @@ impl Procs {
         ensures { option_copied result ≡ thread_at self.now tid }
     {
         self.threads.get(thread_key(&self.used_threads, tid))
+    }
+
+    /// The first thread that passes, where only threads of the process do.
+    pub(crate) fn first_of<Q: Test<ThreadRow>>(&self, pid: u32, asked: &Q) -> Option<&ThreadRow>
+        requires { PassesOnly pid (Q.test asked.now) }
+        ensures { option_copied result ≡ first (Q.test asked.now) self.now.threads }
+    {
+        match self.members.of(pid) {
+            Some(members) => self.first_among(members, asked),
+            None => first_row(&self.threads, asked),
+        }
+    }
+
+    // The first of these threads that passes.
+    fn first_among<Q: Test<ThreadRow>>(&self, members: &[Member], asked: &Q) -> Option<&ThreadRow>
+        ensures { let rows = rows_of self.now.threads members.now in
+            option_copied result ≡ first (Q.test asked.now) rows }
+    {
+        for member in members {
+            if let Some(row) = self.found_thread(member.thread) {
+                if asked.passes(row) {
+                    return Some(row);
+                }
+            }
+        }
+        None
     }
 
     /// The first thread of the name.

@@ -41,6 +41,7 @@ invariant_of-self c =
     thread-made c.self.invariant t refl (search rules) c.requires.number.below new home (c.live_count-live.result + 1) (ap (λ n. n + 1) counted)
     c.recount-self-inside.new.rows (rw (c.process_key.ensures) at c.recount-self-inside.ensures.rows) c.recount-self-inside.result c.recount-self-inside.ensures.dooms c.recount-self-inside.new.children c.recount-self-inside.ensures.children
     c.insert_reserved-key.result c.insert_reserved-key.new.self made.table made.listed made.generation c.add.new.self c.add.ensures.firsts c.add.ensures.single c.add-2.new.self.entries c.add-2.ensures.entries
+    c.add-3.new.self c.add-3.ensures
 
 pub returns : goal.returns
 returns c =

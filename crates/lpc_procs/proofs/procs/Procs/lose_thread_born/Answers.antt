@@ -39,6 +39,7 @@ invariant_of-self c =
     thread-lost c.self.invariant c.args.birth t found off c.remove.new.self (rw key at c.in-Some-remove.ensures.table) (rw key at c.in-Some-remove.ensures.listed)
     (c.self.inside.registered - c.len.result) (omega (arith, c.self.invariant.all.told, c.len.ensures.value, registered-at (rows_in c.self.inside.threads) place.place t place.here))
     c.remove_name.new.self c.remove_name.ensures.firsts c.remove_name.ensures.single
+    c.remove-in-Some-remove.new.self c.remove-in-Some-remove.ensures.rows c.remove-in-Some-remove.ensures.whole
 
 pub returns-clause-went : goal.returns-clause-went
 returns-clause-went c =

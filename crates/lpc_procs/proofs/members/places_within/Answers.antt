@@ -1,0 +1,12 @@
+use Rattle.std.proofs.Common.{rules, of_calls}
+use Rattle.std.proofs.lemmas.Fn.{always_returns_same}
+use Rattle.lpc_procs.specs.Members.{comes_within}
+use Rattle.lpc_procs.proofs.Grouped.{within-lesser, partitioned, place-is}
+use Rattle.lpc_procs.proofs.members.places_within.Goals as goal
+
+pub returns : goal.returns
+returns c =
+    let test = comes_within c.args.process in
+    let rows = c.args.rows.now in
+    let point = c.partition_point.ensures.partitioned test (always_returns_same _ _ _ (λ a r f k. search (rules, of_calls))) (partitioned test (within-lesser c.args.process) rows c.requires) in
+    place-is test (record { process = 0; thread = 0 }) rows c.partition_point.result c.partition_point.ensures.bound point
