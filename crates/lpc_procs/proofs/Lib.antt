@@ -7,6 +7,7 @@ pub mod Grouped
 pub mod Keeping
 pub mod Keyed
 pub mod Led
+pub mod Marked
 pub mod Owned
 pub mod Placed
 pub mod ProcessRows

@@ -6,17 +6,17 @@ use Rattle.std.proofs.lemmas.Bool.{lt-ltb}
 use Rattle.std.proofs.lemmas.List.{length-append}
 use Rattle.lpc_base.specs.declared.birth.Birth.{Birth}
 use Rattle.lpc_base.specs.declared.limits.TheConstants.{REGISTRATION_LIMIT}
-use Rattle.lpc_base.specs.Rows.{change, count, every, first, has, when, without, without_first}
+use Rattle.lpc_base.specs.Rows.{change, count, every, first, has, without, without_first}
 use Rattle.lpc_base.proofs.Differ.{differ-change, differ-push}
 use Rattle.lpc_base.proofs.RowMaps.{every-without_first, unseen-change}
-use Rattle.lpc_base.proofs.RowWords.{count-append, count-bound, count-push, every-change, every-more, every-push}
+use Rattle.lpc_base.proofs.RowWords.{count-bound, count-push, every-change, every-more, every-push}
 use Rattle.lpc_procs.specs.declared.rows.Counted.{Counted}
 use Rattle.lpc_procs.specs.declared.rows.ProcessRow.{ProcessRow}
 use Rattle.lpc_procs.specs.declared.rows.Registration.{Registration}
 use Rattle.lpc_procs.specs.declared.rows.ThreadRow.{ThreadRow}
 use Rattle.lpc_procs.specs.declared.rows.UsedThread.{UsedThread}
 use Rattle.lpc_procs.specs.Kept.{AreKept, are_apart, counting, has_number, is_counted, is_limited, is_low, is_of_used, is_used_row, process_name, process_rows}
-use Rattle.lpc_procs.specs.Procs.{HasRegistrationLeft, all_registrations, ended, first_registration, first_untold, has_registered, is_of_birth, is_process, is_thread, is_untold, is_used_thread, lives_in, live_registrations, registered_live, registering, unregistering}
+use Rattle.lpc_procs.specs.Procs.{HasRegistrationLeft, all_registrations, ended, first_registration, first_untold, is_of_birth, is_process, is_thread, is_untold, is_used_thread, lives_in, registering, unregistering}
 use Rattle.lpc_procs.proofs.Counts.{count-set, counts-ended, counts-less, counts-process, counts-set, counts-thread}
 use Rattle.lpc_procs.proofs.Few.{few, few_processes}
 use Rattle.lpc_procs.proofs.Gone.{count-gone, differ-without_first}
@@ -302,31 +302,7 @@ registered-less row b limited =
     let left : length (without (is_of_birth b) row.registered.items) ≤ 16 = omega (arith, had, without-fewer (is_of_birth b) row.registered.items) in
     grind (arith, nat_tests, left)
 
--- where nothing is registered, no thread registered a port
-empty-has : {X : Type 0} (p : X → Bool) (xs : List X) → length xs ≡ 0 → has p xs ≡ false
-empty-has p [] none = refl
-empty-has p (x ∷ xs) none = absurd (omega (arith, none))
-
-empty-counts : {X : Type 0} (p : X → Bool) (xs : List X) (b : Bool) → length xs ≡ 0 → count p (when b xs) ≡ 0
-empty-counts p [] true none = refl
-empty-counts p [] false none = refl
-empty-counts p (x ∷ xs) b none = absurd (omega (arith, none))
-
-pub none-registered : (b : Birth) (ts : List ThreadRow) → all ts ≡ 0 → has (has_registered b) ts ≡ false
-none-registered b [] none = refl
-none-registered b (t ∷ ts) none =
-    let sum = length-append t.registered.items (all_registrations ts) in
-    let own = empty-has (is_of_birth b) t.registered.items (omega (arith, sum, none)) in
-    grind (arith, own, none-registered b ts (omega (arith, sum, none)))
-
-pub none-registered_to : (b : Birth) (ts : List ThreadRow) → all ts ≡ 0 → count (is_of_birth b) (live_registrations ts) ≡ 0
-none-registered_to b [] none = refl
-none-registered_to b (t ∷ ts) none =
-    let sum = length-append t.registered.items (all_registrations ts) in
-    let own = empty-counts (is_of_birth b) t.registered.items t.live (omega (arith, sum, none)) in
-    omega (arith, own, count-append (is_of_birth b) (registered_live t) (live_registrations ts), none-registered_to b ts (omega (arith, sum, none)))
-
--- and of no thread that has ended is anything to be told
+-- where nothing is registered, of no thread that has ended is anything to be told
 empty-first : {X : Type 0} (xs : List X) → length xs ≡ 0 → is_some (slice_get xs 0) ≡ false
 empty-first [] none = refl
 empty-first (x ∷ xs) none = absurd (omega (arith, none))

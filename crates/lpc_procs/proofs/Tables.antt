@@ -17,6 +17,7 @@ use Rattle.lpc_procs.specs.declared.rows.Counted.{Counted}
 use Rattle.lpc_procs.specs.declared.rows.ProcessRow.{ProcessRow}
 use Rattle.lpc_procs.specs.declared.rows.ThreadRow.{ThreadRow}
 use Rattle.lpc_procs.specs.Kept.{AreKeyed, AreTallied, AreUsed, IsStored, counting, has_name, has_number, is_doomed_row, is_limited, is_peopled, is_peopled_child, is_watched, process_key, process_name, process_rows, rows_in, thread_key, thread_name, used_rows}
+use Rattle.lpc_procs.specs.Marks.{Remarks}
 use Rattle.lpc_procs.specs.Members.{Enters, Members, is_member, is_of_process}
 use Rattle.lpc_procs.specs.declared.rows.BornThread.{BornThread}
 use Rattle.lpc_procs.specs.Procs.{born_thread, ended, is_process, is_process_born, is_thread, is_thread_born, is_used_thread, lives_in}
@@ -28,6 +29,7 @@ use Rattle.lpc_procs.proofs.Gone.{count-gone}
 use Rattle.lpc_procs.proofs.Keeping.{KeepsNumbers, kept-none, unused-absent}
 use Rattle.lpc_procs.proofs.Keyed.{IsPlaced, changed-made, first-at, keyed-changed, keyed-inserted, keyed-removed, keyed-written, left-keyed, placed, rows-changed, rows-length, rows-push, rows-written, stands-keyed}
 use Rattle.lpc_procs.proofs.Led.{names-left, names-more, process-key-push, thread-key-push, used-push}
+use Rattle.lpc_procs.proofs.Marked.{marked-gone, marked-push, marked-set, remarked}
 use Rattle.lpc_procs.proofs.Owned.{grouped-change, grouped-left, grouped-push}
 use Rattle.lpc_procs.proofs.Placed.{count-of, none-has, numbers-has, process-born-first, process-first, used-has}
 use Rattle.lpc_procs.proofs.ProcessRows.{KeepsNames, kept-row, names-same, row-changed, with_row}
@@ -48,7 +50,7 @@ process_birth p = p.row.birth
 abbrev pub thread_birth : ThreadRow → Birth
 thread_birth t = t.birth
 
-module _ {ps : Table Counted} {ts : Table ThreadRow} {up : List (ℕ × Key)} {ut : List (ℕ × Use)} {pn tn : Named} {alive registered dooms watched : ℕ} {children : Tally} {members : Members} (kept : IsStored ps ts up ut pn tn alive registered dooms watched children members) where
+module _ {ps : Table Counted} {ts : Table ThreadRow} {up : List (ℕ × Key)} {ut : List (ℕ × Use)} {pn tn : Named} {alive registered dooms watched : ℕ} {children : Tally} {members : Members} {marks : Tally} (kept : IsStored ps ts up ut pn tn alive registered dooms watched children members marks) where
   pub thread-at : (tid : ℕ) → first (is_thread tid) (rows_in ts) ≡ at ts (thread_key ut tid)
   thread-at tid = first-at thread_number ts (thread_key ut) kept.found.thread_keys tid
 
@@ -99,8 +101,9 @@ module _ {ps : Table Counted} {ts : Table ThreadRow} {up : List (ℕ × Key)} {u
     thread-rows f = rows-written thread_number ts (thread_key ut) kept.found.thread_keys kept.all.rows.single tid f row there
 
     pub thread-kept : (f : ThreadRow → ThreadRow) → KeepsNumbers f → ((t : ThreadRow) → (f t).birth ≡ t.birth) → (f row).live ≡ row.live → (is_limited row ≡ true → is_limited (f row) ≡ true) → (total : ℕ) → total + length row.registered.items ≡ registered + length (f row).registered.items
-        → IsStored ps (with_value ts (thread_key ut tid) (f row)) up ut pn tn alive total dooms watched children members
-    thread-kept f keeps births lives limits total is_total = record {
+        → (marks' : Tally) → (marks'.whole ≡ true → Remarks row.registered.items (f row).registered.items marks marks')
+        → IsStored ps (with_value ts (thread_key ut tid) (f row)) up ut pn tn alive total dooms watched children members marks'
+    thread-kept f keeps births lives limits total is_total marks' remarks = record {
       all = rw (its-place.writes (f row)) (kept-set (rows_in ps) (rows_in ts) (numbers up) (used_rows ut) alive registered kept.all its-place.place tid row its-place.here thread-own f keeps lives limits total is_total);
       found = record {
         process_keys = kept.found.process_keys;
@@ -114,12 +117,13 @@ module _ {ps : Table Counted} {ts : Table ThreadRow} {up : List (ℕ × Key)} {u
       watchers = kept.watchers;
       tallied = kept.tallied;
       grouped = rw (thread-rows f) (grouped-change (is_thread tid) f keeps (rows_in ts) members kept.grouped);
+      marked = rw (its-place.writes (f row)) (marked-set (rows_in ts) its-place.place row (f row) its-place.here marks marks' kept.marked remarks);
     }
 
     -- a live thread ends
     pub thread-ended : row.live ≡ true → (live a : ℕ) → live + 1 ≡ count (lives_in row.process) (rows_in ts) → a + 1 ≡ alive
         → (ps' : Table Counted) → ps' ≡ changed ps (Some (process_key up row.process)) (counting live) → (d : ℕ) → d ≡ count is_doomed_row (rows_in ps') → (children' : Tally) → AreTallied (rows_in ps') children'
-        → IsStored ps' (with_value ts (thread_key ut tid) (ended row)) up ut pn tn a registered d watched children' members
+        → IsStored ps' (with_value ts (thread_key ut tid) (ended row)) up ut pn tn a registered d watched children' members marks
     thread-ended lives live a counted fewer ps' is d doomed children' tallied = record {
       all = rw (counted-rows row.process live ps' is, its-place.writes (ended row)) (kept-ended (rows_in ps) (rows_in ts) (numbers up) (used_rows ut) alive registered kept.all its-place.place tid row its-place.here thread-own lives live a counted fewer);
       found = record {
@@ -134,6 +138,7 @@ module _ {ps : Table Counted} {ts : Table ThreadRow} {up : List (ℕ × Key)} {u
       watchers = counted-watched row.process live ps' is;
       tallied = tallied;
       grouped = rw (thread-rows ended) (grouped-change (is_thread tid) ended (record { number = λ t. refl; process = λ t. refl }) (rows_in ts) members kept.grouped);
+      marked = rw (its-place.writes (ended row)) (marked-set (rows_in ts) its-place.place row (ended row) its-place.here marks marks kept.marked (remarked row.registered.items marks));
     }
 
   -- a process changes
@@ -154,7 +159,7 @@ module _ {ps : Table Counted} {ts : Table ThreadRow} {up : List (ℕ × Key)} {u
     process-shown f = ap process_rows (process-written f) ∙ row-changed f pid (rows_in ps)
 
     pub process-kept : (f : ProcessRow → ProcessRow) → KeepsNames f → (d w : ℕ) → d + cond (is_doomed_row p) 1 0 ≡ dooms + cond (is_doomed_row (with_row f p)) 1 0 → w + cond (is_watched p) 1 0 ≡ watched + cond (is_watched (with_row f p)) 1 0
-        → IsStored (with_value ps (process_key up pid) (with_row f p)) ts up ut pn tn alive registered d w children members
+        → IsStored (with_value ps (process_key up pid) (with_row f p)) ts up ut pn tn alive registered d w children members marks
     process-kept f keeps d w is_d is_w = record {
       all = rw (process-written f) (kept-row f keeps pid (rows_in ps) (rows_in ts) (numbers up) (used_rows ut) alive registered kept.all);
       found = record {
@@ -169,6 +174,7 @@ module _ {ps : Table Counted} {ts : Table ThreadRow} {up : List (ℕ × Key)} {u
       watchers = omega (arith, kept.watchers, is_w, process-counts is_watched (with_row f p));
       tallied = λ whole n. omega (arith, kept.tallied whole n, process-counts (is_peopled_child n) (with_row f p), ap {B = ℕ} (λ m. cond (passes m (λ k. k == n) && is_peopled p) 1 0) (keeps.maker p.row));
       grouped = kept.grouped;
+      marked = kept.marked;
     }
 
   -- a further process, of which no thread lives yet
@@ -176,7 +182,7 @@ module _ {ps : Table Counted} {ts : Table ThreadRow} {up : List (ℕ × Key)} {u
       → (k : Key) (ps' : Table Counted) → ps' ≡ inserted ps k (record { row = row; live = 0 }) → listed ps' ≡ listed ps ++ (k, record { row = row; live = 0 }) ∷ [] → k.generation ≡ ps.made + 1
       → (pn' : Named) → Takes row.birth row.number pn.firsts pn'.firsts → pn'.single ≡ (pn.single && not (is_some (number_in pn.firsts row.birth)))
       → (up' : List (ℕ × Key)) → up' ≡ up ++ (row.number, k) ∷ []
-      → IsStored ps' ts up' ut pn' tn alive registered dooms watched children members
+      → IsStored ps' ts up' ut pn' tn alive registered dooms watched children members marks
   process-made row unwatched within new k ps' is listing young pn' takes single up' used =
       let p : Counted = record { row = row; live = 0 } in
       let rows = rows-push ps ps' k p listing in
@@ -197,6 +203,7 @@ module _ {ps : Table Counted} {ts : Table ThreadRow} {up : List (ℕ × Key)} {u
         watchers = omega (arith, kept.watchers, ap (count is_watched) rows, count-push is_watched (rows_in ps) p, ap {B = ℕ} (λ b. cond b 1 0) unwatched);
         tallied = λ whole n. kept.tallied whole n ∙ sym (ap (count (is_peopled_child n)) rows ∙ children-push n row (rows_in ps));
         grouped = kept.grouped;
+        marked = kept.marked;
       }
 
   -- a further live thread
@@ -207,7 +214,7 @@ module _ {ps : Table Counted} {ts : Table ThreadRow} {up : List (ℕ × Key)} {u
       → (tn' : Named) → Takes t.birth t.number tn.firsts tn'.firsts → tn'.single ≡ (tn.single && not (is_some (number_in tn.firsts t.birth)))
       → (ut' : List (ℕ × Use)) → ut' ≡ ut ++ (t.number, record { process = t.process; key = k }) ∷ []
       → (members' : Members) → (members'.whole ≡ true → Enters t.process t.number members members')
-      → IsStored ps' ts' up ut' pn tn' (alive + 1) registered d watched children' members'
+      → IsStored ps' ts' up ut' pn tn' (alive + 1) registered d watched children' members' marks
   thread-made t lives none within new home live counted ps' is d doomed children' tallied k ts' is_ts listing young tn' takes single ut' used members' enters =
       let u : Use = record { process = t.process; key = k } in
       let rows = rows-push ts ts' k t listing in
@@ -230,6 +237,7 @@ module _ {ps : Table Counted} {ts : Table ThreadRow} {up : List (ℕ × Key)} {u
         watchers = counted-watched t.process live ps' is;
         tallied = tallied;
         grouped = rw rows (grouped-push (rows_in ts) t members members' kept.grouped enters);
+        marked = rw rows (marked-push (rows_in ts) t none marks kept.marked);
       }
 
   -- the first process of a name goes
@@ -238,7 +246,7 @@ module _ {ps : Table Counted} {ts : Table ThreadRow} {up : List (ℕ × Key)} {u
       → (d w : ℕ) → d + cond (is_doomed_row p) 1 0 ≡ dooms → w + cond (is_watched p) 1 0 ≡ watched
       → (children' : Tally) → children'.entries ≡ children.entries → children'.whole ≡ (children.whole && not (is_peopled p))
       → (pn' : Named) → Forgets b pn.firsts pn'.firsts → pn'.single ≡ pn.single
-      → IsStored ps' ts up ut pn' tn alive registered d w children' members
+      → IsStored ps' ts up ut pn' tn alive registered d w children' members marks
   process-lost b p found ps' is listing d w is_d is_w children' entries whole pn' forgets single =
       let rows = left-keyed process_number ps (process_key up) kept.found.process_keys (has_name b) p found ps' listing in
       record {
@@ -257,6 +265,7 @@ module _ {ps : Table Counted} {ts : Table ThreadRow} {up : List (ℕ × Key)} {u
             let both = kept-whole children.whole (is_peopled p) (sym whole ∙ still) in
             rw (rows, entries) (kept.tallied both.0 n ∙ sym (children-left n (has_name b) (rows_in ps) p found both.1));
         grouped = kept.grouped;
+        marked = kept.marked;
       }
 
   -- the first thread of a name goes, which has ended
@@ -265,8 +274,9 @@ module _ {ps : Table Counted} {ts : Table ThreadRow} {up : List (ℕ × Key)} {u
       → (total : ℕ) → total + length t.registered.items ≡ registered
       → (tn' : Named) → Forgets b tn.firsts tn'.firsts → tn'.single ≡ tn.single
       → (members' : Members) → members'.rows ≡ without_first (is_member t.process t.number) members.rows → members'.whole ≡ members.whole
-      → IsStored ps ts' up ut pn tn' alive total dooms watched children members'
-  thread-lost b t found off ts' is listing total is_total tn' forgets single members' gone whole =
+      → (marks' : Tally) → marks'.entries ≡ marks.entries → (marks'.whole ≡ true → (marks.whole ≡ true) × (length t.registered.items ≡ 0))
+      → IsStored ps ts' up ut pn tn' alive total dooms watched children members' marks'
+  thread-lost b t found off ts' is listing total is_total tn' forgets single members' gone whole marks' entries lost =
       let rows = left-keyed thread_number ts (thread_key ut) kept.found.thread_keys (is_thread_born b) t found ts' listing in
       record {
         all = rw rows (kept-threads_left (rows_in ps) (rows_in ts) (numbers up) (used_rows ut) alive registered kept.all (is_thread_born b) t found off total is_total);
@@ -282,6 +292,7 @@ module _ {ps : Table Counted} {ts : Table ThreadRow} {up : List (ℕ × Key)} {u
         watchers = kept.watchers;
         tallied = kept.tallied;
         grouped = rw rows (grouped-left t (is_thread_born b) (rows_in ts) members members' kept.all.rows.single found kept.grouped gone whole);
+        marked = rw rows (marked-gone (is_thread_born b) (rows_in ts) t found marks marks' kept.marked entries lost);
       }
 
   -- the row that was read under a key, and the number that has none
@@ -329,9 +340,9 @@ module _ {ps : Table Counted} {ts : Table ThreadRow} {up : List (ℕ × Key)} {u
 
   -- more room
   pub roomier : (ps' : Table Counted) (ts' : Table ThreadRow) (pn' tn' : Named) → ps' ≡ record ps { spare = ps'.spare } → ts' ≡ record ts { spare = ts'.spare } → pn' ≡ record pn { room = pn'.room } → tn' ≡ record tn { room = tn'.room }
-      → IsStored ps' ts' up ut pn' tn' alive registered dooms watched children members
+      → IsStored ps' ts' up ut pn' tn' alive registered dooms watched children members marks
   roomier ps' ts' pn' tn' is_ps is_ts is_pn is_tn =
-      let one : IsStored (record ps { spare = ps'.spare }) (record ts { spare = ts'.spare }) up ut (record pn { room = pn'.room }) (record tn { room = tn'.room }) alive registered dooms watched children members = record {
+      let one : IsStored (record ps { spare = ps'.spare }) (record ts { spare = ts'.spare }) up ut (record pn { room = pn'.room }) (record tn { room = tn'.room }) alive registered dooms watched children members marks = record {
         all = kept.all;
         found = record {
           process_keys = record { own = kept.found.process_keys.own; leads = kept.found.process_keys.leads; young = kept.found.process_keys.young };
@@ -345,6 +356,7 @@ module _ {ps : Table Counted} {ts : Table ThreadRow} {up : List (ℕ × Key)} {u
         watchers = kept.watchers;
         tallied = kept.tallied;
         grouped = kept.grouped;
+        marked = kept.marked;
       } in
       rw (is_ps, is_ts, is_pn, is_tn) one
 
@@ -373,9 +385,9 @@ keyed-none {T} number s key empty young = record {
     off k x there = let clash : None ≡ Some x = ap (λ (rows : List (Key × T)). option_map (λ (r : Key × T). r.1) (first (at_key k) rows)) (sym empty) ∙ sym (at_first s k) ∙ there in cc
 
 -- the tables before anything was made
-pub stored-none : (ps : Table Counted) (ts : Table ThreadRow) (up : List (ℕ × Key)) (ut : List (ℕ × Use)) (pn tn : Named) (children : Tally) (members : Members) → listed ps ≡ [] → listed ts ≡ [] → ps.made ≡ 0 → ts.made ≡ 0 → up ≡ [] → ut ≡ [] → pn.firsts ≡ [] → tn.firsts ≡ [] → children.entries ≡ [] → members.rows ≡ []
-    → IsStored ps ts up ut pn tn 0 0 0 0 children members
-stored-none ps ts up ut pn tn children members no_ps no_ts ps_made ts_made no_up no_ut no_pn no_tn no_children no_members =
+pub stored-none : (ps : Table Counted) (ts : Table ThreadRow) (up : List (ℕ × Key)) (ut : List (ℕ × Use)) (pn tn : Named) (children : Tally) (members : Members) (marks : Tally) → listed ps ≡ [] → listed ts ≡ [] → ps.made ≡ 0 → ts.made ≡ 0 → up ≡ [] → ut ≡ [] → pn.firsts ≡ [] → tn.firsts ≡ [] → children.entries ≡ [] → members.rows ≡ [] → marks.entries ≡ []
+    → IsStored ps ts up ut pn tn 0 0 0 0 children members marks
+stored-none ps ts up ut pn tn children members marks no_ps no_ts ps_made ts_made no_up no_ut no_pn no_tn no_children no_members no_marks =
     let no_processes : rows_in ps ≡ [] = ap (map (λ (r : Key × Counted). r.1)) no_ps in
     let no_threads : rows_in ts ≡ [] = ap (map (λ (r : Key × ThreadRow). r.1)) no_ts in
     record {
@@ -392,4 +404,5 @@ stored-none ps ts up ut pn tn children members no_ps no_ts ps_made ts_made no_up
       watchers = rw no_processes refl;
       tallied = rw no_processes (λ whole pid. ap (λ es. count_in es pid) no_children);
       grouped = rw no_threads (λ whole pid. ap (which (is_of_process pid)) no_members);
+      marked = rw no_threads (λ whole n. ap (λ es. count_in es n) no_marks);
     }

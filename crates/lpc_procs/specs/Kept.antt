@@ -15,6 +15,7 @@ use Rattle.lpc_procs.specs.declared.rows.ThreadRow.{ThreadRow}
 use Rattle.lpc_procs.specs.declared.rows.UsedThread.{UsedThread}
 use Rattle.lpc_procs.specs.declared.keys.Use.{Use}
 use Rattle.lpc_procs.specs.declared.members.Member.{Member}
+use Rattle.lpc_procs.specs.Marks.{AreMarked}
 use Rattle.lpc_procs.specs.Members.{Members, is_of_process}
 use Rattle.lpc_procs.specs.Procs.{all_registrations, doomed_as, is_made_by, is_process, is_process_born, is_thread, is_used_thread, lives_in}
 
@@ -215,11 +216,12 @@ abbrev pub rows_of : List ThreadRow → List Member → List ThreadRow
 rows_of threads members = each (λ m. option_to_list (first (is_thread m.thread) threads)) members
 
 -- What the tables keep: all that, how many live processes are to end, of how many a port is told of exceptions,
--- how many live processes each made, and which threads are of each.
-pub record IsStored (processes : Table Counted) (threads : Table ThreadRow) (used_processes : List (ℕ × Key)) (used_threads : List (ℕ × Use)) (process_names thread_names : Named) (alive registered dooms watched : ℕ) (children : Tally) (members : Members) : Type 0 where
+-- how many live processes each made, which threads are of each, and how many registrations there are of each mark.
+pub record IsStored (processes : Table Counted) (threads : Table ThreadRow) (used_processes : List (ℕ × Key)) (used_threads : List (ℕ × Use)) (process_names thread_names : Named) (alive registered dooms watched : ℕ) (children : Tally) (members : Members) (marks : Tally) : Type 0 where
   pub all : AreKept (rows_in processes) (rows_in threads) (numbers used_processes) (used_rows used_threads) alive registered
   pub found : AreFound processes threads used_processes used_threads process_names thread_names
   pub doomed : dooms ≡ count is_doomed_row (rows_in processes)
   pub watchers : watched ≡ count is_watched (rows_in processes)
   pub tallied : AreTallied (rows_in processes) children
   pub grouped : AreGrouped (rows_in threads) members
+  pub marked : AreMarked (all_registrations (rows_in threads)) marks

@@ -6,6 +6,7 @@ mod births;
 mod exceptions;
 mod keys;
 mod lists;
+mod marks;
 mod members;
 mod procs;
 mod registrations;

@@ -27,9 +27,9 @@ use std::marker::Model;
 /// A number is used once. It stays used when the row of its process or thread goes, so no number names two things in
 /// a run. Contracts see the rows in order of making, the used numbers, and the room; they don't see the keys under which
 /// rows stand, the maps by which a number or a name leads to its row, nor the counts that are kept: of live threads, of
-/// those of each process, of registrations, of live processes that are to end, of processes of whose exceptions a port
-/// is told, and of the live processes that each made; nor that the threads of each process stand together once more, so
-/// that one of them is found without a look at the others.
+/// those of each process, of registrations and of those of each mark, of live processes that are to end, of processes of
+/// whose exceptions a port is told, and of the live processes that each made; nor that the threads of each process stand
+/// together once more, so that one of them is found without a look at the others.
 pub struct Procs {
     processes: Slots<Counted>,
     threads: Slots<ThreadRow>,
@@ -43,6 +43,7 @@ pub struct Procs {
     watched: usize,
     children: Tally,
     members: Members,
+    marks: Tally,
 }
 
 impl Model for Procs {
@@ -62,7 +63,7 @@ impl Model for Procs {
       thread_room = min s.threads.spare (min s.thread_names.room s.used_threads.room);
     } };
 
-    ghost invariant = { λ s. IsStored s.processes s.threads s.used_processes.entries s.used_threads.entries s.process_names s.thread_names s.alive s.registered s.dooms s.watched s.children s.members };
+    ghost invariant = { λ s. IsStored s.processes s.threads s.used_processes.entries s.used_threads.entries s.process_names s.thread_names s.alive s.registered s.dooms s.watched s.children s.members s.marks };
 }
 
 // Written out, so that a proof about what holds these tables lets them go in one step, and not map by map.
@@ -81,6 +82,7 @@ impl Drop for Procs {
             watched: _,
             children: _,
             members: _,
+            marks: _,
         } = self;
     }
 }
@@ -103,6 +105,7 @@ impl Procs {
             watched: 0,
             children: Tally::new(alloc),
             members: Members::new(alloc),
+            marks: Tally::new(alloc),
         }
     }
 
@@ -136,6 +139,8 @@ impl Procs {
         self.children
             .promise(self.processes.count().saturating_add(processes));
         self.members.promise(threads);
+        self.marks
+            .promise(self.threads.count().saturating_add(threads));
         self.threads.reserve(threads)?;
         self.thread_names.reserve(threads, self.threads.count())?;
         self.used_threads.reserve(threads)

@@ -105,7 +105,9 @@ impl Procs {
         };
         match self.threads.remove(thread_key(&self.used_threads, tid)) {
             Some(thread) => {
-                self.registered -= thread.registered.len();
+                let forgotten = thread.registered.len();
+                self.registered -= forgotten;
+                self.marks.give_up_if(forgotten > 0);
                 self.thread_names.remove_name(birth);
                 self.members.remove(thread.process, thread.number);
                 true

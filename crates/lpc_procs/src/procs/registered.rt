@@ -5,6 +5,7 @@ ghost use Rattle.lpc_base.specs.declared.limits.TheConstants.{REGISTRATION_LIMIT
 ghost use Rattle.lpc_procs.specs.Procs.{HasRegistrationLeft, all_registrations, first_untold, has_registered, is_of_birth, live_registrations, registering, registration, thread_at, unregistering, with_thread};
 
 use crate::keys::thread_key;
+use crate::marks::{mark_of, take_all};
 use crate::procs::Procs;
 use crate::registrations::{Registers, Untold};
 use crate::searches::first_row;
@@ -23,6 +24,7 @@ impl Procs {
             Some(row) => {
                 row.registered.push(Registration { port, birth });
                 self.registered += 1;
+                self.marks.add(mark_of(birth));
             }
             None => unreachable!(),
         }
@@ -37,7 +39,9 @@ impl Procs {
             Some(row) => {
                 let before = row.registered.len();
                 registrations::forget(&mut row.registered, birth);
-                self.registered -= before - row.registered.len();
+                let forgotten = before - row.registered.len();
+                self.registered -= forgotten;
+                take_all(&mut self.marks, mark_of(birth), forgotten);
             }
             None => unreachable!(),
         }
@@ -74,7 +78,7 @@ impl Procs {
     pub fn names(&self, birth: Birth) -> bool
         ensures named { result ≡ has (has_registered birth) self.now.threads }
     {
-        if self.registered == 0 {
+        if self.is_unregistered(birth) {
             return false;
         }
         first_row(&self.threads, &Registers { birth }).is_some()
@@ -85,10 +89,24 @@ impl Procs {
         ensures count { result ≡ count (is_of_birth birth) (live_registrations self.now.threads) }
         ensures bound { result ≤ REGISTRATION_LIMIT * length self.now.threads }
     {
-        if self.registered == 0 {
+        if self.is_unregistered(birth) {
             return 0;
         }
         registrations::of_birth(&self.threads, birth)
+    }
+
+    // No thread registered the port with a birth, as the counts tell.
+    fn is_unregistered(&self, birth: Birth) -> bool
+        ensures { result ≡ true →
+            count (is_of_birth birth) (all_registrations self.now.threads) ≡ 0 }
+    {
+        if self.registered == 0 {
+            return true;
+        }
+        match self.marks.of(mark_of(birth)) {
+            Some(count) => count == 0,
+            None => false,
+        }
     }
 
     /// Of the threads of the process that have ended, the first that still has registrations: its number, and the

@@ -5,6 +5,7 @@ use Rattle.lpc_slots.specs.Table.{Table, at}
 use Rattle.lpc_procs.specs.declared.rows.ThreadRow.{ThreadRow}
 use Rattle.lpc_procs.specs.Kept.{rows_in, thread_key}
 use Rattle.lpc_procs.specs.Procs.{is_thread_born}
+use Rattle.lpc_procs.proofs.Marked.{lost-none, none-lost}
 use Rattle.lpc_procs.proofs.Placed.{ended-born}
 use Rattle.lpc_procs.proofs.Stored.{registered-at}
 use Rattle.lpc_procs.proofs.Tables.{born-thread, thread-left, thread-lost, thread-most, thread-place}
@@ -24,7 +25,7 @@ overflow_sub-self c =
     let same : t ≡ born.0 = same_Some t born.0 (c.in-Some-remove.ensures.value ∙ ap (at c.self.inside.threads) c.thread_key.ensures ∙ born.3) in
     let there : at c.self.inside.threads (thread_key c.self.inside.used_threads.entries c.in-Some.thread.number) ≡ Some t = born.3 ∙ ap Some (sym same) in
     let place = thread-place c.self.invariant c.in-Some.thread.number t there in
-    omega (arith, c.self.invariant.all.told, c.len.ensures.value, registered-at (rows_in c.self.inside.threads) place.place t place.here)
+    omega (arith, c.self.invariant.all.told, c.len-forgotten.ensures.value, registered-at (rows_in c.self.inside.threads) place.place t place.here)
 
 pub invariant_of-self : goal.invariant_of-self
 invariant_of-self c =
@@ -37,9 +38,10 @@ invariant_of-self c =
     let place = thread-place c.self.invariant c.in-Some.thread.number t there in
     let off : t.live ≡ false = ended-born c.args.birth (rows_in c.self.inside.threads) t found (rw (← c.self.view_is) at c.requires.ended) in
     thread-lost c.self.invariant c.args.birth t found off c.remove.new.self (rw key at c.in-Some-remove.ensures.table) (rw key at c.in-Some-remove.ensures.listed)
-    (c.self.inside.registered - c.len.result) (omega (arith, c.self.invariant.all.told, c.len.ensures.value, registered-at (rows_in c.self.inside.threads) place.place t place.here))
+    (c.self.inside.registered - c.len-forgotten.result) (omega (arith, c.self.invariant.all.told, c.len-forgotten.ensures.value, registered-at (rows_in c.self.inside.threads) place.place t place.here))
     c.remove_name.new.self c.remove_name.ensures.firsts c.remove_name.ensures.single
     c.remove-in-Some-remove.new.self c.remove-in-Some-remove.ensures.rows c.remove-in-Some-remove.ensures.whole
+    c.give_up_if.new.self c.give_up_if.ensures.entries (lost-none c.self.inside.marks.whole t.registered.items _ _ c.give_up_if.ensures.whole (none-lost c.len-forgotten.result t.registered.items c.len-forgotten.ensures.value))
 
 pub returns-clause-went : goal.returns-clause-went
 returns-clause-went c =

@@ -1,11 +1,6 @@
-use Rattle.std.proofs.Common.{◌≡◌, rules, sym, ◌∙◌, length}
-use Rattle.lpc_procs.specs.Kept.{rows_in}
-use Rattle.lpc_procs.specs.Procs.{all_registrations}
-use Rattle.lpc_procs.proofs.Stored.{none-registered}
+use Rattle.std.proofs.Common.{sym}
+use Rattle.lpc_procs.proofs.Marked.{none-registered}
 use Rattle.lpc_procs.proofs.procs.Procs.names.Goals as goal
 
-pub returns-then-self-eq0 : goal.returns-then-self-eq0
-returns-then-self-eq0 c =
-    let zero_registered : c.self.inside.registered ≡ 0 = search (rules, c.if-self-eq0.true) in
-    let none : length (all_registrations (rows_in c.self.inside.threads)) ≡ 0 = sym c.self.invariant.all.told ∙ zero_registered in
-    record { named = rw (← c.self.view_is) (sym (none-registered c.args.birth (rows_in c.self.inside.threads) none)) }
+pub returns-then-is_unregistered : goal.returns-then-is_unregistered
+returns-then-is_unregistered c = record { named = sym (none-registered c.args.birth c.args.self.now.threads (c.is_unregistered.ensures c.if-is_unregistered.true)) }

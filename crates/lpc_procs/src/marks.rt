@@ -1,0 +1,24 @@
+// Numbers by which names are told apart, and counts of them.
+ghost use Rattle.std.specs.Prelude.{◌≡◌, true};
+ghost use Rattle.lpc_procs.specs.Marks as marks;
+ghost use Rattle.lpc_procs.specs.Marks.{LosesAll};
+
+use lpc_base::Birth;
+use lpc_numbers::Tally;
+
+/// The mark of a name. Other names have it too, but few.
+pub fn mark_of(birth: Birth) -> u32
+    ensures { result ≡ marks.mark_of birth }
+{
+    // The factor is odd, so no two makers have one mark for the same ordinal.
+    birth.maker.wrapping_mul(65_599).wrapping_add(birth.ordinal)
+}
+
+/// There are so many less of the mark.
+pub fn take_all(tally: &mut Tally, mark: u32, many: usize)
+    ensures { tally.new.whole ≡ true → LosesAll mark many tally.old tally.new }
+{
+    for _ in 0..many {
+        tally.take(mark);
+    }
+}
