@@ -10,8 +10,8 @@ use Rattle.lpc_procs.specs.declared.rows.Doomed.{Doomed}
 use Rattle.lpc_procs.specs.declared.rows.ProcessRow.{ProcessRow}
 use Rattle.lpc_procs.specs.declared.rows.Registration.{Registration}
 use Rattle.lpc_procs.specs.declared.rows.ThreadRow.{ThreadRow}
-use Rattle.lpc_procs.specs.Kept.{doomed_in, is_counted, is_doomed_row, is_watched, lesser_doomed, process_rows}
-use Rattle.lpc_procs.specs.Procs.{doomed_as, event_ports, excepted, has_event_port, is_doomed, is_of_birth, least, lesser}
+use Rattle.lpc_procs.specs.Kept.{doomed_in, is_counted, is_doomed_row, is_watched, lesser_doomed, process_rows, told_in}
+use Rattle.lpc_procs.specs.Procs.{doomed_as, event_ports, event_ports_of, excepted, is_doomed, is_of_birth, least, lesser}
 use Rattle.lpc_procs.proofs.Counts.{lives-counted}
 
 -- two optional values as a list
@@ -97,23 +97,20 @@ excepted-watched p r = by (is_some p.row.debug_port)
     by false = refl
 
 -- where no port is told of exceptions, none of a birth is
-unwatched : {X : Type 0} (one other : Option X) → (is_some one || is_some other) ≡ false → option_to_list one ++ option_to_list other ≡ []
+pub unwatched : {X : Type 0} (one other : Option X) → (is_some one || is_some other) ≡ false → option_to_list one ++ option_to_list other ≡ []
 unwatched None None off = refl
 unwatched None (Some y) off = absurd (cc)
 unwatched (Some x) other off = absurd (cc)
 
-pub none-watched : (b : Birth) (ps : List Counted) → count is_watched ps ≡ 0 → has (has_event_port b) (process_rows ps) ≡ false
-none-watched b [] none = refl
-none-watched b (p ∷ ps) none =
-    let off : is_watched p ≡ false = grind arith in
-    let own : has_event_port b p.row ≡ false = ap (has (is_of_birth b)) (unwatched p.row.debug_port p.row.exception_port off) in
-    let rest : count is_watched ps ≡ 0 = grind (arith, off) in
-    grind (arith, own, none-watched b ps rest)
+-- all that are told, by the rows with their counts
+pub told-shown : (ps : List Counted) → told_in ps ≡ event_ports (process_rows ps)
+told-shown [] = refl
+told-shown (p ∷ ps) = ap (λ rs. event_ports_of p.row ++ rs) (told-shown ps)
 
-pub none-told : (b : Birth) (ps : List Counted) → count is_watched ps ≡ 0 → count (is_of_birth b) (event_ports (process_rows ps)) ≡ 0
+pub none-told : (b : Birth) (ps : List Counted) → count is_watched ps ≡ 0 → count (is_of_birth b) (told_in ps) ≡ 0
 none-told b [] none = refl
 none-told b (p ∷ ps) none =
     let off : is_watched p ≡ false = grind arith in
     let own = unwatched p.row.debug_port p.row.exception_port off in
     let rest : count is_watched ps ≡ 0 = grind (arith, off) in
-    ap (λ rs. count (is_of_birth b) (rs ++ event_ports (process_rows ps))) own ∙ none-told b ps rest
+    ap (λ rs. count (is_of_birth b) (rs ++ told_in ps)) own ∙ none-told b ps rest

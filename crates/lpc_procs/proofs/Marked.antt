@@ -3,7 +3,7 @@ use Rattle.std.proofs.Common.{◌≡◌, ◌+◌, ℕ, zero, suc, Bool, true, fa
 use Rattle.std.specs.Prelude.{◌==◌, ◌&&◌, filter, if◌then◌else◌, nat_lt, slice_get}
 use Rattle.std.proofs.lemmas.Bool.Decides.{nat_tests}
 use Rattle.lpc_base.specs.declared.birth.Birth.{Birth}
-use Rattle.lpc_base.specs.Rows.{count, first, has, when, without, without_first}
+use Rattle.lpc_base.specs.Rows.{change, count, each, first, has, when, without, without_first}
 use Rattle.lpc_base.proofs.Births.{birth-same}
 use Rattle.lpc_base.proofs.Bools.{number-turned}
 use Rattle.lpc_base.proofs.RowWords.{count-append, count-bound, count-push, none-counted}
@@ -12,28 +12,7 @@ use Rattle.lpc_numbers.specs.Tally.{Gains, Loses, Tally, count_in}
 use Rattle.lpc_procs.specs.declared.rows.Registration.{Registration}
 use Rattle.lpc_procs.specs.declared.rows.ThreadRow.{ThreadRow}
 use Rattle.lpc_procs.specs.Marks.{AreMarked, LosesAll, Remarks, is_marked, mark_of}
-use Rattle.lpc_procs.specs.Procs.{all_registrations, has_registered, is_of_birth, live_registrations, registered_live}
-
-abbrev marks_in : ℕ → List ThreadRow → ℕ
-marks_in n ts = count (is_marked n) (all_registrations ts)
-
-abbrev marks_by : ℕ → ThreadRow → ℕ
-marks_by n t = count (is_marked n) t.registered.items
-
--- ---- rows that change, come or go
-
-set-marks : (n : ℕ) (ts : List ThreadRow) (i : ℕ) (t u : ThreadRow) → slice_get ts i ≡ Some t → marks_in n (set ts i u) + marks_by n t ≡ marks_in n ts + marks_by n u
-set-marks n [] i t u here = absurd (cc)
-set-marks n (x ∷ ts) zero t u here =
-    let same : x ≡ t = cc in
-    omega (arith, ap (marks_by n) same, count-append (is_marked n) u.registered.items (all_registrations ts), count-append (is_marked n) x.registered.items (all_registrations ts))
-set-marks n (x ∷ ts) (suc i) t u here =
-    omega (arith, set-marks n ts i t u here, count-append (is_marked n) x.registered.items (all_registrations (set ts i u)), count-append (is_marked n) x.registered.items (all_registrations ts))
-
-pub marked-set : (ts : List ThreadRow) (i : ℕ) (t u : ThreadRow) → slice_get ts i ≡ Some t → (old new : Tally) → AreMarked (all_registrations ts) old → (new.whole ≡ true → Remarks t.registered.items u.registered.items old new) → AreMarked (all_registrations (set ts i u)) new
-marked-set ts i t u here old new marked remarks whole n =
-    let now = remarks whole in
-    omega (arith, now.counts n, marked now.whole n, set-marks n ts i t u here)
+use Rattle.lpc_procs.specs.Procs.{all_registrations, is_of_birth, live_registrations, registered_live}
 
 pub remarked : (rs : List Registration) (tally : Tally) → tally.whole ≡ true → Remarks rs rs tally tally
 remarked rs tally whole = record { whole = whole; counts = λ n. refl }
@@ -41,31 +20,70 @@ remarked rs tally whole = record { whole = whole; counts = λ n. refl }
 none-marked : (n : ℕ) (rs : List Registration) → length rs ≡ 0 → count (is_marked n) rs ≡ 0
 none-marked n rs none = omega (arith, none, count-bound (is_marked n) rs)
 
-push-marks : (n : ℕ) (ts : List ThreadRow) (t : ThreadRow) → marks_in n (ts ++ t ∷ []) ≡ marks_in n ts + marks_by n t
-push-marks n [] t = omega (arith, count-append (is_marked n) t.registered.items [])
-push-marks n (x ∷ ts) t =
-    omega (arith, push-marks n ts t, count-append (is_marked n) x.registered.items (all_registrations (ts ++ t ∷ [])), count-append (is_marked n) x.registered.items (all_registrations ts))
+-- ---- rows that change, come or go, each with its registrations
 
-pub marked-push : (ts : List ThreadRow) (t : ThreadRow) → t.registered.items ≡ [] → (tally : Tally) → AreMarked (all_registrations ts) tally → AreMarked (all_registrations (ts ++ t ∷ [])) tally
-marked-push ts t none tally marked whole n = omega (arith, marked whole n, push-marks n ts t, ap (count (is_marked n)) none)
+module _ {X : Type 0} (f : X → List Registration) where
+  abbrev marks_in : ℕ → List X → ℕ
+  marks_in n xs = count (is_marked n) (each f xs)
 
-gone-marks : (n : ℕ) (test : ThreadRow → Bool) (ts : List ThreadRow) (t : ThreadRow) → first test ts ≡ Some t → marks_in n (without_first test ts) + marks_by n t ≡ marks_in n ts
-gone-marks n test [] t found = absurd (cc)
-gone-marks n test (x ∷ ts) t found = by (test x) refl (gone-marks n test ts t)
-  where
-    by : (b : Bool) → test x ≡ b → (first test ts ≡ Some t → marks_in n (without_first test ts) + marks_by n t ≡ marks_in n ts) → marks_in n (without_first test (x ∷ ts)) + marks_by n t ≡ marks_in n (x ∷ ts)
-    by true on rest =
-        let here : Some x ≡ Some t = rw on at found in
-        let same : x ≡ t = cc in
-        rw (on, ← same) (omega (arith, count-append (is_marked n) x.registered.items (all_registrations ts)))
-    by false off rest =
-        let later = rest (rw off at found) in
-        rw off (omega (arith, later, count-append (is_marked n) x.registered.items (all_registrations (without_first test ts)), count-append (is_marked n) x.registered.items (all_registrations ts)))
+  abbrev marks_by : ℕ → X → ℕ
+  marks_by n x = count (is_marked n) (f x)
 
-pub marked-gone : (test : ThreadRow → Bool) (ts : List ThreadRow) (t : ThreadRow) → first test ts ≡ Some t → (old new : Tally) → AreMarked (all_registrations ts) old → new.entries ≡ old.entries → (new.whole ≡ true → (old.whole ≡ true) × (length t.registered.items ≡ 0)) → AreMarked (all_registrations (without_first test ts)) new
-marked-gone test ts t found old new marked entries lost whole n =
-    let both = lost whole in
-    omega (arith, ap (λ es. count_in es n) entries, marked both.0 n, gone-marks n test ts t found, none-marked n t.registered.items both.1)
+  sum : (n : ℕ) (x : X) (xs : List X) → marks_in n (x ∷ xs) ≡ marks_by n x + marks_in n xs
+  sum n x xs = count-append (is_marked n) (f x) (each f xs)
+
+  set-marks : (n : ℕ) (xs : List X) (i : ℕ) (x y : X) → slice_get xs i ≡ Some x → marks_in n (set xs i y) + marks_by n x ≡ marks_in n xs + marks_by n y
+  set-marks n [] i x y here = absurd (cc)
+  set-marks n (z ∷ xs) zero x y here =
+      let same : z ≡ x = cc in
+      omega (arith, ap (marks_by n) same, sum n y xs, sum n z xs)
+  set-marks n (z ∷ xs) (suc i) x y here = omega (arith, set-marks n xs i x y here, sum n z (set xs i y), sum n z xs)
+
+  pub marked-set : (xs : List X) (i : ℕ) (x y : X) → slice_get xs i ≡ Some x → (old new : Tally) → AreMarked (each f xs) old → (new.whole ≡ true → Remarks (f x) (f y) old new) → AreMarked (each f (set xs i y)) new
+  marked-set xs i x y here old new marked remarks whole n =
+      let now = remarks whole in
+      omega (arith, now.counts n, marked now.whole n, set-marks n xs i x y here)
+
+  push-marks : (n : ℕ) (xs : List X) (x : X) → marks_in n (xs ++ x ∷ []) ≡ marks_in n xs + marks_by n x
+  push-marks n [] x = omega (arith, sum n x [])
+  push-marks n (z ∷ xs) x = omega (arith, push-marks n xs x, sum n z (xs ++ x ∷ []), sum n z xs)
+
+  pub marked-push : (xs : List X) (x : X) → f x ≡ [] → (tally : Tally) → AreMarked (each f xs) tally → AreMarked (each f (xs ++ x ∷ [])) tally
+  marked-push xs x none tally marked whole n = omega (arith, marked whole n, push-marks n xs x, ap (count (is_marked n)) none)
+
+  gone-marks : (n : ℕ) (test : X → Bool) (xs : List X) (x : X) → first test xs ≡ Some x → marks_in n (without_first test xs) + marks_by n x ≡ marks_in n xs
+  gone-marks n test [] x found = absurd (cc)
+  gone-marks n test (z ∷ xs) x found = by (test z) refl (gone-marks n test xs x)
+    where
+      by : (b : Bool) → test z ≡ b → (first test xs ≡ Some x → marks_in n (without_first test xs) + marks_by n x ≡ marks_in n xs) → marks_in n (without_first test (z ∷ xs)) + marks_by n x ≡ marks_in n (z ∷ xs)
+      by true on rest =
+          let here : Some z ≡ Some x = rw on at found in
+          let same : z ≡ x = cc in
+          rw (on, ← same) (omega (arith, sum n z xs))
+      by false off rest =
+          let later = rest (rw off at found) in
+          rw off (omega (arith, later, sum n z (without_first test xs), sum n z xs))
+
+  pub marked-gone : (test : X → Bool) (xs : List X) (x : X) → first test xs ≡ Some x → (old new : Tally) → AreMarked (each f xs) old → new.entries ≡ old.entries → (new.whole ≡ true → (old.whole ≡ true) × (length (f x) ≡ 0)) → AreMarked (each f (without_first test xs)) new
+  marked-gone test xs x found old new marked entries lost whole n =
+      let both = lost whole in
+      omega (arith, ap (λ es. count_in es n) entries, marked both.0 n, gone-marks n test xs x found, none-marked n (f x) both.1)
+
+  pub each-unseen : (s : X → Bool) (g : X → X) → ((x : X) → f (g x) ≡ f x) → (xs : List X) → each f (change s g xs) ≡ each f xs
+  each-unseen s g same [] = refl
+  each-unseen s g same (x ∷ xs) = at (s x) ∙ ap (λ rs. f x ++ rs) (each-unseen s g same xs)
+    where
+      at : (b : Bool) → f (cond b (g x) x) ++ each f (change s g xs) ≡ f x ++ each f (change s g xs)
+      at true = ap (λ rs. rs ++ each f (change s g xs)) (same x)
+      at false = refl
+
+  -- where none of them is of a port, no row has one of that port
+  pub none-has : (b : Birth) (xs : List X) → count (is_of_birth b) (each f xs) ≡ 0 → has (λ x. has (is_of_birth b) (f x)) xs ≡ false
+  none-has b [] none = refl
+  none-has b (x ∷ xs) none =
+      let all = count-append (is_of_birth b) (f x) (each f xs) in
+      let own = none-counted (is_of_birth b) (f x) (omega (arith, all, none)) in
+      grind (arith, own, none-has b xs (omega (arith, all, none)))
 
 -- ---- a registration comes, and those of a port go
 
@@ -145,19 +163,9 @@ unmarked b rs none =
     by true is left = omega (arith, left, none)
     by false is left = absurd (cc)
 
-pub none-of : (b : Birth) (rs : List Registration) → length rs ≡ 0 → count (is_of_birth b) rs ≡ 0
-none-of b rs none = omega (arith, none, count-bound (is_of_birth b) rs)
-
 live-counts : {X : Type 0} (p : X → Bool) (xs : List X) (live : Bool) → count p xs ≡ 0 → count p (when live xs) ≡ 0
 live-counts p xs true none = none
 live-counts p xs false none = refl
-
-pub none-registered : (b : Birth) (ts : List ThreadRow) → count (is_of_birth b) (all_registrations ts) ≡ 0 → has (has_registered b) ts ≡ false
-none-registered b [] none = refl
-none-registered b (t ∷ ts) none =
-    let sum = count-append (is_of_birth b) t.registered.items (all_registrations ts) in
-    let own = none-counted (is_of_birth b) t.registered.items (omega (arith, sum, none)) in
-    grind (arith, own, none-registered b ts (omega (arith, sum, none)))
 
 pub none-registered_to : (b : Birth) (ts : List ThreadRow) → count (is_of_birth b) (all_registrations ts) ≡ 0 → count (is_of_birth b) (live_registrations ts) ≡ 0
 none-registered_to b [] none = refl
@@ -174,3 +182,24 @@ pub lost-none : (whole : Bool) (rs : List Registration) (lost now : Bool) → no
 lost-none whole rs lost now is none still =
     let both = kept-whole whole lost (sym is ∙ still) in
     (both.0, none both.1)
+
+-- ---- the ports that are told of a process's exceptions
+
+module _ (old mid new : Tally) where
+  -- in place of the first registrations or of the last comes another
+  pub remarks-front : (were others : List Registration) (r : Registration) → Remarks were [] old mid → Gains (mark_of r.birth) mid new → Remarks (were ++ others) (r ∷ others) old new
+  remarks-front were others r less more = record {
+    whole = less.whole;
+    counts = λ n. omega (arith, less.counts n, more.counts n, count-append (is_marked n) were others, count-append (is_marked n) (r ∷ []) others, count-push (is_marked n) [] r, ap {B = ℕ} (λ b. cond b 1 0) (number-turned (mark_of r.birth) n));
+  }
+
+  pub remarks-back : (others were : List Registration) (r : Registration) → Remarks were [] old mid → Gains (mark_of r.birth) mid new → Remarks (others ++ were) (others ++ r ∷ []) old new
+  remarks-back others were r less more = record {
+    whole = less.whole;
+    counts = λ n. omega (arith, less.counts n, more.counts n, count-append (is_marked n) others were, count-push (is_marked n) others r, ap {B = ℕ} (λ b. cond b 1 0) (number-turned (mark_of r.birth) n));
+  }
+
+  pub remarks-none : (front back : List Registration) → (mid.whole ≡ true → Remarks front [] old mid) → Remarks back [] mid new → Remarks (front ++ back) [] old new
+  remarks-none front back one other =
+      let first = one other.whole in
+      record { whole = first.whole; counts = λ n. omega (arith, first.counts n, other.counts n, count-append (is_marked n) front back) }

@@ -11,13 +11,14 @@ use Rattle.lpc_slots.specs.Table.{Table, at, listed}
 use Rattle.lpc_procs.specs.declared.rows.Counted.{Counted}
 use Rattle.lpc_procs.specs.declared.rows.Doomed.{Doomed}
 use Rattle.lpc_procs.specs.declared.rows.ProcessRow.{ProcessRow}
+use Rattle.lpc_procs.specs.declared.rows.Registration.{Registration}
 use Rattle.lpc_procs.specs.declared.rows.ThreadRow.{ThreadRow}
 use Rattle.lpc_procs.specs.declared.rows.UsedThread.{UsedThread}
 use Rattle.lpc_procs.specs.declared.keys.Use.{Use}
 use Rattle.lpc_procs.specs.declared.members.Member.{Member}
 use Rattle.lpc_procs.specs.Marks.{AreMarked}
 use Rattle.lpc_procs.specs.Members.{Members, is_of_process}
-use Rattle.lpc_procs.specs.Procs.{all_registrations, doomed_as, is_made_by, is_process, is_process_born, is_thread, is_used_thread, lives_in}
+use Rattle.lpc_procs.specs.Procs.{all_registrations, doomed_as, event_ports_of, is_made_by, is_process, is_process_born, is_thread, is_used_thread, lives_in}
 
 -- the rows of a table, in the order of making
 abbrev pub rows_in : {T : Type 0} → Table T → List T
@@ -130,6 +131,13 @@ doomed_in p = if is_doomed_row p then Some (doomed_as p.row) else None
 abbrev pub is_watched : Counted → Bool
 is_watched p = is_some p.row.debug_port || is_some p.row.exception_port
 
+-- the ports that are told of the exceptions of a process, and of all processes
+abbrev pub told_by : Counted → List Registration
+told_by p = event_ports_of p.row
+
+abbrev pub told_in : List Counted → List Registration
+told_in processes = each told_by processes
+
 -- of two that are to end the one of the lesser number
 abbrev pub lesser_doomed : Option Doomed → Option Doomed → Option Doomed
 lesser_doomed None other = other
@@ -216,8 +224,9 @@ abbrev pub rows_of : List ThreadRow → List Member → List ThreadRow
 rows_of threads members = each (λ m. option_to_list (first (is_thread m.thread) threads)) members
 
 -- What the tables keep: all that, how many live processes are to end, of how many a port is told of exceptions,
--- how many live processes each made, which threads are of each, and how many registrations there are of each mark.
-pub record IsStored (processes : Table Counted) (threads : Table ThreadRow) (used_processes : List (ℕ × Key)) (used_threads : List (ℕ × Use)) (process_names thread_names : Named) (alive registered dooms watched : ℕ) (children : Tally) (members : Members) (marks : Tally) : Type 0 where
+-- how many live processes each made, which threads are of each, and how many registrations there are of each
+-- mark, and how many ports that are told of exceptions.
+pub record IsStored (processes : Table Counted) (threads : Table ThreadRow) (used_processes : List (ℕ × Key)) (used_threads : List (ℕ × Use)) (process_names thread_names : Named) (alive registered dooms watched : ℕ) (children : Tally) (members : Members) (marks told_marks : Tally) : Type 0 where
   pub all : AreKept (rows_in processes) (rows_in threads) (numbers used_processes) (used_rows used_threads) alive registered
   pub found : AreFound processes threads used_processes used_threads process_names thread_names
   pub doomed : dooms ≡ count is_doomed_row (rows_in processes)
@@ -225,3 +234,4 @@ pub record IsStored (processes : Table Counted) (threads : Table ThreadRow) (use
   pub tallied : AreTallied (rows_in processes) children
   pub grouped : AreGrouped (rows_in threads) members
   pub marked : AreMarked (all_registrations (rows_in threads)) marks
+  pub told_marked : AreMarked (told_in (rows_in processes)) told_marks

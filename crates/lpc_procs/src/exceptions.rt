@@ -79,8 +79,8 @@ pub fn event_ports_to(rows: &Slots<Counted>, birth: Birth) -> usize
     named
 }
 
-// A port is told of the process's exceptions.
-fn is_watched(p: &Counted) -> bool
+/// A port is told of the process's exceptions.
+pub fn is_watched(p: &Counted) -> bool
     ensures { result ≡ is_watched p.now }
 {
     p.row.debug_port.is_some() || p.row.exception_port.is_some()

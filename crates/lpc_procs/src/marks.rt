@@ -1,8 +1,9 @@
 // Numbers by which names are told apart, and counts of them.
-ghost use Rattle.std.specs.Prelude.{◌≡◌, true};
+ghost use Rattle.std.specs.Prelude.{◌≡◌, [], option_to_list, true};
 ghost use Rattle.lpc_procs.specs.Marks as marks;
-ghost use Rattle.lpc_procs.specs.Marks.{LosesAll};
+ghost use Rattle.lpc_procs.specs.Marks.{LosesAll, Remarks};
 
+use crate::Registration;
 use lpc_base::Birth;
 use lpc_numbers::Tally;
 
@@ -20,5 +21,14 @@ pub fn take_all(tally: &mut Tally, mark: u32, many: usize)
 {
     for _ in 0..many {
         tally.take(mark);
+    }
+}
+
+/// There is one less of the mark of the port's name, where there is a port.
+pub fn unmark(tally: &mut Tally, port: Option<Registration>)
+    ensures { tally.new.whole ≡ true → Remarks (option_to_list port) [] tally.old tally.new }
+{
+    if let Some(r) = port {
+        tally.take(mark_of(r.birth));
     }
 }

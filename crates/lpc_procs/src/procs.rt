@@ -22,14 +22,18 @@ use lpc_slots::{Key, Slots};
 use std::alloc::Global;
 use std::marker::Model;
 
+// For so many marks of ports there is room beside one for each thread, and for each process: one thread may register
+// several ports.
+const SPARE_MARKS: usize = 64;
+
 /// The processes and threads of a machine, and every number that was ever used for one.
 ///
 /// A number is used once. It stays used when the row of its process or thread goes, so no number names two things in
 /// a run. Contracts see the rows in order of making, the used numbers, and the room; they don't see the keys under which
 /// rows stand, the maps by which a number or a name leads to its row, nor the counts that are kept: of live threads, of
-/// those of each process, of registrations and of those of each mark, of live processes that are to end, of processes of
-/// whose exceptions a port is told, and of the live processes that each made; nor that the threads of each process stand
-/// together once more, so that one of them is found without a look at the others.
+/// those of each process, of registrations, of live processes that are to end, of processes of whose exceptions a port
+/// is told, of registrations and of such ports by the marks of their names, and of the live processes that each made; nor
+/// that the threads of each process stand together once more, so that one of them is found without a look at the others.
 pub struct Procs {
     processes: Slots<Counted>,
     threads: Slots<ThreadRow>,
@@ -44,6 +48,7 @@ pub struct Procs {
     children: Tally,
     members: Members,
     marks: Tally,
+    told_marks: Tally,
 }
 
 impl Model for Procs {
@@ -63,7 +68,7 @@ impl Model for Procs {
       thread_room = min s.threads.spare (min s.thread_names.room s.used_threads.room);
     } };
 
-    ghost invariant = { λ s. IsStored s.processes s.threads s.used_processes.entries s.used_threads.entries s.process_names s.thread_names s.alive s.registered s.dooms s.watched s.children s.members s.marks };
+    ghost invariant = { λ s. IsStored s.processes s.threads s.used_processes.entries s.used_threads.entries s.process_names s.thread_names s.alive s.registered s.dooms s.watched s.children s.members s.marks s.told_marks };
 }
 
 // Written out, so that a proof about what holds these tables lets them go in one step, and not map by map.
@@ -83,6 +88,7 @@ impl Drop for Procs {
             children: _,
             members: _,
             marks: _,
+            told_marks: _,
         } = self;
     }
 }
@@ -106,6 +112,7 @@ impl Procs {
             children: Tally::new(alloc),
             members: Members::new(alloc),
             marks: Tally::new(alloc),
+            told_marks: Tally::new(alloc),
         }
     }
 
@@ -136,11 +143,13 @@ impl Procs {
         self.process_names
             .reserve(processes, self.processes.count())?;
         self.used_processes.reserve(processes)?;
-        self.children
-            .promise(self.processes.count().saturating_add(processes));
+        let all_processes = self.processes.count().saturating_add(processes);
+        let all_threads = self.threads.count().saturating_add(threads);
+        self.children.promise(all_processes);
+        self.told_marks
+            .promise(all_processes.saturating_add(SPARE_MARKS));
         self.members.promise(threads);
-        self.marks
-            .promise(self.threads.count().saturating_add(threads));
+        self.marks.promise(all_threads.saturating_add(SPARE_MARKS));
         self.threads.reserve(threads)?;
         self.thread_names.reserve(threads, self.threads.count())?;
         self.used_threads.reserve(threads)

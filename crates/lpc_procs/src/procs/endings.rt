@@ -80,6 +80,7 @@ impl Procs {
                 self.dooms -= exceptions::doomed_count(&process);
                 self.watched -= exceptions::watched_count(&process);
                 self.children.give_up_if(births::is_peopled(&process));
+                self.told_marks.give_up_if(exceptions::is_watched(&process));
                 self.process_names.remove_name(birth);
                 true
             }

@@ -5,6 +5,7 @@ ghost use Rattle.lpc_procs.specs.Procs.{debugged, doomed, event_ports, excepted,
 
 use crate::exceptions::Told;
 use crate::keys::process_key;
+use crate::marks::{mark_of, unmark};
 use crate::procs::Procs;
 use crate::searches::first_row;
 use crate::{Doomed, Registration, exceptions};
@@ -50,6 +51,8 @@ impl Procs {
         {
             Some(process) => {
                 let others = self.watched - exceptions::watched_count(process);
+                unmark(&mut self.told_marks, process.row.debug_port);
+                self.told_marks.add(mark_of(birth));
                 process.row.debug_port = Some(Registration { port, birth });
                 self.watched = others + 1;
             }
@@ -69,6 +72,8 @@ impl Procs {
         {
             Some(process) => {
                 let others = self.watched - exceptions::watched_count(process);
+                unmark(&mut self.told_marks, process.row.exception_port);
+                self.told_marks.add(mark_of(birth));
                 process.row.exception_port = Some(Registration { port, birth });
                 self.watched = others + 1;
             }
@@ -87,6 +92,8 @@ impl Procs {
         {
             Some(process) => {
                 let others = self.watched - exceptions::watched_count(process);
+                unmark(&mut self.told_marks, process.row.debug_port);
+                unmark(&mut self.told_marks, process.row.exception_port);
                 process.row.debug_port = None;
                 process.row.exception_port = None;
                 self.watched = others;
@@ -117,7 +124,7 @@ impl Procs {
     pub fn is_event_port(&self, birth: Birth) -> bool
         ensures told { result ≡ has (has_event_port birth) self.now.processes }
     {
-        if self.watched == 0 {
+        if self.is_unheard(birth) {
             return false;
         }
         first_row(&self.processes, &Told { birth }).is_some()
@@ -128,10 +135,23 @@ impl Procs {
         ensures count { result ≡ count (is_of_birth birth) (event_ports self.now.processes) }
         ensures bound { result ≤ 2 * length self.now.processes }
     {
-        if self.watched == 0 {
+        if self.is_unheard(birth) {
             return 0;
         }
         exceptions::event_ports_to(&self.processes, birth)
+    }
+
+    // The port with a birth is told of no process's exceptions, as the counts tell.
+    fn is_unheard(&self, birth: Birth) -> bool
+        ensures { result ≡ true → count (is_of_birth birth) (event_ports self.now.processes) ≡ 0 }
+    {
+        if self.watched == 0 {
+            return true;
+        }
+        match self.told_marks.of(mark_of(birth)) {
+            Some(count) => count == 0,
+            None => false,
+        }
     }
 
     /// Of the processes that are to end and are live the one of the least number, with its code: None exactly where there
