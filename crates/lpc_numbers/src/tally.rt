@@ -45,6 +45,14 @@ impl Tally {
         }
     }
 
+    /// Makes room for the counts of so many further numbers, where there is memory.
+    pub fn promise_more(&mut self, numbers: usize)
+        ensures { self.new ≡ self.old }
+    {
+        // A number that finds no room later leaves the tally unfinished.
+        let _ = self.counts.reserve(numbers);
+    }
+
     /// There is one more of the number. It takes no memory.
     pub fn add(&mut self, number: u32)
         ensures { self.new.whole ≡ true → Gains number self.old self.new }

@@ -1,3 +1,4 @@
 pub mod Lent
 pub mod Lends
 pub mod Suspected
+pub mod PortNames

@@ -41,12 +41,12 @@ mod tokens;
 mod views;
 
 use crate::marks::Marks;
+use crate::port_names::PortNames;
 use crate::suspected_lives::SuspectedLives;
 use crate::suspects::Suspects;
 use lpc_base::{Birth, OutOfMemory, PortKind};
 use lpc_handles::TableFault;
 use lpc_homes::{Object, Parts};
-use lpc_names::Names;
 use lpc_ports::{Creator, Message, Ports};
 use lpc_procs::Procs;
 use lpc_sections::Section;
@@ -67,7 +67,7 @@ pub struct World {
     parts: Parts,
     ports: Ports,
     waits: Waits,
-    names: Names<Key>,
+    names: PortNames,
     sections: Slots<Section>,
     tokens: Slots<TokenRow>,
     token_names: TokenNames,
@@ -132,7 +132,7 @@ impl World {
             parts: Parts::new(alloc),
             ports: Ports::new(alloc),
             waits: Waits::new(alloc),
-            names: Names::new(alloc),
+            names: PortNames::new(alloc),
             sections: Slots::new(alloc),
             tokens: Slots::new(alloc),
             token_names: TokenNames::new(alloc),

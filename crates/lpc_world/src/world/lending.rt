@@ -102,7 +102,7 @@ impl World {
             ≡ shown_in self.now shown_binding result.now.bindings }
         ensures stand { all_stand self.now binding_refs result.now.bindings ≡ true }
     {
-        &self.names
+        self.names.list()
     }
 
     /// The handles and the views of each process. Places go from 0 in the order in which the processes were made; a part
