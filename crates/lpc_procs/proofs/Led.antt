@@ -1,9 +1,11 @@
 -- What numbers and names lead to, and what a further number leaves of that.
-use Rattle.std.proofs.Common.{◌≡◌, ◌+◌, ◌≤◌, ℕ, Bool, true, false, cond, not, refl, sym, ap, subst, ◌∙◌, arith, List, [], ◌∷◌, ◌++◌, Option, Some, None, is_some, map, option_map}
-use Rattle.std.specs.Prelude.{nat_lt, ◌<◌, ◌==◌, ◌&&◌}
+use Rattle.std.proofs.Common.{◌≡◌, ◌+◌, ◌≤◌, ℕ, Bool, true, false, cond, not, refl, sym, ap, subst, ◌∙◌, arith, List, [], ◌∷◌, ◌++◌, Option, Some, None, is_some, length, map, option_map}
+use Rattle.std.specs.Prelude.{nat_lt, ◌<◌, ◌^◌, ◌==◌, ◌&&◌, unwrap_or}
+use Rattle.std.specs.List.{position}
 use Rattle.std.proofs.lemmas.Bool.Decides.{nat_tests}
 use Rattle.std.proofs.lemmas.Bool.{lt-ltb}
-use Rattle.std.proofs.lemmas.List.{length-append}
+use Rattle.std.proofs.lemmas.List.{length-append, length-map}
+use Rattle.std.proofs.lemmas.List.Sums.{prefix_len-le-length}
 use Rattle.lpc_base.specs.declared.birth.Birth.{Birth}
 use Rattle.lpc_base.specs.Births.{same_birth}
 use Rattle.lpc_base.specs.Rows.{count, first, has, without_first}
@@ -12,12 +14,12 @@ use Rattle.lpc_base.proofs.Differ.{differ-push}
 use Rattle.lpc_base.proofs.RowMaps.{count-map, push-map, without_first-map}
 use Rattle.lpc_base.proofs.RowWords.{every-push, every-true}
 use Rattle.lpc_numbers.specs.Named.{AreNamed, Forgets, Named, Takes, is_named, number_in, number_named}
-use Rattle.lpc_numbers.specs.Numbered.{is_at, value_at}
+use Rattle.lpc_numbers.specs.Numbered.{is_at, numbers, value_at}
 use Rattle.lpc_numbers.proofs.Names.{named-push, named-without}
 use Rattle.lpc_slots.specs.declared.Key.{Key}
 use Rattle.lpc_slots.specs.Table.{Table, at}
 use Rattle.lpc_procs.specs.declared.keys.Use.{Use}
-use Rattle.lpc_procs.specs.Kept.{AreKeyed, AreUsed, key_or, process_key, rows_in, thread_key}
+use Rattle.lpc_procs.specs.Kept.{AreKeyed, AreUsed, key_or, process_key, rank_of, rows_in, thread_key}
 use Rattle.lpc_procs.proofs.Few.{few_by}
 use Rattle.lpc_procs.proofs.Gone.{without-one}
 use Rattle.lpc_procs.proofs.Keyed.{stands-keyed}
@@ -52,6 +54,21 @@ thread-key-push tid u ut new m = ap (λ o. key_or (option_map (λ (x : Use). x.k
     by true = refl
     by false = refl
 
+pub rank-low : (pid : ℕ) (up : List (ℕ × Key)) → rank_of up pid ≤ length up
+rank-low pid up = prefix_len-le-length (λ e. not (is_at pid e)) up
+
+-- the rank of a process: as it is looked up, and once a further number is used
+pub rank-is : (pid : ℕ) (up : List (ℕ × Key)) → unwrap_or (position (is_at pid) up) (length up) ≡ rank_of up pid
+rank-is pid up = at (nat_lt (rank_of up pid) (length up)) refl
+  where
+    at : (b : Bool) → nat_lt (rank_of up pid) (length up) ≡ b → unwrap_or (cond b (Some (rank_of up pid)) None) (length up) ≡ rank_of up pid
+    at true within = refl
+    at false out = grind (arith, nat_tests, rank-low pid up)
+
+pub rank-push : (pid n : ℕ) (k : Key) (up : List (ℕ × Key)) → has (is_at pid) up ≡ true → rank_of (up ++ (n, k) ∷ []) pid ≡ rank_of up pid
+rank-push pid n k [] used = absurd (cc)
+rank-push pid n k (e ∷ up) used = grind (arith, rank-push pid n k up)
+
 -- a further number
 pub used-push : (made n : ℕ) (ns : List ℕ) → AreUsed made ns → has (λ m. m == n) ns ≡ false → n < 2147483648 → AreUsed (made + 1) (ns ++ n ∷ [])
 used-push made n ns used new within = record {
@@ -62,6 +79,9 @@ used-push made n ns used new within = record {
 
 pub made-few : (made : ℕ) (ns : List ℕ) → AreUsed made ns → made ≤ 2147483648
 made-few made ns used = omega (arith, used.each, few_by (λ m. m) 2147483648 ns used.differ used.low)
+
+pub used-few : {V : Type 0} (made : ℕ) (es : List (ℕ × V)) → AreUsed made (numbers es) → length es < 2 ^ 32
+used-few {V} made es used = omega (arith, used.each, made-few made (numbers es) used, length-map es (λ (e : ℕ × V). e.0))
 
 -- what a name leads to
 module _ {T : Type 0} (number : T → ℕ) (birth : T → Birth) where

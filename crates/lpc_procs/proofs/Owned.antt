@@ -3,55 +3,76 @@ use Rattle.std.proofs.Common.{◌≡◌, ℕ, inl, inr, Bool, true, false, cond,
 use Rattle.std.specs.Prelude.{◌==◌, if◌then◌else◌}
 use Rattle.std.proofs.lemmas.Bool.Decides.{nat_tests}
 use Rattle.std.proofs.lemmas.Bool.{cases_Bool}
-use Rattle.lpc_base.specs.Rows.{change, first, has, which, without_first}
+use Rattle.lpc_base.specs.Rows.{change, every, first, has, which, without_first}
 use Rattle.lpc_procs.specs.declared.members.Member.{Member}
 use Rattle.lpc_procs.specs.declared.rows.ThreadRow.{ThreadRow}
-use Rattle.lpc_procs.specs.Kept.{AreGrouped, PassesOnly, are_single, is_in, member_of, rows_of}
-use Rattle.lpc_procs.specs.Members.{Enters, Members, is_member, is_of_process}
+use Rattle.lpc_procs.specs.Kept.{AreGrouped, PassesOnly, are_single, is_in, is_ranked, member_of, rows_of}
+use Rattle.lpc_procs.specs.Members.{Enters, Members, is_member, is_of_rank}
 use Rattle.lpc_procs.specs.Procs.{is_thread}
 use Rattle.lpc_procs.proofs.Keeping.{KeepsNumbers}
 
-abbrev of_threads : ℕ → List ThreadRow → List Member
-of_threads pid ts = map member_of (which (is_in pid) ts)
+module _ (rank : ℕ → ℕ) where
+  abbrev of_threads : ℕ → List ThreadRow → List Member
+  of_threads n ts = map (member_of rank) (which (is_ranked rank n) ts)
 
--- ---- a thread changes
+  -- ---- a thread changes
 
-same-member : (f : ThreadRow → ThreadRow) → KeepsNumbers f → (t : ThreadRow) → member_of (f t) ≡ member_of t
-same-member f keeps t i = record { process = keeps.process t i; thread = keeps.number t i }
+  same-member : (f : ThreadRow → ThreadRow) → KeepsNumbers f → (t : ThreadRow) → member_of rank (f t) ≡ member_of rank t
+  same-member f keeps t i = record { rank = rank (keeps.process t i); thread = keeps.number t i }
 
-of-change : (test : ThreadRow → Bool) (f : ThreadRow → ThreadRow) → KeepsNumbers f → (pid : ℕ) (ts : List ThreadRow) → of_threads pid (change test f ts) ≡ of_threads pid ts
-of-change test f keeps pid [] = refl
-of-change test f keeps pid (t ∷ ts) = at (test t) (of-change test f keeps pid ts)
+  of-change : (test : ThreadRow → Bool) (f : ThreadRow → ThreadRow) → KeepsNumbers f → (n : ℕ) (ts : List ThreadRow) → of_threads n (change test f ts) ≡ of_threads n ts
+  of-change test f keeps n [] = refl
+  of-change test f keeps n (t ∷ ts) = at (test t) (of-change test f keeps n ts)
+    where
+      by : (b : Bool) (x y : ThreadRow) → member_of rank x ≡ member_of rank y → of_threads n (change test f ts) ≡ of_threads n ts → map (member_of rank) (cond b (x ∷ which (is_ranked rank n) (change test f ts)) (which (is_ranked rank n) (change test f ts))) ≡ map (member_of rank) (cond b (y ∷ which (is_ranked rank n) ts) (which (is_ranked rank n) ts))
+      by true x y same rest = λ i. same i ∷ rest i
+      by false x y same rest = rest
+
+      at : (b : Bool) → of_threads n (change test f ts) ≡ of_threads n ts → of_threads n (cond b (f t) t ∷ change test f ts) ≡ of_threads n (t ∷ ts)
+      at true rest = ap (λ p. map (member_of rank) (cond (rank p == n) (f t ∷ which (is_ranked rank n) (change test f ts)) (which (is_ranked rank n) (change test f ts)))) (keeps.process t) ∙ by (is_ranked rank n t) (f t) t (same-member f keeps t) rest
+      at false rest = by (is_ranked rank n t) t t refl rest
+
+  pub grouped-change : (test : ThreadRow → Bool) (f : ThreadRow → ThreadRow) → KeepsNumbers f → (ts : List ThreadRow) (members : Members) → AreGrouped rank ts members → AreGrouped rank (change test f ts) members
+  grouped-change test f keeps ts members grouped whole n = grouped whole n ∙ sym (of-change test f keeps n ts)
+
+  -- ---- a thread comes
+
+  abbrev one_of : ℕ → ThreadRow → List Member
+  one_of n t = if n == rank t.process then member_of rank t ∷ [] else []
+
+  of-push : (n : ℕ) (t : ThreadRow) (ts : List ThreadRow) → of_threads n (ts ++ t ∷ []) ≡ of_threads n ts ++ one_of n t
+  of-push n t [] = at (n == rank t.process) refl
+    where
+      at : (b : Bool) → (n == rank t.process) ≡ b → of_threads n (t ∷ []) ≡ (if b then member_of rank t ∷ [] else [])
+      at true is = let on : is_ranked rank n t ≡ true = grind (arith, nat_tests) in rw on refl
+      at false off = let other : is_ranked rank n t ≡ false = grind (arith, nat_tests) in rw other refl
+  of-push n t (x ∷ ts) = at (is_ranked rank n x) (of-push n t ts)
+    where
+      at : (b : Bool) → of_threads n (ts ++ t ∷ []) ≡ of_threads n ts ++ one_of n t → map (member_of rank) (cond b (x ∷ which (is_ranked rank n) (ts ++ t ∷ [])) (which (is_ranked rank n) (ts ++ t ∷ []))) ≡ map (member_of rank) (cond b (x ∷ which (is_ranked rank n) ts) (which (is_ranked rank n) ts)) ++ one_of n t
+      at true rest = ap (λ rows. member_of rank x ∷ rows) rest
+      at false rest = rest
+
+  pub grouped-push : (ts : List ThreadRow) (t : ThreadRow) (old new : Members) → AreGrouped rank ts old → (new.whole ≡ true → Enters (rank t.process) t.number old new) → AreGrouped rank (ts ++ t ∷ []) new
+  grouped-push ts t old new grouped enters whole n =
+      let entered = enters whole in
+      entered.rows n ∙ ap (λ rows. rows ++ one_of n t) (grouped entered.whole n) ∙ sym (of-push n t ts)
+
+-- ---- a process comes
+
+-- ranks that are the same for all threads
+same-ranks : (old new : ℕ → ℕ) (same : (t : ThreadRow) → Bool) → ((t : ThreadRow) → same t ≡ true → new t.process ≡ old t.process) → (n : ℕ) (ts : List ThreadRow) → every same ts ≡ true → of_threads old n ts ≡ of_threads new n ts
+same-ranks old new same keeps n [] all = refl
+same-ranks old new same keeps n (t ∷ ts) all = at (keeps t (grind arith)) (same-ranks old new same keeps n ts (grind arith))
   where
-    by : (b : Bool) (x y : ThreadRow) → member_of x ≡ member_of y → of_threads pid (change test f ts) ≡ of_threads pid ts → map member_of (cond b (x ∷ which (is_in pid) (change test f ts)) (which (is_in pid) (change test f ts))) ≡ map member_of (cond b (y ∷ which (is_in pid) ts) (which (is_in pid) ts))
-    by true x y same rest = λ i. same i ∷ rest i
-    by false x y same rest = rest
+    by : (b : Bool) → new t.process ≡ old t.process → of_threads old n ts ≡ of_threads new n ts → map (member_of old) (cond b (t ∷ which (is_ranked old n) ts) (which (is_ranked old n) ts)) ≡ map (member_of new) (cond b (t ∷ which (is_ranked new n) ts) (which (is_ranked new n) ts))
+    by true rank rest = λ i. record { rank = sym rank i; thread = t.number } ∷ rest i
+    by false rank rest = rest
 
-    at : (b : Bool) → of_threads pid (change test f ts) ≡ of_threads pid ts → of_threads pid (cond b (f t) t ∷ change test f ts) ≡ of_threads pid (t ∷ ts)
-    at true rest = ap (λ p. map member_of (cond (p == pid) (f t ∷ which (is_in pid) (change test f ts)) (which (is_in pid) (change test f ts)))) (keeps.process t) ∙ by (is_in pid t) (f t) t (same-member f keeps t) rest
-    at false rest = by (is_in pid t) t t refl rest
+    at : new t.process ≡ old t.process → of_threads old n ts ≡ of_threads new n ts → of_threads old n (t ∷ ts) ≡ of_threads new n (t ∷ ts)
+    at rank rest = by (is_ranked old n t) rank rest ∙ sym (ap (λ r. map (member_of new) (cond (r == n) (t ∷ which (is_ranked new n) ts) (which (is_ranked new n) ts))) rank)
 
-pub grouped-change : (test : ThreadRow → Bool) (f : ThreadRow → ThreadRow) → KeepsNumbers f → (ts : List ThreadRow) (members : Members) → AreGrouped ts members → AreGrouped (change test f ts) members
-grouped-change test f keeps ts members grouped whole pid = grouped whole pid ∙ sym (of-change test f keeps pid ts)
-
--- ---- a thread comes
-
-of-push : (pid : ℕ) (t : ThreadRow) (ts : List ThreadRow) → of_threads pid (ts ++ t ∷ []) ≡ of_threads pid ts ++ (if pid == t.process then member_of t ∷ [] else [])
-of-push pid t [] = at (pid == t.process) refl
-  where
-    at : (b : Bool) → (pid == t.process) ≡ b → of_threads pid (t ∷ []) ≡ (if b then member_of t ∷ [] else [])
-    at true is = let on : is_in pid t ≡ true = grind (arith, nat_tests) in rw on refl
-    at false off = let other : is_in pid t ≡ false = grind (arith, nat_tests) in rw other refl
-of-push pid t (x ∷ ts) = at (is_in pid x) (of-push pid t ts)
-  where
-    at : (b : Bool) → of_threads pid (ts ++ t ∷ []) ≡ of_threads pid ts ++ (if pid == t.process then member_of t ∷ [] else []) → map member_of (cond b (x ∷ which (is_in pid) (ts ++ t ∷ [])) (which (is_in pid) (ts ++ t ∷ []))) ≡ map member_of (cond b (x ∷ which (is_in pid) ts) (which (is_in pid) ts)) ++ (if pid == t.process then member_of t ∷ [] else [])
-    at true rest = ap (λ rows. member_of x ∷ rows) rest
-    at false rest = rest
-
-pub grouped-push : (ts : List ThreadRow) (t : ThreadRow) (old new : Members) → AreGrouped ts old → (new.whole ≡ true → Enters t.process t.number old new) → AreGrouped (ts ++ t ∷ []) new
-grouped-push ts t old new grouped enters whole pid =
-    let entered = enters whole in
-    entered.rows pid ∙ ap (λ rows. rows ++ (if pid == t.process then member_of t ∷ [] else [])) (grouped entered.whole pid) ∙ sym (of-push pid t ts)
+pub grouped-ranks : (old new : ℕ → ℕ) (same : (t : ThreadRow) → Bool) → ((t : ThreadRow) → same t ≡ true → new t.process ≡ old t.process) → (ts : List ThreadRow) → every same ts ≡ true → (members : Members) → AreGrouped old ts members → AreGrouped new ts members
+grouped-ranks old new same keeps ts all members grouped whole n = grouped whole n ∙ same-ranks old new same keeps n ts all
 
 -- ---- a thread goes
 
@@ -79,21 +100,21 @@ module _ {X : Type 0} (p test : X → Bool) where
           by true rest = ap (λ rows. x ∷ rows) rest
           by false rest = rest
 
-module _ (t : ThreadRow) where
+module _ (rank : ℕ → ℕ) (t : ThreadRow) where
   -- the thread by its numbers, among the members and among the threads
   abbrev it : Member → Bool
-  it = is_member t.process t.number
+  it = is_member (rank t.process) t.number
 
   abbrev its_row : ThreadRow → Bool
-  its_row u = it (member_of u)
+  its_row u = it (member_of rank u)
 
-  gone-map : (us : List ThreadRow) → without_first it (map member_of us) ≡ map member_of (without_first its_row us)
+  gone-map : (us : List ThreadRow) → without_first it (map (member_of rank) us) ≡ map (member_of rank) (without_first its_row us)
   gone-map [] = refl
   gone-map (u ∷ us) = at (its_row u) (gone-map us)
     where
-      at : (b : Bool) → without_first it (map member_of us) ≡ map member_of (without_first its_row us) → cond b (map member_of us) (member_of u ∷ without_first it (map member_of us)) ≡ map member_of (cond b us (u ∷ without_first its_row us))
+      at : (b : Bool) → without_first it (map (member_of rank) us) ≡ map (member_of rank) (without_first its_row us) → cond b (map (member_of rank) us) (member_of rank u ∷ without_first it (map (member_of rank) us)) ≡ map (member_of rank) (cond b us (u ∷ without_first its_row us))
       at true rest = refl
-      at false rest = ap (λ rows. member_of u ∷ rows) rest
+      at false rest = ap (λ rows. member_of rank u ∷ rows) rest
 
   -- a thread of another number isn't the one of its numbers
   apart : (test : ThreadRow → Bool) (u : ThreadRow) (vs : List ThreadRow) → has (λ y. y.number == u.number) vs ≡ false → first test vs ≡ Some t → its_row u ≡ false
@@ -126,20 +147,20 @@ module _ (t : ThreadRow) where
           let other : its_row u ≡ false = apart test u us none later in
           rw (off, other) (ap (λ rows. u ∷ rows) (rest later))
 
-  pub grouped-left : (test : ThreadRow → Bool) (ts : List ThreadRow) (old new : Members) → are_single ts ≡ true → first test ts ≡ Some t → AreGrouped ts old → new.rows ≡ without_first it old.rows → new.whole ≡ old.whole → AreGrouped (without_first test ts) new
-  grouped-left test ts old new single found grouped rows same whole pid =
-      ap (which (is_of_process pid)) rows ∙ by (pid == t.process) refl ∙ sym (ap (of_threads pid) (same-gone test ts single found))
+  pub grouped-left : (test : ThreadRow → Bool) (ts : List ThreadRow) (old new : Members) → are_single ts ≡ true → first test ts ≡ Some t → AreGrouped rank ts old → new.rows ≡ without_first it old.rows → new.whole ≡ old.whole → AreGrouped rank (without_first test ts) new
+  grouped-left test ts old new single found grouped rows same whole n =
+      ap (which (is_of_rank n)) rows ∙ by (n == rank t.process) refl ∙ sym (ap (of_threads rank n) (same-gone test ts single found))
     where
-      was : which (is_of_process pid) old.rows ≡ of_threads pid ts
-      was = grouped (sym same ∙ whole) pid
+      was : which (is_of_rank n) old.rows ≡ of_threads rank n ts
+      was = grouped (sym same ∙ whole) n
 
-      by : (b : Bool) → (pid == t.process) ≡ b → which (is_of_process pid) (without_first it old.rows) ≡ of_threads pid (without_first its_row ts)
+      by : (b : Bool) → (n == rank t.process) ≡ b → which (is_of_rank n) (without_first it old.rows) ≡ of_threads rank n (without_first its_row ts)
       by true is =
-          gone-on (is_of_process pid) it (λ m h. grind (arith, nat_tests)) old.rows ∙ ap (without_first it) was ∙ gone-map (which (is_in pid) ts)
-          ∙ sym (ap (map member_of) (gone-on (is_in pid) its_row (λ u h. grind (arith, nat_tests)) ts))
+          gone-on (is_of_rank n) it (λ m h. grind (arith, nat_tests)) old.rows ∙ ap (without_first it) was ∙ gone-map (which (is_ranked rank n) ts)
+          ∙ sym (ap (map (member_of rank)) (gone-on (is_ranked rank n) its_row (λ u h. grind (arith, nat_tests)) ts))
       by false off =
-          gone-off (is_of_process pid) it (λ m h. grind (arith, nat_tests)) old.rows ∙ was
-          ∙ sym (ap (map member_of) (gone-off (is_in pid) its_row (λ u h. grind (arith, nat_tests)) ts))
+          gone-off (is_of_rank n) it (λ m h. grind (arith, nat_tests)) old.rows ∙ was
+          ∙ sym (ap (map (member_of rank)) (gone-off (is_ranked rank n) its_row (λ u h. grind (arith, nat_tests)) ts))
 
 -- ---- the threads of the members' numbers
 
@@ -166,21 +187,28 @@ lead-which p ts (u ∷ us) lead =
       | inr off ↦ rw off (lead-which p ts us lead.1)
     ]
 
-led : (ts us : List ThreadRow) → Lead ts us → rows_of ts (map member_of us) ≡ us
-led ts [] lead = refl
-led ts (u ∷ us) lead = ap (λ o. option_to_list o ++ rows_of ts (map member_of us)) lead.0 ∙ ap (λ rows. u ∷ rows) (led ts us lead.1)
+led : (rank : ℕ → ℕ) (ts us : List ThreadRow) → Lead ts us → rows_of ts (map (member_of rank) us) ≡ us
+led rank ts [] lead = refl
+led rank ts (u ∷ us) lead = ap (λ o. option_to_list o ++ rows_of ts (map (member_of rank) us)) lead.0 ∙ ap (λ rows. u ∷ rows) (led rank ts us lead.1)
 
--- what passes only of one process is found among its threads
-first-in : (pid : ℕ) (test : ThreadRow → Bool) → PassesOnly pid test → (ts : List ThreadRow) → first test (which (is_in pid) ts) ≡ first test ts
-first-in pid test only [] = refl
-first-in pid test only (t ∷ ts) = at (is_in pid t) refl (test t) refl (first-in pid test only ts)
+-- what passes only at one rank is found among the threads of that rank
+first-in : (rank : ℕ → ℕ) (n : ℕ) (test : ThreadRow → Bool) → ((t : ThreadRow) → test t ≡ true → is_ranked rank n t ≡ true) → (ts : List ThreadRow) → first test (which (is_ranked rank n) ts) ≡ first test ts
+first-in rank n test only [] = refl
+first-in rank n test only (t ∷ ts) = at (is_ranked rank n t) refl (test t) refl (first-in rank n test only ts)
   where
-    at : (b : Bool) → is_in pid t ≡ b → (c : Bool) → test t ≡ c → first test (which (is_in pid) ts) ≡ first test ts → first test (which (is_in pid) (t ∷ ts)) ≡ first test (t ∷ ts)
+    at : (b : Bool) → is_ranked rank n t ≡ b → (c : Bool) → test t ≡ c → first test (which (is_ranked rank n) ts) ≡ first test ts → first test (which (is_ranked rank n) (t ∷ ts)) ≡ first test (t ∷ ts)
     at true own true passes rest = rw (own, passes) refl
     at true own false off rest = rw (own, off) rest
     at false other true passes rest = absurd (let clash : true ≡ false = sym (only t passes) ∙ other in cc)
     at false other false off rest = rw (other, off) rest
 
-pub first-among : (pid : ℕ) (test : ThreadRow → Bool) → PassesOnly pid test → (ts : List ThreadRow) (members : Members) → are_single ts ≡ true → AreGrouped ts members → members.whole ≡ true → first test (rows_of ts (which (is_of_process pid) members.rows)) ≡ first test ts
-first-among pid test only ts members single grouped whole =
-    ap (λ ms. first test (rows_of ts ms)) (grouped whole pid) ∙ ap (first test) (led ts (which (is_in pid) ts) (lead-which (is_in pid) ts ts (lead-all ts single))) ∙ first-in pid test only ts
+-- a thread of a process has its rank
+its-rank : (rank : ℕ → ℕ) (pid : ℕ) (t : ThreadRow) → is_in pid t ≡ true → is_ranked rank (rank pid) t ≡ true
+its-rank rank pid t own =
+    let is : t.process ≡ pid = grind (arith, nat_tests) in
+    eq-eqb (rank t.process) (rank pid) (ap rank is)
+
+pub first-among : (rank : ℕ → ℕ) (pid : ℕ) (test : ThreadRow → Bool) → PassesOnly pid test → (ts : List ThreadRow) (members : Members) → are_single ts ≡ true → AreGrouped rank ts members → members.whole ≡ true → first test (rows_of ts (which (is_of_rank (rank pid)) members.rows)) ≡ first test ts
+first-among rank pid test only ts members single grouped whole =
+    let own = is_ranked rank (rank pid) in
+    ap (λ ms. first test (rows_of ts ms)) (grouped whole (rank pid)) ∙ ap (first test) (led rank ts (which own ts) (lead-which own ts ts (lead-all ts single))) ∙ first-in rank (rank pid) test (λ t passes. its-rank rank pid t (only t passes)) ts

@@ -16,9 +16,9 @@ use Rattle.lpc_procs.specs.declared.keys.Use.{Use}
 use Rattle.lpc_procs.specs.declared.rows.Counted.{Counted}
 use Rattle.lpc_procs.specs.declared.rows.ProcessRow.{ProcessRow}
 use Rattle.lpc_procs.specs.declared.rows.ThreadRow.{ThreadRow}
-use Rattle.lpc_procs.specs.Kept.{AreKeyed, AreTallied, AreUsed, IsStored, counting, has_name, has_number, is_doomed_row, is_limited, is_peopled, is_peopled_child, is_watched, process_key, process_name, process_rows, rows_in, thread_key, thread_name, told_by, told_in, used_rows}
+use Rattle.lpc_procs.specs.Kept.{AreKeyed, AreTallied, AreUsed, IsStored, counting, has_name, has_number, is_doomed_row, is_limited, is_of_used, is_peopled, is_peopled_child, is_watched, process_key, process_name, process_rows, rank_of, rows_in, thread_key, thread_name, told_by, told_in, used_rows}
 use Rattle.lpc_procs.specs.Marks.{Remarks}
-use Rattle.lpc_procs.specs.Members.{Enters, Members, is_member, is_of_process}
+use Rattle.lpc_procs.specs.Members.{Enters, Members, is_member, is_of_rank}
 use Rattle.lpc_procs.specs.declared.rows.BornThread.{BornThread}
 use Rattle.lpc_procs.specs.Procs.{born_thread, ended, event_ports_of, is_process, is_process_born, is_thread, is_thread_born, is_used_thread, lives_in, registered_by}
 use Rattle.lpc_slots.proofs.Same.{at_first}
@@ -28,9 +28,9 @@ use Rattle.lpc_procs.proofs.Events.{count-unseen, count-written, one-counts, unw
 use Rattle.lpc_procs.proofs.Gone.{count-gone}
 use Rattle.lpc_procs.proofs.Keeping.{KeepsNumbers, kept-none, unused-absent}
 use Rattle.lpc_procs.proofs.Keyed.{IsPlaced, changed-made, first-at, keyed-changed, keyed-inserted, keyed-removed, keyed-written, left-keyed, placed, rows-changed, rows-length, rows-push, rows-written, stands-keyed}
-use Rattle.lpc_procs.proofs.Led.{names-left, names-more, process-key-push, thread-key-push, used-push}
+use Rattle.lpc_procs.proofs.Led.{names-left, names-more, process-key-push, rank-push, thread-key-push, used-push}
 use Rattle.lpc_procs.proofs.Marked.{each-unseen, lost-none, marked-gone, marked-push, marked-set, remarked}
-use Rattle.lpc_procs.proofs.Owned.{grouped-change, grouped-left, grouped-push}
+use Rattle.lpc_procs.proofs.Owned.{grouped-change, grouped-left, grouped-push, grouped-ranks}
 use Rattle.lpc_procs.proofs.Placed.{count-of, none-has, numbers-has, process-born-first, process-first, used-has}
 use Rattle.lpc_procs.proofs.ProcessRows.{KeepsNames, kept-row, names-same, row-changed, with_row}
 use Rattle.lpc_procs.proofs.Stored.{kept-ended, kept-process, kept-processes_left, kept-set, kept-thread, kept-threads_left, names-counting, process-unused}
@@ -119,7 +119,7 @@ module _ {ps : Table Counted} {ts : Table ThreadRow} {up : List (ℕ × Key)} {u
       doomed = kept.doomed;
       watchers = kept.watchers;
       tallied = kept.tallied;
-      grouped = rw (thread-rows f) (grouped-change (is_thread tid) f keeps (rows_in ts) members kept.grouped);
+      grouped = rw (thread-rows f) (grouped-change (rank_of up) (is_thread tid) f keeps (rows_in ts) members kept.grouped);
       marked = rw (its-place.writes (f row)) (marked-set registered_by (rows_in ts) its-place.place row (f row) its-place.here marks marks' kept.marked remarks);
       told_marked = kept.told_marked;
     }
@@ -141,7 +141,7 @@ module _ {ps : Table Counted} {ts : Table ThreadRow} {up : List (ℕ × Key)} {u
       doomed = doomed;
       watchers = counted-watched row.process live ps' is;
       tallied = tallied;
-      grouped = rw (thread-rows ended) (grouped-change (is_thread tid) ended (record { number = λ t. refl; process = λ t. refl }) (rows_in ts) members kept.grouped);
+      grouped = rw (thread-rows ended) (grouped-change (rank_of up) (is_thread tid) ended (record { number = λ t. refl; process = λ t. refl }) (rows_in ts) members kept.grouped);
       marked = rw (its-place.writes (ended row)) (marked-set registered_by (rows_in ts) its-place.place row (ended row) its-place.here marks marks kept.marked (remarked row.registered.items marks));
       told_marked = rw (counted-told row.process live ps' is) kept.told_marked;
     }
@@ -209,7 +209,7 @@ module _ {ps : Table Counted} {ts : Table ThreadRow} {up : List (ℕ × Key)} {u
         doomed = omega (arith, kept.doomed, ap (count is_doomed_row) rows, count-push is_doomed_row (rows_in ps) p, ap {B = ℕ} (λ b. cond b 1 0) (and-off (is_some row.doom)));
         watchers = omega (arith, kept.watchers, ap (count is_watched) rows, count-push is_watched (rows_in ps) p, ap {B = ℕ} (λ b. cond b 1 0) unwatched_row);
         tallied = λ whole n. kept.tallied whole n ∙ sym (ap (count (is_peopled_child n)) rows ∙ children-push n row (rows_in ps));
-        grouped = kept.grouped;
+        grouped = grouped-ranks (rank_of up) (rank_of up') (is_of_used (numbers up)) (λ t owned. ap (λ es. rank_of es t.process) used ∙ rank-push t.process row.number k up (sym (numbers-has t.process up) ∙ owned)) (rows_in ts) kept.all.owners members kept.grouped;
         marked = kept.marked;
         told_marked = rw rows (marked-push told_by (rows_in ps) p (unwatched row.debug_port row.exception_port unwatched_row) told_marks kept.told_marked);
       }
@@ -221,7 +221,7 @@ module _ {ps : Table Counted} {ts : Table ThreadRow} {up : List (ℕ × Key)} {u
       → (k : Key) (ts' : Table ThreadRow) → ts' ≡ inserted ts k t → listed ts' ≡ listed ts ++ (k, t) ∷ [] → k.generation ≡ ts.made + 1
       → (tn' : Named) → Takes t.birth t.number tn.firsts tn'.firsts → tn'.single ≡ (tn.single && not (is_some (number_in tn.firsts t.birth)))
       → (ut' : List (ℕ × Use)) → ut' ≡ ut ++ (t.number, record { process = t.process; key = k }) ∷ []
-      → (members' : Members) → (members'.whole ≡ true → Enters t.process t.number members members')
+      → (members' : Members) → (members'.whole ≡ true → Enters (rank_of up t.process) t.number members members')
       → IsStored ps' ts' up ut' pn tn' (alive + 1) registered d watched children' members' marks told_marks
   thread-made t lives none within new home live counted ps' is d doomed children' tallied k ts' is_ts listing young tn' takes single ut' used members' enters =
       let u : Use = record { process = t.process; key = k } in
@@ -244,7 +244,7 @@ module _ {ps : Table Counted} {ts : Table ThreadRow} {up : List (ℕ × Key)} {u
         doomed = doomed;
         watchers = counted-watched t.process live ps' is;
         tallied = tallied;
-        grouped = rw rows (grouped-push (rows_in ts) t members members' kept.grouped enters);
+        grouped = rw rows (grouped-push (rank_of up) (rows_in ts) t members members' kept.grouped enters);
         marked = rw rows (marked-push registered_by (rows_in ts) t none marks kept.marked);
         told_marked = rw (counted-told t.process live ps' is) kept.told_marked;
       }
@@ -284,7 +284,7 @@ module _ {ps : Table Counted} {ts : Table ThreadRow} {up : List (ℕ × Key)} {u
       → (ts' : Table ThreadRow) → ts' ≡ removed ts (thread_key ut t.number) → listed ts' ≡ without (at_key (thread_key ut t.number)) (listed ts)
       → (total : ℕ) → total + length t.registered.items ≡ registered
       → (tn' : Named) → Forgets b tn.firsts tn'.firsts → tn'.single ≡ tn.single
-      → (members' : Members) → members'.rows ≡ without_first (is_member t.process t.number) members.rows → members'.whole ≡ members.whole
+      → (members' : Members) → members'.rows ≡ without_first (is_member (rank_of up t.process) t.number) members.rows → members'.whole ≡ members.whole
       → (marks' : Tally) → marks'.entries ≡ marks.entries → (marks'.whole ≡ true → (marks.whole ≡ true) × (length t.registered.items ≡ 0))
       → IsStored ps ts' up ut pn tn' alive total dooms watched children members' marks' told_marks
   thread-lost b t found off ts' is listing total is_total tn' forgets single members' gone whole marks' entries lost =
@@ -302,7 +302,7 @@ module _ {ps : Table Counted} {ts : Table ThreadRow} {up : List (ℕ × Key)} {u
         doomed = kept.doomed;
         watchers = kept.watchers;
         tallied = kept.tallied;
-        grouped = rw rows (grouped-left t (is_thread_born b) (rows_in ts) members members' kept.all.rows.single found kept.grouped gone whole);
+        grouped = rw rows (grouped-left (rank_of up) t (is_thread_born b) (rows_in ts) members members' kept.all.rows.single found kept.grouped gone whole);
         marked = rw rows (marked-gone registered_by (is_thread_born b) (rows_in ts) t found marks marks' kept.marked entries lost);
         told_marked = kept.told_marked;
       }
@@ -416,7 +416,7 @@ stored-none ps ts up ut pn tn children members marks told_marks no_ps no_ts ps_m
       doomed = rw no_processes refl;
       watchers = rw no_processes refl;
       tallied = rw no_processes (λ whole pid. ap (λ es. count_in es pid) no_children);
-      grouped = rw no_threads (λ whole pid. ap (which (is_of_process pid)) no_members);
+      grouped = rw no_threads (λ whole n. ap (which (is_of_rank n)) no_members);
       marked = rw no_threads (λ whole n. ap (λ es. count_in es n) no_marks);
       told_marked = rw no_processes (λ whole n. ap (λ es. count_in es n) no_told_marks);
     }

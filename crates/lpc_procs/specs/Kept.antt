@@ -1,10 +1,11 @@
 -- What the table keeps of its rows and numbers.
 use Rattle.std.specs.Prelude.{ℕ, ◌≡◌, ◌≤◌, ◌+◌, ◌==◌, ◌&&◌, ◌||◌, Bool, true, false, is_some, length, map, nat_le, nat_lt, List, Option, Some, None, option_map, option_to_list, if◌then◌else◌}
+use Rattle.std.specs.List.{position_or_len}
 use Rattle.lpc_base.specs.declared.birth.Birth.{Birth}
 use Rattle.lpc_base.specs.Rows.{change, count, differ_by, each, every, first, has, which}
 use Rattle.lpc_base.specs.declared.limits.TheConstants.{REGISTRATION_LIMIT}
 use Rattle.lpc_numbers.specs.Named.{AreNamed, Named}
-use Rattle.lpc_numbers.specs.Numbered.{numbers, value_at}
+use Rattle.lpc_numbers.specs.Numbered.{is_at, numbers, value_at}
 use Rattle.lpc_numbers.specs.Tally.{Tally, count_in, one_for}
 use Rattle.lpc_slots.specs.declared.Key.{Key}
 use Rattle.lpc_slots.specs.Table.{Table, at, listed}
@@ -17,7 +18,7 @@ use Rattle.lpc_procs.specs.declared.rows.UsedThread.{UsedThread}
 use Rattle.lpc_procs.specs.declared.keys.Use.{Use}
 use Rattle.lpc_procs.specs.declared.members.Member.{Member}
 use Rattle.lpc_procs.specs.Marks.{AreMarked}
-use Rattle.lpc_procs.specs.Members.{Members, is_of_process}
+use Rattle.lpc_procs.specs.Members.{Members, is_of_rank}
 use Rattle.lpc_procs.specs.Procs.{all_registrations, doomed_as, event_ports_of, is_made_by, is_process, is_process_born, is_thread, is_used_thread, lives_in}
 
 -- the rows of a table, in the order of making
@@ -35,6 +36,11 @@ process_key used pid = key_or (value_at used pid)
 
 abbrev pub thread_key : List (ℕ × Use) → ℕ → Key
 thread_key used tid = key_or (option_map (λ u. u.key) (value_at used tid))
+
+-- the rank of a process: how many numbers were used for processes before its own; of a number that was never used, how
+-- many were used at all
+abbrev pub rank_of : List (ℕ × Key) → ℕ → ℕ
+rank_of used pid = position_or_len (is_at pid) used
 
 -- Each number has a key, each row stands under that of its number, and a row that stands there has the number. No key is
 -- younger than the last row that was made.
@@ -204,20 +210,23 @@ pub record AreFound (processes : Table Counted) (threads : Table ThreadRow) (use
   pub processes_named : AreNamed (map process_name (rows_in processes)) process_names
   pub threads_named : AreNamed (map thread_name (rows_in threads)) thread_names
 
--- a thread is of the process, and the thread among those of its process
+-- a thread is of the process; its process has the rank, as this tells ranks; and the thread among those of its process
 abbrev pub is_in : ℕ → ThreadRow → Bool
 is_in pid t = t.process == pid
 
-abbrev pub member_of : ThreadRow → Member
-member_of t = record { process = t.process; thread = t.number }
+abbrev pub is_ranked : (ℕ → ℕ) → ℕ → ThreadRow → Bool
+is_ranked rank n t = rank t.process == n
+
+abbrev pub member_of : (ℕ → ℕ) → ThreadRow → Member
+member_of rank t = record { rank = rank t.process; thread = t.number }
 
 -- no thread of another process passes
 abbrev pub PassesOnly : ℕ → (ThreadRow → Bool) → Type 0
 PassesOnly pid test = (t : ThreadRow) → test t ≡ true → is_in pid t ≡ true
 
--- the members of each process are its threads, in the order of making, where each was put among them
-abbrev pub AreGrouped : List ThreadRow → Members → Type 0
-AreGrouped threads members = members.whole ≡ true → (pid : ℕ) → which (is_of_process pid) members.rows ≡ map member_of (which (is_in pid) threads)
+-- the members of each rank are the threads of its process, in the order of making, where each was put among them
+abbrev pub AreGrouped : (ℕ → ℕ) → List ThreadRow → Members → Type 0
+AreGrouped rank threads members = members.whole ≡ true → (n : ℕ) → which (is_of_rank n) members.rows ≡ map (member_of rank) (which (is_ranked rank n) threads)
 
 -- the threads of the members' numbers
 abbrev pub rows_of : List ThreadRow → List Member → List ThreadRow
@@ -232,6 +241,6 @@ pub record IsStored (processes : Table Counted) (threads : Table ThreadRow) (use
   pub doomed : dooms ≡ count is_doomed_row (rows_in processes)
   pub watchers : watched ≡ count is_watched (rows_in processes)
   pub tallied : AreTallied (rows_in processes) children
-  pub grouped : AreGrouped (rows_in threads) members
+  pub grouped : AreGrouped (rank_of used_processes) (rows_in threads) members
   pub marked : AreMarked (all_registrations (rows_in threads)) marks
   pub told_marked : AreMarked (told_in (rows_in processes)) told_marks

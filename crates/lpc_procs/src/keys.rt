@@ -1,7 +1,7 @@
 // The keys of rows, as numbers lead to them.
-ghost use Rattle.std.specs.Prelude.{◌≡◌, ◌<◌, length, slice_get, None, Some};
+ghost use Rattle.std.specs.Prelude.{◌≡◌, ◌<◌, ◌^◌, length, slice_get, None, Some};
 ghost use Rattle.lpc_procs.specs.Kept as kept;
-ghost use Rattle.lpc_procs.specs.Kept.{rows_in};
+ghost use Rattle.lpc_procs.specs.Kept.{rank_of, rows_in};
 
 use lpc_numbers::Numbered;
 use lpc_slots::{Key, Slots};
@@ -23,6 +23,16 @@ pub fn process_key(used: &Numbered<Key>, pid: u32) -> Key
         Some(key) => key,
         None => no_key(),
     }
+}
+
+/// The rank of a process: how many numbers were used for processes before its own, which never changes. For a number
+/// that was never used it is how many were used at all. These are fewer than 2^32.
+pub fn process_rank(used: &Numbered<Key>, pid: u32) -> u32
+    requires { length used.now.entries < 2 ^ 32 }
+    ensures { result ≡ rank_of used.now.entries pid }
+{
+    let rank = used.place(pid).unwrap_or(used.len());
+    rank as u32
 }
 
 /// The key that the thread of a number has, or had; for a number that was never used the key that is never given.

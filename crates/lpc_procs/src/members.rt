@@ -2,7 +2,7 @@
 ghost use Rattle.std.specs.Prelude.{◌≡◌, [], false, true, IfNone, IfSome};
 ghost use Rattle.std.specs.List.{position, prefix_len};
 ghost use Rattle.lpc_base.specs.Rows.{which, without_first};
-ghost use Rattle.lpc_procs.specs.Members.{Enters, comes_before, comes_within, is_member, is_of_process, names_thread, rise};
+ghost use Rattle.lpc_procs.specs.Members.{Enters, comes_before, comes_within, is_member, is_of_rank, names_thread, rise};
 
 use lpc_base::reserve_rows;
 use std::alloc::Global;
@@ -11,15 +11,17 @@ use std::marker::Model;
 /// A thread of a process.
 #[derive(Clone, Copy)]
 pub struct Member {
-    /// The number of the process.
-    pub process: u32,
+    /// The rank of the process: how many processes were made before it.
+    pub rank: u32,
     /// The number of the thread.
     pub thread: u32,
 }
 
 /// The threads of all processes, those of each process together, in the order of making, as long as each found room.
 ///
-/// One that finds no room leaves them unfinished from then on, and nothing is answered from them.
+/// A process that was made later has a greater rank, and its threads stand behind those of the processes before it. So
+/// the threads of a new process come at the end, where they move none. A thread that finds no room leaves them all
+/// unfinished from then on, and nothing is answered from them.
 #[derive(Drop)]
 pub struct Members {
     rows: Vec<Member>,
@@ -57,28 +59,28 @@ impl Members {
         let _ = reserve_rows(&mut self.rows, more);
     }
 
-    /// Puts a thread behind those that the process has. It takes no memory.
-    pub fn add(&mut self, process: u32, thread: u32)
-        ensures { self.new.whole ≡ true → Enters process thread self.old self.new }
+    /// Puts a thread behind those that the process of the rank has. It takes no memory.
+    pub fn add(&mut self, rank: u32, thread: u32)
+        ensures { self.new.whole ≡ true → Enters rank thread self.old self.new }
     {
         if self.rows.len() >= self.rows.capacity() {
             self.whole = false;
             return;
         }
-        let place = places_within(&self.rows, process);
-        match self.rows.insert(place, Member { process, thread }) {
+        let place = places_within(&self.rows, rank);
+        match self.rows.insert(place, Member { rank, thread }) {
             Ok(()) => {}
             Err(_) => unreachable!(),
         }
     }
 
-    /// Takes the thread away from its process, where it is there.
-    pub fn remove(&mut self, process: u32, thread: u32)
-        ensures rows { self.new.rows ≡ without_first (is_member process thread) self.old.rows }
+    /// Takes the thread away from the process of the rank, where it is there.
+    pub fn remove(&mut self, rank: u32, thread: u32)
+        ensures rows { self.new.rows ≡ without_first (is_member rank thread) self.old.rows }
         ensures whole { self.new.whole ≡ self.old.whole }
     {
-        let front = places_before(&self.rows, process);
-        match place_of(members_of(&self.rows, process), thread) {
+        let front = places_before(&self.rows, rank);
+        match place_of(members_of(&self.rows, rank), thread) {
             Some(place) => {
                 self.rows.remove(front + place);
             }
@@ -86,52 +88,52 @@ impl Members {
         }
     }
 
-    /// The threads of the process, in the order of making; None where not each found room.
-    pub fn of(&self, process: u32) -> Option<&[Member]>
+    /// The threads of the process of the rank, in the order of making; None where not each found room.
+    pub fn of(&self, rank: u32) -> Option<&[Member]>
         ensures whole { IfSome result (λ members. self.now.whole ≡ true) }
         ensures members { IfSome result (λ members.
-            members.now ≡ which (is_of_process process) self.now.rows) }
+            members.now ≡ which (is_of_rank rank) self.now.rows) }
         ensures unfinished { IfNone result (self.now.whole ≡ false) }
     {
         if self.whole {
-            Some(members_of(&self.rows, process))
+            Some(members_of(&self.rows, rank))
         } else {
             None
         }
     }
 }
 
-// The threads of the process among these, which rise by their processes.
-fn members_of(rows: &[Member], process: u32) -> &[Member]
+// The threads of the process of the rank among these, which rise by their ranks.
+fn members_of(rows: &[Member], rank: u32) -> &[Member]
     requires { rise rows.now ≡ true }
-    ensures { result.now ≡ which (is_of_process process) rows.now }
+    ensures { result.now ≡ which (is_of_rank rank) rows.now }
 {
-    let (_, behind) = rows.split_at(places_before(rows, process));
-    let (members, _) = behind.split_at(places_within(behind, process));
+    let (_, behind) = rows.split_at(places_before(rows, rank));
+    let (members, _) = behind.split_at(places_within(behind, rank));
     members
 }
 
-// How many of these, which rise by their processes, are of processes before this one.
-fn places_before(rows: &[Member], process: u32) -> usize
+// How many of these, which rise by their ranks, are of processes before the one of the rank.
+fn places_before(rows: &[Member], rank: u32) -> usize
     requires { rise rows.now ≡ true }
-    ensures { result ≡ prefix_len (comes_before process) rows.now }
+    ensures { result ≡ prefix_len (comes_before rank) rows.now }
 {
     rows.partition_point(
         |member: &Member| -> bool
-            ensures { result ≡ comes_before process member.now }
-        { member.process < process },
+            ensures { result ≡ comes_before rank member.now }
+        { member.rank < rank },
     )
 }
 
-// How many of these, which rise by their processes, are of processes before this one, or of this one.
-fn places_within(rows: &[Member], process: u32) -> usize
+// How many of these, which rise by their ranks, are of processes before the one of the rank, or of that one.
+fn places_within(rows: &[Member], rank: u32) -> usize
     requires { rise rows.now ≡ true }
-    ensures { result ≡ prefix_len (comes_within process) rows.now }
+    ensures { result ≡ prefix_len (comes_within rank) rows.now }
 {
     rows.partition_point(
         |member: &Member| -> bool
-            ensures { result ≡ comes_within process member.now }
-        { member.process <= process },
+            ensures { result ≡ comes_within rank member.now }
+        { member.rank <= rank },
     )
 }
 

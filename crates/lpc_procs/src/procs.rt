@@ -10,7 +10,7 @@ mod processes;
 mod registered;
 mod threads;
 
-use crate::keys::{Use, process_key};
+use crate::keys::{Use, process_key, process_rank};
 use crate::members::Members;
 use crate::rows::Counted;
 use crate::{Number, ProcessRow, ThreadRow, lists};
@@ -233,7 +233,8 @@ impl Procs {
         });
         self.thread_names.add(tid, birth);
         self.used_threads.add(tid, Use { process: pid, key });
-        self.members.add(pid, tid);
+        self.members
+            .add(process_rank(&self.used_processes, pid), tid);
         self.alive += 1;
     }
 

@@ -3,7 +3,7 @@ ghost use Rattle.std.specs.Prelude.{◌≡◌, ◌≤◌, ◌+◌, true, false, 
 ghost use Rattle.lpc_base.specs.Rows.{has, without_first};
 ghost use Rattle.lpc_procs.specs.Procs.{ended, is_life, is_process_born, is_thread_born, thread_at, with_thread, without_process_born, without_thread_born};
 
-use crate::keys::{process_key, thread_key};
+use crate::keys::{process_key, process_rank, thread_key};
 use crate::procs::Procs;
 use crate::{births, exceptions, lists};
 use lpc_base::Birth;
@@ -110,7 +110,8 @@ impl Procs {
                 self.registered -= forgotten;
                 self.marks.give_up_if(forgotten > 0);
                 self.thread_names.remove_name(birth);
-                self.members.remove(thread.process, thread.number);
+                let rank = process_rank(&self.used_processes, thread.process);
+                self.members.remove(rank, thread.number);
                 true
             }
             None => unreachable!(),

@@ -7,7 +7,7 @@ ghost use Rattle.lpc_procs.specs.Procs as procs;
 ghost use Rattle.lpc_procs.specs.Procs.{HasIdentifierLeft, HasOrdinalLeft, acting, first_thread, is_life, is_live_client, is_live_thread, is_thread_born, lives_in, past_birth, past_identifier, thread_at, thread_born, thread_life, with_thread};
 
 use crate::births::{LifeOf, ThreadNamed};
-use crate::keys::{row_at, thread_key};
+use crate::keys::{process_rank, row_at, thread_key};
 use crate::lists::LivesIn;
 use crate::members::Member;
 use crate::procs::Procs;
@@ -218,7 +218,7 @@ impl Procs {
         requires { PassesOnly pid (Q.test asked.now) }
         ensures { option_copied result ≡ first (Q.test asked.now) self.now.threads }
     {
-        match self.members.of(pid) {
+        match self.members.of(process_rank(&self.used_processes, pid)) {
             Some(members) => self.first_among(members, asked),
             None => first_row(&self.threads, asked),
         }

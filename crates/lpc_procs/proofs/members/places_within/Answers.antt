@@ -6,7 +6,7 @@ use Rattle.lpc_procs.proofs.members.places_within.Goals as goal
 
 pub returns : goal.returns
 returns c =
-    let test = comes_within c.args.process in
+    let test = comes_within c.args.rank in
     let rows = c.args.rows.now in
-    let point = c.partition_point.ensures.partitioned test (always_returns_same _ _ _ (λ a r f k. search (rules, of_calls))) (partitioned test (within-lesser c.args.process) rows c.requires) in
-    place-is test (record { process = 0; thread = 0 }) rows c.partition_point.result c.partition_point.ensures.bound point
+    let point = c.partition_point.ensures.partitioned test (always_returns_same _ _ _ (λ a r f k. search (rules, of_calls))) (partitioned test (within-lesser c.args.rank) rows c.requires) in
+    place-is test (record { rank = 0; thread = 0 }) rows c.partition_point.result c.partition_point.ensures.bound point

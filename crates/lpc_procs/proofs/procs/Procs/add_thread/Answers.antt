@@ -6,7 +6,7 @@ use Rattle.lpc_procs.specs.Kept.{is_doomed_row, rows_in, used_rows}
 use Rattle.lpc_numbers.specs.Numbered.{numbers}
 use Rattle.lpc_procs.specs.Procs.{lives_in}
 use Rattle.lpc_procs.proofs.Keyed.{rows-push}
-use Rattle.lpc_procs.proofs.Led.{made-few}
+use Rattle.lpc_procs.proofs.Led.{made-few, used-few}
 use Rattle.lpc_procs.proofs.Placed.{used-has}
 use Rattle.lpc_procs.proofs.Stored.{alive-few, processes-few, threads-few}
 use Rattle.lpc_procs.proofs.Tables.{counted-shown, counted-spare, thread-made}
@@ -31,6 +31,9 @@ overflow_add-self c = omega (arith, alive-few (rows_in c.self.inside.processes) 
 pub recount-self-inside-requires-clause-few : goal.recount-self-inside-requires-clause-few
 recount-self-inside-requires-clause-few c = processes-few (rows_in c.self.inside.processes) (rows_in c.self.inside.threads) (numbers c.self.inside.used_processes.entries) (used_rows c.self.inside.used_threads.entries) c.self.inside.alive c.self.inside.registered c.self.invariant.all is_doomed_row c.self.inside.dooms c.self.invariant.doomed
 
+pub process_rank-requires : goal.process_rank-requires
+process_rank-requires c = used-few c.self.inside.processes.made c.self.inside.used_processes.entries c.self.invariant.found.processes_made
+
 pub invariant_of-self : goal.invariant_of-self
 invariant_of-self c =
     let t : ThreadRow = record { number = c.args.tid; process = c.args.pid; birth = c.args.birth; live = true; next_identifier = 1; next_ordinal = 1; registered = c.new.result; own = None } in
@@ -41,7 +44,7 @@ invariant_of-self c =
     thread-made c.self.invariant t refl (search rules) c.requires.number.below new home (c.live_count-live.result + 1) (ap (λ n. n + 1) counted)
     c.recount-self-inside.new.rows (rw (c.process_key.ensures) at c.recount-self-inside.ensures.rows) c.recount-self-inside.result c.recount-self-inside.ensures.dooms c.recount-self-inside.new.children c.recount-self-inside.ensures.children
     c.insert_reserved-key.result c.insert_reserved-key.new.self made.table made.listed made.generation c.add.new.self c.add.ensures.firsts c.add.ensures.single c.add-2.new.self.entries c.add-2.ensures.entries
-    c.add-3.new.self c.add-3.ensures
+    c.add-3.new.self (rw (c.process_rank.ensures) at c.add-3.ensures)
 
 pub returns : goal.returns
 returns c =

@@ -10,7 +10,7 @@ use Rattle.lpc_procs.proofs.Placed.{ended-born}
 use Rattle.lpc_procs.proofs.Stored.{registered-at}
 use Rattle.lpc_procs.proofs.Tables.{born-thread, thread-left, thread-lost, thread-most, thread-place}
 use Rattle.lpc_base.proofs.RowWords.{without_first-none}
-use Rattle.lpc_procs.proofs.Led.{unmapped}
+use Rattle.lpc_procs.proofs.Led.{unmapped, used-few}
 use Rattle.lpc_procs.proofs.procs.Procs.lose_thread_born.Goals as goal
 
 pub unreachable-requires : goal.unreachable-requires
@@ -27,6 +27,9 @@ overflow_sub-self c =
     let place = thread-place c.self.invariant c.in-Some.thread.number t there in
     omega (arith, c.self.invariant.all.told, c.len-forgotten.ensures.value, registered-at (rows_in c.self.inside.threads) place.place t place.here)
 
+pub process_rank-rank-requires : goal.process_rank-rank-requires
+process_rank-rank-requires c = used-few c.self.inside.processes.made c.self.inside.used_processes.entries c.self.invariant.found.processes_made
+
 pub invariant_of-self : goal.invariant_of-self
 invariant_of-self c =
     let born = born-thread c.self.invariant c.args.birth c.in-Some.thread (sym c.in-Some.is ∙ (rw (← c.self.view_is) at c.thread_born.ensures.thread)) in
@@ -40,7 +43,7 @@ invariant_of-self c =
     thread-lost c.self.invariant c.args.birth t found off c.remove.new.self (rw key at c.in-Some-remove.ensures.table) (rw key at c.in-Some-remove.ensures.listed)
     (c.self.inside.registered - c.len-forgotten.result) (omega (arith, c.self.invariant.all.told, c.len-forgotten.ensures.value, registered-at (rows_in c.self.inside.threads) place.place t place.here))
     c.remove_name.new.self c.remove_name.ensures.firsts c.remove_name.ensures.single
-    c.remove-in-Some-remove.new.self c.remove-in-Some-remove.ensures.rows c.remove-in-Some-remove.ensures.whole
+    c.remove-in-Some-remove.new.self (rw (c.process_rank-rank.ensures) at c.remove-in-Some-remove.ensures.rows) c.remove-in-Some-remove.ensures.whole
     c.give_up_if.new.self c.give_up_if.ensures.entries (lost-none c.self.inside.marks.whole t.registered.items _ _ c.give_up_if.ensures.whole (none-lost c.len-forgotten.result t.registered.items c.len-forgotten.ensures.value))
 
 pub returns-clause-went : goal.returns-clause-went
