@@ -1,3 +1,4 @@
 mod Lent
 mod Places
 mod Told
+mod Hearers

@@ -1,6 +1,8 @@
 -- Whom a sweep is to look at.
-use Rattle.std.specs.Prelude.{Option, Some, None, if◌then◌else◌, slice_get}
+use Rattle.std.specs.Prelude.{◌≡◌, true, Option, Some, None, if◌then◌else◌, option_and_then, option_map, slice_get}
 use Rattle.lpc_base.specs.declared.birth.Birth.{Birth}
+use Rattle.lpc_model.specs.World.{ProcessRow}
+use Rattle.lpc_rows.specs.Names.{Names, name_of, some_stands}
 use Rattle.lpc_slots.specs.declared.Key.{Key}
 use Rattle.lpc_rows.specs.Suspects.{LifeTable}
 use Rattle.lpc_world.specs.declared.suspected_lives.LifeSuspect.{LifeSuspect}
@@ -25,3 +27,10 @@ thread_suspect (Some b) process = life.Thread b
 -- the thread that is suspected longest, behind the threads the process that is, or any
 abbrev pub first_life : LifeTable → LifeSuspect
 first_life s = if s.any then life.Anybody else thread_suspect (slice_get s.threads 0) (slice_get s.processes 0)
+
+-- these are the debug port and the exception port of a process that was found; none, where none was found
+pub record AreHearers (names : Names) (found : Option ProcessRow) (debug_port exception_port : Option Key) : Type 0 where
+  pub debug : option_map (name_of names) debug_port ≡ option_and_then (λ p. p.debug_port) found
+  pub exception : option_map (name_of names) exception_port ≡ option_and_then (λ p. p.exception_port) found
+  pub debug_stands : some_stands names debug_port ≡ true
+  pub exception_stands : some_stands names exception_port ≡ true

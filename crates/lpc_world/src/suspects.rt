@@ -68,6 +68,14 @@ impl Suspects {
         }
     }
 
+    /// The ports at two optional keys are suspected, where there are such.
+    pub(crate) fn add_both(&mut self, ports: (Option<Key>, Option<Key>))
+        ensures { self.new ≡ suspecting_some ports.1 (suspecting_some ports.0 self.old) }
+    {
+        self.add_some(ports.0);
+        self.add_some(ports.1);
+    }
+
     /// Any port is suspected.
     pub(crate) fn add_any(&mut self)
         ensures { self.new ≡ suspecting_any self.old }

@@ -1,9 +1,9 @@
 // Events of exceptions and their marks, the ports that are told of a process's exceptions, and processes that are to end.
 ghost use Rattle.std.specs.Prelude.{◌≡◌, ◌*◌, ◌≤◌, ◌∷◌, [], false, true, IfNone, IfSome, drop, option_and_then, option_map};
-ghost use Rattle.lpc_base.specs.Rows.{has};
+ghost use Rattle.lpc_base.specs.Rows.{first, has};
 ghost use Rattle.lpc_model.specs.Basics.{Dooms, LetsGo, Marks, SetsDebug, SetsException};
 ghost use Rattle.lpc_model.specs.Close.{is_event_on, is_queued_event};
-ghost use Rattle.lpc_model.specs.Found.{is_live_thread, is_mark, is_table, waits_as, wait_of};
+ghost use Rattle.lpc_model.specs.Found.{is_born_process, is_live_thread, is_mark, is_process, is_table, waits_as, wait_of};
 ghost use Rattle.lpc_model.specs.Raise.{event_port_of, raised_in};
 ghost use Rattle.lpc_model.specs.Settle.{doomed_processes, has_event, least};
 ghost use Rattle.lpc_rows.specs.Clauses.{FindsWait, IsOwnWait, after, birth_at, has_process};
@@ -11,8 +11,10 @@ ghost use Rattle.lpc_rows.specs.Kept.{CALL_BUDGET, IsStep, has_queued};
 ghost use Rattle.lpc_rows.specs.Names.{stands};
 ghost use Rattle.lpc_rows.specs.Raised.{doomed_as};
 ghost use Rattle.lpc_rows.specs.Shown.{shown_chance, shown_raised};
+ghost use Rattle.lpc_world.specs.Suspected.{AreHearers};
 
 use crate::world::World;
+use lpc_base::Birth;
 use lpc_procs::{Doomed, Registration};
 use lpc_slots::Key;
 use lpc_waits::{Chance, Raised};
@@ -106,6 +108,29 @@ impl World {
         }
     }
 
+    /// The ports that are told of the exceptions of a process: its debug port, and its exception port.
+    pub(super) fn hearers(&self, pid: u32) -> (Option<Key>, Option<Key>)
+        requires process { has_process self.now.rows pid ≡ true }
+        ensures { let found = first (is_process pid) self.now.rows.processes in
+            AreHearers self.now.births.ports found result.0 result.1 }
+    {
+        (
+            self.event_port(pid, Chance::FirstDebug),
+            self.event_port(pid, Chance::LastException),
+        )
+    }
+
+    /// The same of the process with a birth: none where no process has it.
+    pub(super) fn hearers_born(&self, birth: Birth) -> (Option<Key>, Option<Key>)
+        ensures { let found = first (is_born_process birth) self.now.rows.processes in
+            AreHearers self.now.births.ports found result.0 result.1 }
+    {
+        match self.procs.process_born(birth) {
+            Some(pid) => self.hearers(pid),
+            None => (None, None),
+        }
+    }
+
     /// A process gets its debug port.
     pub fn procs_set_debug_port(&mut self, pid: u32, port: Key)
         requires process { has_process self.old.rows pid ≡ true }
@@ -116,9 +141,10 @@ impl World {
         ensures capacity { self.new.capacity ≡ self.old.capacity }
     {
         let birth = self.port(port).birth;
+        let hearers = self.hearers(pid);
         self.loose = true;
         self.procs.set_debug_port(pid, port, birth);
-        self.suspects.add_any();
+        self.suspects.add_both(hearers);
     }
 
     /// A process gets its exception port.
@@ -131,9 +157,10 @@ impl World {
         ensures capacity { self.new.capacity ≡ self.old.capacity }
     {
         let birth = self.port(port).birth;
+        let hearers = self.hearers(pid);
         self.loose = true;
         self.procs.set_exception_port(pid, port, birth);
-        self.suspects.add_any();
+        self.suspects.add_both(hearers);
     }
 
     /// A process lets both ports go.
@@ -143,9 +170,10 @@ impl World {
         ensures loose { self.new.loose ≡ true }
         ensures capacity { self.new.capacity ≡ self.old.capacity }
     {
+        let hearers = self.hearers(pid);
         self.loose = true;
         self.procs.let_go(pid);
-        self.suspects.add_any();
+        self.suspects.add_both(hearers);
     }
 
     // Processes that are to end.

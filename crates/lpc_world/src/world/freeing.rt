@@ -177,9 +177,10 @@ impl World {
             new ≡ record self.old.capacity { processes = new.processes } }
         ensures lives { GainsNoLives self.old self.new }
     {
+        let hearers = self.hearers_born(birth);
         self.loose = true;
         self.procs.free_process_born(birth);
-        self.suspects.add_any();
+        self.suspects.add_both(hearers);
         self.lives.remove_process(birth);
     }
 

@@ -1,8 +1,9 @@
 use Rattle.std.proofs.Common.{arith}
 use Rattle.lpc_rows.specs.Kept.{rows_by}
-use Rattle.lpc_rows.specs.Shown.{tables_of}
+use Rattle.lpc_rows.specs.Shown.{births_of, tables_of}
 use Rattle.lpc_rows.proofs.Vacated as vacated
 use Rattle.lpc_rows.proofs.Lived as lived
+use Rattle.lpc_world.proofs.Hearers as hearers
 use Rattle.lpc_world.proofs.world.World.processes_free.Goals as goal
 
 pub invariant_of-self : goal.invariant_of-self
@@ -10,7 +11,7 @@ invariant_of-self c = record {
   kept =
       let there = rw (← c.self.view_is) at c.requires in
       rw c.free_process_born.ensures.table (vacated.process-gone (tables_of c.self.inside.procs c.self.inside.parts.items c.self.inside.ports c.self.inside.waits c.self.inside.names c.self.inside.sections c.self.inside.tokens c.self.inside.token_names c.self.inside.marks) c.self.inside.calls c.self.inside.made c.self.invariant.kept c.args.birth c.free_process_born.new.self.process_room there.empty);
-  watched = rw (c.add_any.ensures) (λ calm. absurd (cc));
+  watched = let are = rw (← c.self.view_is) at c.hearers_born-hearers.ensures in rw (c.free_process_born.ensures.table, c.add_both.ensures) (hearers.unmade-to (rows_by (tables_of c.self.inside.procs c.self.inside.parts.items c.self.inside.ports c.self.inside.waits c.self.inside.names c.self.inside.sections c.self.inside.tokens c.self.inside.token_names c.self.inside.marks)) (births_of (tables_of c.self.inside.procs c.self.inside.parts.items c.self.inside.ports c.self.inside.waits c.self.inside.names c.self.inside.sections c.self.inside.tokens c.self.inside.token_names c.self.inside.marks)).ports c.self.inside.suspects c.self.invariant.watched _ c.args.birth c.hearers_born-hearers.result.0 c.hearers_born-hearers.result.1 (c.self.invariant.kept.born.process_births c.args.birth) are (vacated.process-shown (tables_of c.self.inside.procs c.self.inside.parts.items c.self.inside.ports c.self.inside.waits c.self.inside.names c.self.inside.sections c.self.inside.tokens c.self.inside.token_names c.self.inside.marks) c.self.inside.calls c.self.inside.made c.self.invariant.kept c.args.birth c.free_process_born.new.self.process_room));
   lived = rw (c.free_process_born.ensures.table, c.remove_process.ensures) (λ calm. lived.process-freed-to (rows_by (tables_of c.self.inside.procs c.self.inside.parts.items c.self.inside.ports c.self.inside.waits c.self.inside.names c.self.inside.sections c.self.inside.tokens c.self.inside.token_names c.self.inside.marks)) c.self.inside.lives (c.self.invariant.lived calm) _ c.args.birth (vacated.process-shown (tables_of c.self.inside.procs c.self.inside.parts.items c.self.inside.ports c.self.inside.waits c.self.inside.names c.self.inside.sections c.self.inside.tokens c.self.inside.token_names c.self.inside.marks) c.self.inside.calls c.self.inside.made c.self.invariant.kept c.args.birth c.free_process_born.new.self.process_room));
 }
 

@@ -1,11 +1,13 @@
 use Rattle.std.proofs.Common.{refl, sym, ◌∙◌}
-use Rattle.lpc_rows.specs.Shown.{tables_of}
+use Rattle.lpc_model.specs.Basics as basics
+use Rattle.lpc_rows.specs.Shown.{births_of, tables_of}
 use Rattle.lpc_rows.proofs.Raising as raising
 use Rattle.lpc_rows.proofs.Rooms as rooms
 use Rattle.lpc_rows.proofs.Steps as steps
 use Rattle.lpc_rows.proofs.Lived as lived
 use Rattle.lpc_model.specs.Basics.{LetsGo}
 use Rattle.lpc_rows.specs.Kept.{rows_by}
+use Rattle.lpc_world.proofs.Hearers as hearers
 use Rattle.lpc_world.proofs.world.World.procs_let_go.Goals as goal
 
 pub let_go-requires : goal.let_go-requires
@@ -15,7 +17,7 @@ pub invariant_of-self : goal.invariant_of-self
 invariant_of-self c = record {
   kept =
       rw c.let_go.ensures.table (raising.let-go-lawful (tables_of c.self.inside.procs c.self.inside.parts.items c.self.inside.ports c.self.inside.waits c.self.inside.names c.self.inside.sections c.self.inside.tokens c.self.inside.token_names c.self.inside.marks) c.self.inside.calls c.self.inside.made c.self.invariant.kept c.args.pid);
-  watched = rw (c.add_any.ensures) (λ calm. absurd (cc));
+  watched = let are = rw (← c.self.view_is) at c.hearers-hearers.ensures in rw (c.let_go.ensures.table, c.add_both.ensures) (hearers.retold-to (rows_by (tables_of c.self.inside.procs c.self.inside.parts.items c.self.inside.ports c.self.inside.waits c.self.inside.names c.self.inside.sections c.self.inside.tokens c.self.inside.token_names c.self.inside.marks)) (births_of (tables_of c.self.inside.procs c.self.inside.parts.items c.self.inside.ports c.self.inside.waits c.self.inside.names c.self.inside.sections c.self.inside.tokens c.self.inside.token_names c.self.inside.marks)).ports c.self.inside.suspects c.self.invariant.watched _ c.args.pid basics.portless c.hearers-hearers.result.0 c.hearers-hearers.result.1 c.self.invariant.kept.born.processes_single are (raising.lets-go (tables_of c.self.inside.procs c.self.inside.parts.items c.self.inside.ports c.self.inside.waits c.self.inside.names c.self.inside.sections c.self.inside.tokens c.self.inside.token_names c.self.inside.marks) c.self.inside.calls c.self.inside.made c.self.invariant.kept c.args.pid));
   lived = rw (c.let_go.ensures.table) (λ calm. lived.step-to (rows_by (tables_of c.self.inside.procs c.self.inside.parts.items c.self.inside.ports c.self.inside.waits c.self.inside.names c.self.inside.sections c.self.inside.tokens c.self.inside.token_names c.self.inside.marks)) (c.self.invariant.lived calm) _ (LetsGo c.args.pid) (raising.lets-go (tables_of c.self.inside.procs c.self.inside.parts.items c.self.inside.ports c.self.inside.waits c.self.inside.names c.self.inside.sections c.self.inside.tokens c.self.inside.token_names c.self.inside.marks) c.self.inside.calls c.self.inside.made c.self.invariant.kept c.args.pid) refl);
 }
 

@@ -2,11 +2,13 @@ use Rattle.std.proofs.Common.{ap, refl, sym, ◌∙◌}
 use Rattle.lpc_procs.specs.Procs.{registration}
 use Rattle.lpc_model.specs.Basics.{basic, SetsException}
 use Rattle.lpc_rows.specs.Kept.{rows_by}
-use Rattle.lpc_rows.specs.Shown.{tables_of}
+use Rattle.lpc_model.specs.Basics as basics
+use Rattle.lpc_rows.specs.Shown.{births_of, tables_of}
 use Rattle.lpc_rows.proofs.Raising as raising
 use Rattle.lpc_rows.proofs.Rooms as rooms
 use Rattle.lpc_rows.proofs.Steps as steps
 use Rattle.lpc_rows.proofs.Lived as lived
+use Rattle.lpc_world.proofs.Hearers as hearers
 use Rattle.lpc_world.proofs.world.World.procs_set_exception_port.Goals as goal
 
 pub set_exception_port-requires : goal.set_exception_port-requires
@@ -18,7 +20,7 @@ invariant_of-self c = record {
       let there = rw (← c.self.view_is) at c.requires.port in
       let birth = rw (← c.self.view_is) at (sym c.port.ensures.own ∙ c.port.ensures.birth) in
       rw c.set_exception_port.ensures.table (raising.exception-lawful (tables_of c.self.inside.procs c.self.inside.parts.items c.self.inside.ports c.self.inside.waits c.self.inside.names c.self.inside.sections c.self.inside.tokens c.self.inside.token_names c.self.inside.marks) c.self.inside.calls c.self.inside.made c.self.invariant.kept c.args.pid (registration c.args.port c.port.result.now.birth) there (sym birth));
-  watched = rw (c.add_any.ensures) (λ calm. absurd (cc));
+  watched = let are = rw (← c.self.view_is) at c.hearers-hearers.ensures in rw (c.set_exception_port.ensures.table, c.add_both.ensures) (hearers.retold-to (rows_by (tables_of c.self.inside.procs c.self.inside.parts.items c.self.inside.ports c.self.inside.waits c.self.inside.names c.self.inside.sections c.self.inside.tokens c.self.inside.token_names c.self.inside.marks)) (births_of (tables_of c.self.inside.procs c.self.inside.parts.items c.self.inside.ports c.self.inside.waits c.self.inside.names c.self.inside.sections c.self.inside.tokens c.self.inside.token_names c.self.inside.marks)).ports c.self.inside.suspects c.self.invariant.watched _ c.args.pid (basics.excepted c.port.result.now.birth) c.hearers-hearers.result.0 c.hearers-hearers.result.1 c.self.invariant.kept.born.processes_single are (raising.sets-exception (tables_of c.self.inside.procs c.self.inside.parts.items c.self.inside.ports c.self.inside.waits c.self.inside.names c.self.inside.sections c.self.inside.tokens c.self.inside.token_names c.self.inside.marks) c.self.inside.calls c.self.inside.made c.self.invariant.kept c.args.pid (registration c.args.port c.port.result.now.birth)));
   lived = rw (c.set_exception_port.ensures.table) (λ calm. lived.step-to (rows_by (tables_of c.self.inside.procs c.self.inside.parts.items c.self.inside.ports c.self.inside.waits c.self.inside.names c.self.inside.sections c.self.inside.tokens c.self.inside.token_names c.self.inside.marks)) (c.self.invariant.lived calm) _ (SetsException c.args.pid c.port.result.now.birth) (raising.sets-exception (tables_of c.self.inside.procs c.self.inside.parts.items c.self.inside.ports c.self.inside.waits c.self.inside.names c.self.inside.sections c.self.inside.tokens c.self.inside.token_names c.self.inside.marks) c.self.inside.calls c.self.inside.made c.self.invariant.kept c.args.pid (registration c.args.port c.port.result.now.birth)) refl);
 }
 
