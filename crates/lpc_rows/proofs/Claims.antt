@@ -326,7 +326,7 @@ ended-keeps w who f b more = all w.threads
         at false off rest = sums _ _ _ _ _ _ (count-append (same_birth b) (registered_by t) (each registered_by ts)) (count-append (same_birth b) (registered_by t) (each registered_by (change (is_thread who) f ts))) (same _) rest
 
 -- rows that go didn't count
-others-stay : {X : Type 0} (p test : X → Bool) → ((x : X) → test x ≡ true → p x ≡ false) → (xs : List X) → count p (without test xs) ≡ count p xs
+pub others-stay : {X : Type 0} (p test : X → Bool) → ((x : X) → test x ≡ true → p x ≡ false) → (xs : List X) → count p (without test xs) ≡ count p xs
 others-stay p test off [] = refl
 others-stay p test off (x ∷ xs) = grind (arith, off x, others-stay p test off xs)
 

@@ -153,16 +153,16 @@ covers n None b = false
 covers n (Some key) b = same_birth (name_of n key) b
 
 -- as far as a port isn't one of some
-abbrev AreBut : World → Names → SuspectTable → (Birth → Bool) → Type 0
+abbrev pub AreBut : World → Names → SuspectTable → (Birth → Bool) → Type 0
 AreBut v n s x = s.any ≡ false → (b : Birth) → has (is_port b) v.ports ≡ true → is_unheld v (port_name b) ≡ true → x b ≡ false → has (is_at n b) s.keys ≡ true
 
-but-all : (v : World) (n : Names) (s : SuspectTable) → AreBut v n s (λ b. false) → AreSuspected v n s
+pub but-all : (v : World) (n : Names) (s : SuspectTable) → AreBut v n s (λ b. false) → AreSuspected v n s
 but-all v n s old = λ calm b there none. old calm b there none refl
 
-but-lost : (w v : World) (n : Names) (s : SuspectTable) (x : Birth → Bool) → NoNewPort w v → ((b : Birth) → x b ≡ false → KeepsClaims w v b) → AreSuspected w n s → AreBut v n s x
+pub but-lost : (w v : World) (n : Names) (s : SuspectTable) (x : Birth → Bool) → NoNewPort w v → ((b : Birth) → x b ≡ false → KeepsClaims w v b) → AreSuspected w n s → AreBut v n s x
 but-lost w v n s x ports keeps old = λ calm b there none off. old calm b (ports b there) (still-unheld w v b (keeps b off) none)
 
-but-adds : (v : World) (n : Names) (s : SuspectTable) (key : Key) (x : Birth → Bool) → stands n key ≡ true → AreBut v n s (λ b. same_birth (name_of n key) b || x b) → AreBut v n (suspecting key s) x
+pub but-adds : (v : World) (n : Names) (s : SuspectTable) (key : Key) (x : Birth → Bool) → stands n key ≡ true → AreBut v n s (λ b. same_birth (name_of n key) b || x b) → AreBut v n (suspecting key s) x
 but-adds v n s key x stood old = at (nat_lt (length s.keys) SUSPECT_LIMIT) refl
   where
     at : (c : Bool) → nat_lt (length s.keys) SUSPECT_LIMIT ≡ c → AreBut v n (cond c (record s { keys = s.keys ++ key ∷ [] }) (record s { any = true })) x
@@ -173,7 +173,7 @@ but-adds v n s key x stood old = at (nat_lt (length s.keys) SUSPECT_LIMIT) refl
         own b there none calm off false away = has-kept (is_at n b) s.keys key (old calm b there none (rw (away, off) refl))
     at false full = λ calm. absurd (grind arith)
 
-but-some : (v : World) (n : Names) (s : SuspectTable) (o : Option Key) (x : Birth → Bool) → some_stands n o ≡ true → AreBut v n s (λ b. covers n o b || x b) → AreBut v n (suspecting_some o s) x
+pub but-some : (v : World) (n : Names) (s : SuspectTable) (o : Option Key) (x : Birth → Bool) → some_stands n o ≡ true → AreBut v n s (λ b. covers n o b || x b) → AreBut v n (suspecting_some o s) x
 but-some v n s None x stood old = old
 but-some v n s (Some key) x stood old = but-adds v n s key x stood old
 

@@ -1,7 +1,7 @@
 -- Processes that go, or whose debug port and exception port change: the ports that were told of their exceptions are
 -- suspected.
 use Rattle.std.proofs.Common.{Bool, cond, List, [], ◌∷◌, ◌++◌, ap, arith, false, not, refl, true, ℕ, ◌+◌, ◌≡◌, ◌≤◌, subst, sym, ◌∙◌, Option, Some, None}
-use Rattle.std.specs.Prelude.{◌||◌, ◌==◌, IfSome, is_some, option_and_then, option_map}
+use Rattle.std.specs.Prelude.{◌||◌, ◌==◌, IfSome, is_some, option_map}
 use Rattle.std.proofs.lemmas.Bool.Decides.{nat_tests}
 use Rattle.lpc_base.specs.Rows.{change, count, differ_by, each, every, first, has, without}
 use Rattle.lpc_base.proofs.Births.{birth-turned}
@@ -17,7 +17,7 @@ use Rattle.lpc_slots.specs.declared.Key.{Key}
 use Rattle.lpc_rows.specs.Lawful.{are_single_processes}
 use Rattle.lpc_rows.specs.Names.{Names, name_of, some_stands, stands}
 use Rattle.lpc_rows.specs.Suspects.{AreSuspected, SuspectTable, suspecting_some}
-use Rattle.lpc_rows.proofs.Claims.{KeepsClaims, processes-keep}
+use Rattle.lpc_rows.proofs.Claims.{processes-keep}
 use Rattle.lpc_rows.proofs.Suspected.{adds-two, covers}
 use Rattle.lpc_world.specs.Suspected.{AreHearers}
 
@@ -76,7 +76,7 @@ own-first number p (y ∷ ys) x one found = at (p y) refl found (λ later. own-f
             let there : has (λ z. number z == number x) ys ≡ true = ap is_some later in
             absurd (grind (arith, off, there))
 
-the-covered : (n : Names) (o : Option Key) (b : Birth) → is_the b (option_map (name_of n) o) ≡ covers n o b
+pub the-covered : (n : Names) (o : Option Key) (b : Birth) → is_the b (option_map (name_of n) o) ≡ covers n o b
 the-covered n None b = refl
 the-covered n (Some key) b = birth-turned b (name_of n key)
 

@@ -2,3 +2,5 @@ mod Lent
 mod Places
 mod Told
 mod Hearers
+mod Enrolled
+mod Owners

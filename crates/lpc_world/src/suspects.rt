@@ -2,12 +2,14 @@
 ghost use Rattle.std.specs.Prelude.{◌≡◌, [], false, true, slice_get};
 ghost use Rattle.lpc_base.specs.Rows.{without};
 ghost use Rattle.lpc_slots.specs.Table.{is_key};
-ghost use Rattle.lpc_world.specs.Suspected.{suspect_of};
+ghost use Rattle.lpc_world.specs.Suspected.{suspect_of, suspecting_each, suspecting_owners};
 ghost use Rattle.lpc_world.specs.declared.suspects.Suspect.TheVariants.{Anybody};
 ghost use Rattle.lpc_rows.specs.Suspects.{suspecting, suspecting_any, suspecting_if, suspecting_some};
 
 use arrayvec::ArrayVec;
+use lpc_procs::Registration;
 use lpc_slots::Key;
+use lpc_views::View;
 use std::marker::Model;
 
 /// Whom a sweep is to look at.
@@ -74,6 +76,24 @@ impl Suspects {
     {
         self.add_some(ports.0);
         self.add_some(ports.1);
+    }
+
+    /// The ports of registrations are suspected.
+    pub(crate) fn add_each(&mut self, registered: &[Registration])
+        ensures { self.new ≡ suspecting_each registered.now self.old }
+    {
+        for r in registered {
+            self.add(r.port);
+        }
+    }
+
+    /// The ports are suspected with which views go.
+    pub(crate) fn add_owners(&mut self, views: &[View<Key>])
+        ensures { self.new ≡ suspecting_owners views.now self.old }
+    {
+        for view in views {
+            self.add_some(view.owner);
+        }
     }
 
     /// Any port is suspected.

@@ -2,7 +2,7 @@
 ghost use Rattle.std.specs.Prelude.{◌≡◌, ◌*◌, ◌≤◌, true, length, is_some, option_map, Some, IsSomeAnd};
 ghost use Rattle.lpc_base.specs.Rows.{count, has};
 ghost use Rattle.lpc_base.specs.declared.limits.TheConstants.{REGISTRATION_LIMIT};
-ghost use Rattle.lpc_procs.specs.Procs.{HasRegistrationLeft, all_registrations, first_untold, has_registered, is_of_birth, live_registrations, registering, registration, thread_at, unregistering, with_thread};
+ghost use Rattle.lpc_procs.specs.Procs.{HasRegistrationLeft, all_registrations, first_untold, has_registered, is_of_birth, live_registrations, registered_by, registering, registration, thread_at, unregistering, with_thread};
 
 use crate::keys::thread_key;
 use crate::marks::{mark_of, take_all};
@@ -54,6 +54,14 @@ impl Procs {
             ≡ Some result }
     {
         registrations::has_birth(&self.thread(tid).registered, birth)
+    }
+
+    /// The registrations of the thread, which has a row, in the order in which it made them.
+    pub fn registrations_of(&self, tid: u32) -> &[Registration]
+        requires present { is_some (thread_at self.now tid) ≡ true }
+        ensures rows { option_map registered_by (thread_at self.now tid) ≡ Some result.now }
+    {
+        &self.thread(tid).registered
     }
 
     /// How many registrations the thread has, which has a row.

@@ -3,6 +3,7 @@ ghost use Rattle.std.specs.Prelude.{◌≡◌, ◌+◌, ◌<◌, ◌≤◌, Some
 ghost use Rattle.lpc_base.specs.Rows.{first, has};
 ghost use Rattle.lpc_model.specs.Basics.{Registers, Unregisters};
 ghost use Rattle.lpc_model.specs.Found.{is_live_thread, is_thread, lives_in, waits_as};
+ghost use Rattle.lpc_procs.specs.Procs.{is_of_birth};
 ghost use Rattle.lpc_rows.specs.Clauses.{Finds, after, and_message, birth_at};
 ghost use Rattle.lpc_rows.specs.Kept.{CanMake, IsStep, Roomy, owed_rows};
 ghost use Rattle.lpc_rows.specs.Lawful.{are_single_threads};
@@ -14,7 +15,7 @@ ghost use Rattle.lpc_rows.specs.Registered.{HasFewRegistrations, untold_of, deat
 use crate::world::World;
 use lpc_base::Birth;
 use lpc_message::ClientId;
-use lpc_procs::Number;
+use lpc_procs::{Number, Registration};
 use lpc_rows::Death;
 use lpc_slots::Key;
 
@@ -55,9 +56,10 @@ impl World {
         ensures place { 0 < self.new.room.messages }
         ensures capacity { self.new.capacity ≡ self.old.capacity }
     {
+        let port = registered_key(self.procs.registrations_of(tid), birth);
         self.loose = true;
         self.procs.unregister(tid, birth);
-        self.suspects.add_any();
+        self.suspects.add_some(port);
     }
 
     /// A live thread ends, which doesn't wait.
@@ -70,9 +72,8 @@ impl World {
     {
         let born = self.born_of_live(tid);
         self.loose = true;
-        let registered = self.procs.registrations() > 0;
+        self.suspects.add_each(self.procs.registrations_of(tid));
         self.procs.end_thread(tid);
-        self.suspects.add_any_if(registered);
         self.lives.suspect_thread(born.0);
         self.lives.suspect_process(born.1);
     }
@@ -129,4 +130,16 @@ impl World {
             registered: registration.birth,
         })
     }
+}
+
+// The key of the port with a birth among registrations: None where none of them is of it.
+fn registered_key(registered: &[Registration], birth: Birth) -> Option<Key>
+    ensures { result ≡ option_map (λ r. r.port) (first (is_of_birth birth) registered.now) }
+{
+    for r in registered {
+        if birth == r.birth {
+            return Some(r.port);
+        }
+    }
+    None
 }

@@ -165,8 +165,8 @@ impl World {
         ensures capacity { self.new.capacity ≡ self.old.capacity }
     {
         self.loose = true;
+        self.suspects.add_owners(self.parts.views_of(pid).views());
         self.parts.drop_views(pid);
-        self.suspects.add_any();
     }
 
     /// All views that go with a port go, of whatever process they are.

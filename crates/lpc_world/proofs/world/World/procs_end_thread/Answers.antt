@@ -1,4 +1,3 @@
-use Rattle.lpc_rows.proofs.Registered.{registered-many}
 use Rattle.std.proofs.Common.{ap, refl, length, ◌∙◌, arith}
 use Rattle.lpc_model.specs.Basics.{ended}
 use Rattle.lpc_model.specs.World.{World}
@@ -8,12 +7,16 @@ use Rattle.lpc_rows.proofs.Dying.{fewer-alive}
 use Rattle.lpc_rows.proofs.Enrolling as enrolling
 use Rattle.lpc_rows.proofs.Lived as lived
 use Rattle.lpc_rows.proofs.Registered.{registered-change}
-use Rattle.lpc_rows.proofs.Suspecting as suspecting
-use Rattle.lpc_rows.specs.Shown.{births_of}
+use Rattle.lpc_world.proofs.Enrolled as enrolled
 use Rattle.lpc_world.proofs.world.World.procs_end_thread.Goals as goal
 
 pub end_thread-requires : goal.end_thread-requires
 end_thread-requires c =
+    let live = rw (← c.self.view_is) at c.requires.live in
+    record { present = enrolling.stands_live (tables_of c.self.inside.procs c.self.inside.parts.items c.self.inside.ports c.self.inside.waits c.self.inside.names c.self.inside.sections c.self.inside.tokens c.self.inside.token_names c.self.inside.marks) c.self.inside.calls c.self.inside.made c.self.invariant.kept c.args.tid live }
+
+pub registrations_of-requires : goal.registrations_of-requires
+registrations_of-requires c =
     let live = rw (← c.self.view_is) at c.requires.live in
     record { present = enrolling.stands_live (tables_of c.self.inside.procs c.self.inside.parts.items c.self.inside.ports c.self.inside.waits c.self.inside.names c.self.inside.sections c.self.inside.tokens c.self.inside.token_names c.self.inside.marks) c.self.inside.calls c.self.inside.made c.self.invariant.kept c.args.tid live }
 
@@ -22,7 +25,7 @@ invariant_of-self c = record {
   kept =
       let ready = rw (← c.self.view_is) at c.requires.ready in
       rw c.end_thread.ensures.table (enrolling.ending-lawful (tables_of c.self.inside.procs c.self.inside.parts.items c.self.inside.ports c.self.inside.waits c.self.inside.names c.self.inside.sections c.self.inside.tokens c.self.inside.token_names c.self.inside.marks) c.self.inside.calls c.self.inside.made c.self.invariant.kept c.args.tid ready);
-  watched = rw (c.end_thread.ensures.table, c.add_any_if.ensures) (suspecting.died-if-to (rows_by (tables_of c.self.inside.procs c.self.inside.parts.items c.self.inside.ports c.self.inside.waits c.self.inside.names c.self.inside.sections c.self.inside.tokens c.self.inside.token_names c.self.inside.marks)) (births_of (tables_of c.self.inside.procs c.self.inside.parts.items c.self.inside.ports c.self.inside.waits c.self.inside.names c.self.inside.sections c.self.inside.tokens c.self.inside.token_names c.self.inside.marks)).ports c.self.inside.suspects c.self.invariant.watched _ c.args.tid _ (enrolling.ends (tables_of c.self.inside.procs c.self.inside.parts.items c.self.inside.ports c.self.inside.waits c.self.inside.names c.self.inside.sections c.self.inside.tokens c.self.inside.token_names c.self.inside.marks) c.self.inside.calls c.self.inside.made c.self.invariant.kept c.args.tid) (λ none. let deaths = registered-many c.self.inside.procs.threads in let few = suspecting.not-above c.registrations-registered.result none in omega (arith, deaths, few, c.registrations-registered.ensures.count)));
+  watched = rw (c.end_thread.ensures.table, c.add_each.ensures) (enrolled.ended-to (tables_of c.self.inside.procs c.self.inside.parts.items c.self.inside.ports c.self.inside.waits c.self.inside.names c.self.inside.sections c.self.inside.tokens c.self.inside.token_names c.self.inside.marks) c.self.inside.calls c.self.inside.made c.self.invariant.kept c.self.inside.suspects c.self.invariant.watched _ c.args.tid c.registrations_of.result.now c.registrations_of.ensures.rows (enrolling.ends (tables_of c.self.inside.procs c.self.inside.parts.items c.self.inside.ports c.self.inside.waits c.self.inside.names c.self.inside.sections c.self.inside.tokens c.self.inside.token_names c.self.inside.marks) c.self.inside.calls c.self.inside.made c.self.invariant.kept c.args.tid));
   lived = let thread = rw (← c.self.view_is) at c.born_of_live-born.ensures.thread in let home = rw (← c.self.view_is) at c.born_of_live-born.ensures.process in rw (c.end_thread.ensures.table, c.suspect_process.ensures, c.suspect_thread.ensures) (λ calm. lived.ended-by (rows_by (tables_of c.self.inside.procs c.self.inside.parts.items c.self.inside.ports c.self.inside.waits c.self.inside.names c.self.inside.sections c.self.inside.tokens c.self.inside.token_names c.self.inside.marks)) c.self.inside.lives c.self.invariant.lived _ c.args.tid c.born_of_live-born.result.0 c.born_of_live-born.result.1 c.self.invariant.kept.drawn.threads_single c.self.invariant.kept.born.processes_single thread home (enrolling.ends (tables_of c.self.inside.procs c.self.inside.parts.items c.self.inside.ports c.self.inside.waits c.self.inside.names c.self.inside.sections c.self.inside.tokens c.self.inside.token_names c.self.inside.marks) c.self.inside.calls c.self.inside.made c.self.invariant.kept c.args.tid) calm);
 }
 

@@ -6,6 +6,7 @@ use Rattle.lpc_rows.proofs.Dying.{fewer-registered}
 use Rattle.lpc_rows.proofs.Enrolling as enrolling
 use Rattle.lpc_model.specs.Basics.{Unregisters, unregistering}
 use Rattle.lpc_rows.proofs.Lived as lived
+use Rattle.lpc_world.proofs.Enrolled as enrolled
 use Rattle.lpc_world.proofs.world.World.procs_unregister.Goals as goal
 use Rattle.lpc_rows.proofs.Lawful.{alive-change}
 
@@ -14,11 +15,16 @@ unregister-requires c =
     let there = rw (← c.self.view_is) at c.requires.registered in
     record { present = enrolling.stands_registered (tables_of c.self.inside.procs c.self.inside.parts.items c.self.inside.ports c.self.inside.waits c.self.inside.names c.self.inside.sections c.self.inside.tokens c.self.inside.token_names c.self.inside.marks) c.self.inside.calls c.self.inside.made c.self.invariant.kept c.args.tid c.args.birth there }
 
+pub registrations_of-requires : goal.registrations_of-requires
+registrations_of-requires c =
+    let there = rw (← c.self.view_is) at c.requires.registered in
+    record { present = enrolling.stands_registered (tables_of c.self.inside.procs c.self.inside.parts.items c.self.inside.ports c.self.inside.waits c.self.inside.names c.self.inside.sections c.self.inside.tokens c.self.inside.token_names c.self.inside.marks) c.self.inside.calls c.self.inside.made c.self.invariant.kept c.args.tid c.args.birth there }
+
 pub invariant_of-self : goal.invariant_of-self
 invariant_of-self c = record {
   kept =
       rw c.unregister.ensures.table (enrolling.unregistering-lawful (tables_of c.self.inside.procs c.self.inside.parts.items c.self.inside.ports c.self.inside.waits c.self.inside.names c.self.inside.sections c.self.inside.tokens c.self.inside.token_names c.self.inside.marks) c.self.inside.calls c.self.inside.made c.self.invariant.kept c.args.tid c.args.birth);
-  watched = rw (c.add_any.ensures) (λ calm. absurd (cc));
+  watched = rw (c.unregister.ensures.table, c.add_some.ensures) (enrolled.unregistered-to (tables_of c.self.inside.procs c.self.inside.parts.items c.self.inside.ports c.self.inside.waits c.self.inside.names c.self.inside.sections c.self.inside.tokens c.self.inside.token_names c.self.inside.marks) c.self.inside.calls c.self.inside.made c.self.invariant.kept c.self.inside.suspects c.self.invariant.watched _ c.args.tid c.args.birth c.registrations_of.result.now c.registered_key-port.result c.registrations_of.ensures.rows c.registered_key-port.ensures (enrolling.unregisters (tables_of c.self.inside.procs c.self.inside.parts.items c.self.inside.ports c.self.inside.waits c.self.inside.names c.self.inside.sections c.self.inside.tokens c.self.inside.token_names c.self.inside.marks) c.self.inside.calls c.self.inside.made c.self.invariant.kept c.args.tid c.args.birth));
   lived = rw (c.unregister.ensures.table) (λ calm. lived.step-to (rows_by (tables_of c.self.inside.procs c.self.inside.parts.items c.self.inside.ports c.self.inside.waits c.self.inside.names c.self.inside.sections c.self.inside.tokens c.self.inside.token_names c.self.inside.marks)) (c.self.invariant.lived calm) _ (Unregisters c.args.tid c.args.birth) (enrolling.unregisters (tables_of c.self.inside.procs c.self.inside.parts.items c.self.inside.ports c.self.inside.waits c.self.inside.names c.self.inside.sections c.self.inside.tokens c.self.inside.token_names c.self.inside.marks) c.self.inside.calls c.self.inside.made c.self.invariant.kept c.args.tid c.args.birth) refl);
 }
 

@@ -8,6 +8,7 @@ use Rattle.lpc_rows.proofs.ViewRooms as rooms
 use Rattle.lpc_rows.proofs.Views as views
 use Rattle.lpc_rows.proofs.Lived as lived
 use Rattle.lpc_model.specs.Basics.{DropsViewsOf}
+use Rattle.lpc_world.proofs.Owners as owners
 use Rattle.lpc_world.proofs.world.World.views_drop.Goals as goal
 
 pub drop_views-requires-clause-one : goal.drop_views-requires-clause-one
@@ -16,11 +17,14 @@ drop_views-requires-clause-one c = tables.single (tables_of c.self.inside.procs 
 pub drop_views-requires-clause-part : goal.drop_views-requires-clause-part
 drop_views-requires-clause-part c = sym (tables.has_table (tables_of c.self.inside.procs c.self.inside.parts.items c.self.inside.ports c.self.inside.waits c.self.inside.names c.self.inside.sections c.self.inside.tokens c.self.inside.token_names c.self.inside.marks) c.self.inside.calls c.self.inside.made c.self.invariant.kept c.args.pid) ∙ (rw (← c.self.view_is) at c.requires.table)
 
+pub views_of-requires : goal.views_of-requires
+views_of-requires c = sym (tables.has_table (tables_of c.self.inside.procs c.self.inside.parts.items c.self.inside.ports c.self.inside.waits c.self.inside.names c.self.inside.sections c.self.inside.tokens c.self.inside.token_names c.self.inside.marks) c.self.inside.calls c.self.inside.made c.self.invariant.kept c.args.pid) ∙ (rw (← c.self.view_is) at c.requires.table)
+
 pub invariant_of-self : goal.invariant_of-self
 invariant_of-self c = record {
   kept =
       rw c.drop_views.ensures.parts (views.dropped_lawful (tables_of c.self.inside.procs c.self.inside.parts.items c.self.inside.ports c.self.inside.waits c.self.inside.names c.self.inside.sections c.self.inside.tokens c.self.inside.token_names c.self.inside.marks) c.self.inside.calls c.self.inside.made c.self.invariant.kept c.args.pid);
-  watched = rw (c.add_any.ensures) (λ calm. absurd (cc));
+  watched = rw (c.drop_views.ensures.parts, c.add_owners.ensures, c.views.ensures.views, c.views_of.ensures.views) (owners.dropped-to (tables_of c.self.inside.procs c.self.inside.parts.items c.self.inside.ports c.self.inside.waits c.self.inside.names c.self.inside.sections c.self.inside.tokens c.self.inside.token_names c.self.inside.marks) c.self.inside.calls c.self.inside.made c.self.invariant.kept c.self.inside.suspects c.self.invariant.watched _ c.args.pid (tables.single (tables_of c.self.inside.procs c.self.inside.parts.items c.self.inside.ports c.self.inside.waits c.self.inside.names c.self.inside.sections c.self.inside.tokens c.self.inside.token_names c.self.inside.marks) c.self.inside.calls c.self.inside.made c.self.invariant.kept) (views.drops (tables_of c.self.inside.procs c.self.inside.parts.items c.self.inside.ports c.self.inside.waits c.self.inside.names c.self.inside.sections c.self.inside.tokens c.self.inside.token_names c.self.inside.marks) c.self.inside.calls c.self.inside.made c.self.invariant.kept c.args.pid));
   lived = rw (c.drop_views.ensures.parts) (λ calm. lived.step-to (rows_by (tables_of c.self.inside.procs c.self.inside.parts.items c.self.inside.ports c.self.inside.waits c.self.inside.names c.self.inside.sections c.self.inside.tokens c.self.inside.token_names c.self.inside.marks)) (c.self.invariant.lived calm) _ (DropsViewsOf c.args.pid) (views.drops (tables_of c.self.inside.procs c.self.inside.parts.items c.self.inside.ports c.self.inside.waits c.self.inside.names c.self.inside.sections c.self.inside.tokens c.self.inside.token_names c.self.inside.marks) c.self.inside.calls c.self.inside.made c.self.invariant.kept c.args.pid) refl);
 }
 
