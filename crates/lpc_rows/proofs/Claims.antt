@@ -8,7 +8,7 @@ use Rattle.lpc_base.proofs.Births.{birth-same, births-apart}
 use Rattle.lpc_base.proofs.Bools.{first-true, second-true}
 use Rattle.lpc_model.specs.World.{Birth, HandleRow, HandleTable, MessageRow, ObjectName, PortRow, ProcessRow, ThreadRow, ViewRow, ViewTable, WaitRow, World}
 use Rattle.lpc_model.specs.Found.{all_registrations, all_views, event_ports, event_ports_of, free_handle, handle_count, handles_in, has_value, is_connected_to, is_made_on, is_owned_by, is_paired_to, is_port, is_process, is_sent_on, is_space, is_table, is_the, is_thread, port_name, registered_by, same_birth, same_object, waits_as, waits_at}
-use Rattle.lpc_model.specs.Basics.{Accepts, Acts, AddsHandle, AddsProcess, AddsSection, AddsThread, AddsToken, Awaits, Basic, Binds, Completes, Cuts, Dies, Dooms, DropsHandle, DropsOwned, DropsViewsOf, Empties, Frees, Joins, Leaves, LetsGo, Makes, SetsDebug, SetsException, Takes, TakesConnect, Unmaps, Unregisters, Wakes, Withdraws, DrawsIdentifier, DrawsOrdinal, Enters, Marks, Maps, NamesToken, Receives, Registers, Secures, Tells, Unbinds, Writes, accepted, acting, basic, completed, doomed, ended, joined, past_identifier, past_ordinal, no_handles, no_views, received, registering, secured, with_view, without_handle, without_owned}
+use Rattle.lpc_model.specs.Basics.{Accepts, Acts, AddsHandle, AddsProcess, AddsSection, AddsThread, AddsToken, Awaits, Basic, Binds, Completes, Cuts, Dies, Dooms, DropsHandle, DropsOwned, DropsViewsOf, Empties, Frees, Joins, Leaves, LetsGo, Makes, SetsDebug, SetsException, Takes, TakesConnect, Unmaps, Unregisters, Wakes, Withdraws, DrawsIdentifier, DrawsOrdinal, Enters, Marks, Maps, NamesToken, Receives, Registers, Secures, Tells, Unbinds, Writes, accepted, acting, basic, completed, doomed, joined, past_identifier, past_ordinal, no_handles, no_views, received, registering, secured, with_view, without_handle, without_owned}
 use Rattle.lpc_model.specs.Sweep.{is_unheld}
 use Rattle.lpc_model.specs.Tests.{handle_row}
 use Rattle.lpc_model.proofs.Held.Steps.{handle-count, handles-push, push-more}
@@ -347,13 +347,6 @@ owned-keeps w c b off = views-keep w b (map (without_owned c) w.views) (all w.vi
     all : (ts : List ViewTable) → count (is_owned_by b) (each (λ (t : ViewTable). t.rows) ts) ≤ count (is_owned_by b) (each (λ (t : ViewTable). t.rows) (map (without_owned c) ts))
     all [] = omega arith
     all (t ∷ ts) = sums _ _ _ _ _ _ (count-append (is_owned_by b) t.rows (each (λ (u : ViewTable). u.rows) ts)) (count-append (is_owned_by b) (without (is_owned_by c) t.rows) (each (λ (u : ViewTable). u.rows) (map (without_owned c) ts))) (owned-without c b off t.rows) (all ts)
-
--- a thread ends that registered no port
-pub dead-keeps : (w : World) (who : ℕ) (b : Birth) → count (same_birth b) (each registered_by w.threads) ≤ 0 → KeepsClaims w (record w { threads = change (is_thread who) ended w.threads }) b
-dead-keeps w who b none = threads-keep w b (change (is_thread who) ended w.threads) (least _ _ none)
-  where
-    least : (n m : ℕ) → n ≤ 0 → n ≤ m
-    least n m is = omega (arith, is)
 
 -- ports that are joined, and had no other end that is this one
 pub joined-keeps : (w : World) (client server : Birth) (context : ℕ) (b : Birth) → has (λ (p : PortRow). (is_port client p || is_port server p) && is_paired_to b p) w.ports ≡ false → KeepsClaims w (basic w (Joins client server context)) b

@@ -8,8 +8,8 @@ use Rattle.lpc_base.proofs.Bools.{first-true, second-true}
 use Rattle.lpc_base.proofs.Differ.{own-rows, rest-differ, rest-none}
 use Rattle.lpc_base.proofs.RowWords.{every-more, first-passes, has-change, has-push, has-kept, without-none}
 use Rattle.lpc_model.specs.World.{Birth, HandleRow, HandleTable, MessageRow, ObjectName, PortRow, ProcessRow, ThreadRow, WaitRow, World}
-use Rattle.lpc_model.specs.Found.{all_registrations, free_handle, handle_at, has_value, is_connected_to, is_life, is_made_on, is_mark, is_paired_to, is_port, is_table, is_the, is_thread, port_name, section_name, token_name, registered_by, rows_in, same_birth, same_object, waits_as}
-use Rattle.lpc_model.specs.Basics.{AddsHandle, AddsProcess, AddsThread, Basic, Cuts, DropsHandle, DropsOwned, Frees, Joins, Makes, basic, cut, ended, is_end_of, joined, left_by}
+use Rattle.lpc_model.specs.Found.{free_handle, handle_at, has_value, is_connected_to, is_life, is_made_on, is_mark, is_paired_to, is_port, is_table, is_the, port_name, section_name, token_name, registered_by, rows_in, same_birth, same_object, waits_as}
+use Rattle.lpc_model.specs.Basics.{AddsHandle, AddsProcess, AddsThread, Basic, Cuts, DropsHandle, DropsOwned, Frees, Joins, Makes, basic, cut, is_end_of, joined, left_by}
 use Rattle.lpc_model.specs.Sweep.{is_unheld}
 use Rattle.lpc_model.specs.Tests.{handle_row}
 use Rattle.lpc_model.proofs.Steps.Registrations.{dead-each}
@@ -19,7 +19,7 @@ use Rattle.lpc_slots.specs.Table.{is_key}
 use Rattle.lpc_slots.proofs.Keys.{key_is}
 use Rattle.lpc_rows.specs.Names.{KeepsNames, KeepsOthers, Names, name_of, some_stands, stands}
 use Rattle.lpc_rows.specs.Suspects.{AreSuspected, NamesPort, SUSPECT_LIMIT, SuspectTable, is_at, suspecting, suspecting_some}
-use Rattle.lpc_rows.proofs.Claims.{KeepsClaims, alike, changed-keeps, closed-keeps, dead-keeps, freed-keeps, handle-keeps, joined-keeps, owned-keeps, keeps_claims, left-keeps, made-keeps, plain, ports-keep, process-keeps, step-keeps, step-ports, still-unheld, taken-keeps, thread-keeps, threads-keep, waits-keep}
+use Rattle.lpc_rows.proofs.Claims.{KeepsClaims, alike, changed-keeps, closed-keeps, freed-keeps, handle-keeps, joined-keeps, owned-keeps, keeps_claims, left-keeps, made-keeps, plain, ports-keep, process-keeps, step-keeps, step-ports, still-unheld, taken-keeps, thread-keeps, threads-keep, waits-keep}
 
 -- no port is made
 abbrev pub NoNewPort : World → World → Type 0
@@ -197,7 +197,7 @@ has-before p [] y there off = absurd (grind (arith, there, off))
 has-before p (x ∷ xs) y there off = grind (arith, has-before p xs y)
 
 -- no row passes two tests, where each that passes one fails the other
-none-both : {X : Type 0} (p q : X → Bool) (xs : List X) → every (λ x. not (p x) || not (q x)) xs ≡ true → has (λ x. p x && q x) xs ≡ false
+pub none-both : {X : Type 0} (p q : X → Bool) (xs : List X) → every (λ x. not (p x) || not (q x)) xs ≡ true → has (λ x. p x && q x) xs ≡ false
 none-both p q [] all = refl
 none-both p q (x ∷ xs) all = let rest = none-both p q xs (second-true _ _ all) in let here = away (p x) (q x) (first-true _ _ all) in rw (here, rest) refl
   where
@@ -328,12 +328,6 @@ module _ (w : World) (n : Names) (s : SuspectTable) (old : AreSuspected w n s) w
       uncovered : (o : Option Key) (b : Birth) → covers n o b ≡ false → passes o (λ key. same_birth (name_of n key) b) ≡ false
       uncovered None b off = refl
       uncovered (Some key) b off = off
-
-  -- a thread ends where none that lives has registered a port
-  pub died-to : (v : World) (who : ℕ) → ((b : Birth) → count (same_birth b) (all_registrations w) ≤ 0) → v ≡ record w { threads = change (is_thread who) ended w.threads } → AreSuspected v n s
-  died-to v who none is =
-      subst (λ (u : World). AreSuspected u n s) (sym is)
-      (stays w (record w { threads = change (is_thread who) ended w.threads }) n s (λ b there. there) (λ b. dead-keeps w who b (none b)) old)
 
   -- a section goes, and a token
   pub unshown-to : (v : World) (b : Birth) → v ≡ basic w (Frees (section_name b)) → AreSuspected v n s

@@ -1,14 +1,13 @@
 -- For changing calls on tables: the ports that no row counts for stay suspected.
 use Rattle.std.proofs.Common.{Bool, List, [], ap, arith, false, not, refl, true, ℕ, ◌+◌, ◌∷◌, ◌≡◌, ◌≤◌, subst, sym, ◌∙◌, Option, Some, None}
-use Rattle.std.specs.Prelude.{◌&&◌, ◌||◌, ◌==◌, IfOk, IfNone, IfSome, OnErr, Result, Ok, Err, is_some, length, nat_lt, option_map, unwrap_or}
-use Rattle.lpc_base.specs.Rows.{change, count, differ_by, each, every, first, has, when, without}
-use Rattle.std.proofs.lemmas.Bool.Decides.{nat_tests}
+use Rattle.std.specs.Prelude.{◌&&◌, ◌||◌, IfOk, IfNone, IfSome, OnErr, Result, Ok, Err, is_some, option_map, unwrap_or}
+use Rattle.lpc_base.specs.Rows.{change, count, differ_by, every, first, has, without}
 use Rattle.lpc_base.specs.Places.{least_handle}
 use Rattle.lpc_base.proofs.Births.{birth-same, birth-self}
 use Rattle.lpc_base.proofs.Bools.{first-true, second-true}
 use Rattle.lpc_base.proofs.Differ.{one-row}
 use Rattle.lpc_base.proofs.RowMaps.{every-first, first-map}
-use Rattle.lpc_base.proofs.RowWords.{count-append, every-any, every-not, without-none}
+use Rattle.lpc_base.proofs.RowWords.{every-any, every-not, without-none}
 use Rattle.lpc_handles.specs.Handles.{values}
 use Rattle.lpc_handles.specs.declared.table.Row.{Row}
 use Rattle.lpc_handles.specs.declared.table.TableFault.{TableFault}
@@ -17,14 +16,13 @@ use Rattle.lpc_homes.specs.declared.object.Object.{Object}
 use Rattle.lpc_homes.specs.declared.parts.Part.{Part}
 use Rattle.lpc_model.specs.World as model
 use Rattle.lpc_model.specs.World.{Birth, World}
-use Rattle.lpc_model.specs.Found.{is_life, is_port, port_name, registered_by, same_birth, thread_name, waits_as}
-use Rattle.lpc_model.specs.Basics.{Accepts, AddsHandle, Maps, Writes, basic, ended, left_by}
+use Rattle.lpc_model.specs.Found.{is_life, is_port, port_name, same_birth, thread_name, waits_as}
+use Rattle.lpc_model.specs.Basics.{Accepts, AddsHandle, Maps, Writes, basic, left_by}
 use Rattle.lpc_model.specs.Memory.{place_in}
 use Rattle.lpc_model.specs.Tests.{handle_row}
 use Rattle.lpc_model.specs.Linked.{HasHeldPorts}
 use Rattle.lpc_model.specs.Sweep.{is_unheld}
 use Rattle.lpc_model.proofs.Steps.Rows.{has-none, has-without}
-use Rattle.std.proofs.lemmas.List.{length-append}
 use Rattle.lpc_ports.specs.Table.{QueuedMessage, without_messages}
 use Rattle.lpc_ports.specs.declared.messages.Message.{Message}
 use Rattle.lpc_slots.specs.Table.{at_key, is_key}
@@ -35,7 +33,7 @@ use Rattle.lpc_waits.specs.declared.Wait.{Wait}
 use Rattle.lpc_waits.specs.Table.{WaitingThread}
 use Rattle.lpc_rows.specs.Clauses.{written_through}
 use Rattle.lpc_rows.specs.Held.{has_holders}
-use Rattle.lpc_rows.specs.Kept.{registered_ports, rows_by}
+use Rattle.lpc_rows.specs.Kept.{rows_by}
 use Rattle.lpc_rows.specs.Lawful.{AreLawful}
 use Rattle.lpc_rows.specs.Names.{Names, name_of, names_of, stands}
 use Rattle.lpc_rows.specs.Shown.{AreNamed, Tables, all_pass, birth_of, births_of, message_refs, name_by, object_stands, shown_handle, shown_wait, wait_refs}
@@ -108,26 +106,6 @@ module _ (it : Tables) (calls made : ℕ) (is : AreLawful it calls made) (s : Su
   handed-to pid row (Ok value) new least parts none = given-to pid value row _ least (tables.hands_or_not it calls made is pid row (Ok value) new parts)
   handed-to pid row (Err e) new least parts none = suspected.same-to (rows_by it) (births_of it).ports s old _ (ap (λ ps. rows_by (record it { parts = ps })) none)
 
--- a thread ends where no port is registered
-pub unregistered-to : (w : World) (n : Names) (s : SuspectTable) → AreSuspected w n s → (v : World) (who : ℕ) → length (registered_ports w) ≤ 0 → v ≡ record w { threads = change (λ (t : model.ThreadRow). t.number == who) ended w.threads } → AreSuspected v n s
-unregistered-to w n s old v who none is = suspected.died-to w n s old v who (λ b. few b w.threads none) is
-  where
-    sums : (a b c : ℕ) → a ≤ 0 → b ≤ 0 → c ≡ a + b → c ≤ 0
-    sums a b c one two is = omega (arith, one, two, is)
-
-    parts : (a b c : ℕ) → c ≤ 0 → c ≡ a + b → (a ≤ 0) × (b ≤ 0)
-    parts a b c few is = (omega (arith, few, is), omega (arith, few, is))
-
-    own : (b : Birth) (live : Bool) (rs : List Birth) → length rs ≤ 0 → count (same_birth b) (when live rs) ≤ 0
-    own b live [] few = elim live as (λ l. count (same_birth b) (when l []) ≤ 0) [ true ↦ omega arith | false ↦ omega arith ]
-    own b live (r ∷ rs) few = absurd (omega (arith, few))
-
-    few : (b : Birth) (ts : List model.ThreadRow) → length (each (λ (t : model.ThreadRow). t.registrations) ts) ≤ 0 → count (same_birth b) (each registered_by ts) ≤ 0
-    few b [] none = omega arith
-    few b (t ∷ ts) none =
-        let p = parts (length t.registrations) (length (each (λ (u : model.ThreadRow). u.registrations) ts)) _ none (length-append t.registrations (each (λ (u : model.ThreadRow). u.registrations) ts)) in
-        sums _ _ _ (own b t.live t.registrations p.0) (few b ts p.1) (count-append (same_birth b) (registered_by t) (each registered_by ts))
-
 -- no thread of the name lives
 pub dead : (w : World) (b : Birth) → has_holders w (thread_name b) ≡ false → every (λ (t : model.ThreadRow). not (is_life b t)) w.threads ≡ true
 dead w b none = every-not (is_life b) w.threads (sym (zero_has (is_life b) w.threads) ∙ none)
@@ -145,10 +123,6 @@ names-to v n m s is old = subst (λ (k : Names). AreSuspected v k s) (sym is) ol
 -- no two ports have one birth
 pub single-ports : (it : Tables) → AreNamed (births_of it) it → (b : Birth) → count (is_port b) (rows_by it).ports ≤ 1
 single-ports it is b = single-port (birth_of (births_of it)) it.ports.ports b is.ports_apart
-
--- a number that isn't above 0
-pub not-above : (n : ℕ) → nat_lt 0 n ≡ false → n ≤ 0
-not-above n off = grind (arith, nat_tests)
 
 -- where no port is suspected, some row counts for each
 module _ (w : World) (n : Names) (s : SuspectTable) (old : AreSuspected w n s) where
@@ -234,10 +208,6 @@ pub stands-is : {R : Type 0} (birth : R → Birth) (rows : List (Key × R)) (key
 unfolding stands
 stands-is birth [] key = refl
 stands-is birth (row ∷ rows) key = grind (arith, stands-is birth rows key)
-
--- a thread ends, and any port is suspected unless none is registered
-pub died-if-to : (w : World) (n : Names) (s : SuspectTable) → AreSuspected w n s → (v : World) (who : ℕ) (so : Bool) → v ≡ record w { threads = change (λ (t : model.ThreadRow). t.number == who) ended w.threads } → (so ≡ false → length (registered_ports w) ≤ 0) → AreSuspected v n (suspecting_if so s)
-died-if-to w n s old v who so is few = if-to w n s old v so (λ none. unregistered-to w n s old v who (few none) is)
 
 -- a world without ports has none
 pub no-port : (b : Birth) → has (is_port b) [] ≡ true → ⊥

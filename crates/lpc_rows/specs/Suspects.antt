@@ -32,10 +32,7 @@ abbrev pub suspecting_some : Option Key → SuspectTable → SuspectTable
 suspecting_some None s = s
 suspecting_some (Some key) s = suspecting key s
 
--- any port is suspected; and it is, where it is so
-abbrev pub suspecting_any : SuspectTable → SuspectTable
-suspecting_any s = record s { any = true }
-
+-- any port is suspected, where it is so
 abbrev pub suspecting_if : Bool → SuspectTable → SuspectTable
 suspecting_if so s = record s { any = s.any || so }
 

@@ -4,7 +4,7 @@ ghost use Rattle.lpc_base.specs.Rows.{without};
 ghost use Rattle.lpc_slots.specs.Table.{is_key};
 ghost use Rattle.lpc_world.specs.Suspected.{suspect_of, suspecting_each, suspecting_owners};
 ghost use Rattle.lpc_world.specs.declared.suspects.Suspect.TheVariants.{Anybody};
-ghost use Rattle.lpc_rows.specs.Suspects.{suspecting, suspecting_any, suspecting_if, suspecting_some};
+ghost use Rattle.lpc_rows.specs.Suspects.{suspecting, suspecting_if, suspecting_some};
 
 use arrayvec::ArrayVec;
 use lpc_procs::Registration;
@@ -94,13 +94,6 @@ impl Suspects {
         for view in views {
             self.add_some(view.owner);
         }
-    }
-
-    /// Any port is suspected.
-    pub(crate) fn add_any(&mut self)
-        ensures { self.new ≡ suspecting_any self.old }
-    {
-        self.any = true;
     }
 
     /// Any port is suspected, where it is so.

@@ -1,5 +1,5 @@
 // The views of each process, and the bytes that they show.
-ghost use Rattle.std.specs.Prelude.{◌≡◌, ◌+◌, ◌%◌, ◌^◌, ◌<◌, ◌≤◌, ◌↔◌, true, None, Some, IfOk, IfSome, IsErr, IsSome, OnErr, OnOk, length, option_map};
+ghost use Rattle.std.specs.Prelude.{◌≡◌, ◌+◌, ◌%◌, ◌^◌, ◌<◌, ◌≤◌, ◌↔◌, true, None, Some, IfOk, IfSome, IsErr, IsSome, OnErr, OnOk, length, option_and_then, option_map};
 ghost use Rattle.std.specs.Borrow.{sem};
 ghost use Rattle.std.specs.Option.{option_copied};
 ghost use Rattle.lpc_base.specs.Room.{grown_room};
@@ -153,8 +153,9 @@ impl World {
         ensures capacity { self.new.capacity ≡ self.old.capacity }
     {
         self.loose = true;
-        self.suspects.add_any();
-        self.parts.unmap_view(pid, address)
+        let gone = self.parts.unmap_view(pid, address);
+        self.suspects.add_some(owner_of(gone));
+        gone
     }
 
     /// All views of a process go.
@@ -300,4 +301,11 @@ fn place_in(parts: &Parts, pid: u32, address: u32, len: u32) -> Place
         Some(place) => place,
         None => unreachable!(),
     }
+}
+
+// The key of the port with which a view goes: None where it goes with none, and where there is no view.
+fn owner_of(view: Option<View<Key>>) -> Option<Key>
+    ensures { result ≡ option_and_then (λ v. v.owner) view }
+{
+    view?.owner
 }
