@@ -4,3 +4,4 @@ mod Told
 mod Hearers
 mod Enrolled
 mod Owners
+mod Unreceived

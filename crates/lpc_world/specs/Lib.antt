@@ -2,3 +2,4 @@ pub mod Lent
 pub mod Lends
 pub mod Suspected
 pub mod PortNames
+pub mod Unreceived

@@ -2,6 +2,7 @@
 #![tactic(auto)]
 
 mod marks;
+mod own_messages;
 mod port_names;
 mod suspected_lives;
 mod suspects;

@@ -41,6 +41,7 @@ mod tokens;
 mod views;
 
 use crate::marks::Marks;
+use crate::own_messages;
 use crate::port_names::PortNames;
 use crate::suspected_lives::SuspectedLives;
 use crate::suspects::Suspects;
@@ -352,7 +353,7 @@ impl World {
         ensures capacity { self.new.capacity ≡ self.old.capacity }
     {
         self.loose = true;
-        let went = self.ports.withdraw(tid);
+        let went = own_messages::withdraw(&mut self.ports, &self.waits, tid);
         self.suspects.add_any_if(went);
     }
 

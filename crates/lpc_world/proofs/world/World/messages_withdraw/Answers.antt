@@ -7,6 +7,7 @@ use Rattle.lpc_ports.specs.Table.{PortTable}
 use Rattle.lpc_ports.specs.Table as ports
 use Rattle.lpc_rows.proofs.Capacities as capacities
 use Rattle.lpc_rows.proofs.Suspecting as suspecting
+use Rattle.lpc_world.proofs.Unreceived as unreceived
 use Rattle.lpc_world.proofs.world.World.messages_withdraw.Goals as goal
 
 pub invariant_of-self : goal.invariant_of-self
@@ -35,5 +36,8 @@ returns-clause-step c = record {
 pub returns-clause-capacity : goal.returns-clause-capacity
 returns-clause-capacity c =
     rw (← c.self.view_is)
-    (capacities.of_ports (tables_of c.self.inside.procs c.self.inside.parts.items c.self.inside.ports c.self.inside.waits c.self.inside.names c.self.inside.sections c.self.inside.tokens c.self.inside.token_names c.self.inside.marks) c.self.inside.parts.room c.withdraw-went.new.self (ap (λ (s : PortTable). s.port_room + length s.ports) c.withdraw-went.ensures.table)
+    (capacities.of_ports (tables_of c.self.inside.procs c.self.inside.parts.items c.self.inside.ports c.self.inside.waits c.self.inside.names c.self.inside.sections c.self.inside.tokens c.self.inside.token_names c.self.inside.marks) c.self.inside.parts.room c.withdraw-went.new.ports (ap (λ (s : PortTable). s.port_room + length s.ports) c.withdraw-went.ensures.table)
     (ap (λ (s : PortTable). s.message_room + length s.messages) c.withdraw-went.ensures.table ∙ capacities.passing_less (ports.is_own_of c.args.tid) c.self.inside.ports.message_room c.self.inside.ports.messages))
+
+pub withdraw-went-requires : goal.withdraw-went-requires
+withdraw-went-requires c = record { own = unreceived.own-only-waiting (tables_of c.self.inside.procs c.self.inside.parts.items c.self.inside.ports c.self.inside.waits c.self.inside.names c.self.inside.sections c.self.inside.tokens c.self.inside.token_names c.self.inside.marks) c.self.inside.calls c.self.inside.made c.self.invariant.kept c.args.tid }
