@@ -6,7 +6,8 @@
 
 PROGRAM is crates/ntlpc/out/ntlpc where it isn't given. Each script is run once; the table goes to standard output. A
 second table has scripts beside 5,000 rows that stand: processes, threads that wait on a port each, connects that wait
-for one port, names, or messages in queues. Each is run five times, and what making the rows takes is taken off.
+for one port, names, messages in queues, sections, or tokens that were opened. Each is run five times, and what making the
+rows takes is taken off.
 
 With --peer the program and PEER, another one that replays the same scripts, are run in turn, five times each, over seven
 kinds of scripts of about 1,000, 10,000, 100,000 and 1,000,000 lines, or up to LINES. What counts is the least processor
@@ -250,7 +251,26 @@ def messages(count):
         yield from [f"{process} NtRequestPort {4 * place + 4} d:41"] * 32
 
 
-ROWS = processes, receives, waiting_connects, names, messages
+def owned(count, call):
+    """Rows that stand: as many objects, each made by a call, as processes may have handles to."""
+    for place in range(count):
+        process = FIRST_STANDING + place // 256
+        if place % 256 == 0:
+            yield f"boot {process} {process}"
+        yield f"{process} {call}"
+
+
+def sections(count):
+    """Rows that stand: sections of 4 KiB, the smallest."""
+    yield from owned(count, "NtCreateSection 4096 4")
+
+
+def tokens(count):
+    """Rows that stand: tokens, as which processes' own were opened."""
+    yield from owned(count, "NtOpenProcessToken")
+
+
+ROWS = processes, receives, waiting_connects, names, messages, sections, tokens
 
 
 def peak(process):

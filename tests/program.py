@@ -43,15 +43,16 @@ WORLDS = 20
 # page by page makes it up to four times as long on some machines.
 SHORT_SCRIPT, LONG_SCRIPT, TIMES_LONGER, TIMES_LONGER_WITH_ROWS = 10_000, 100_000, 3, 6
 RUNS = 5
-# Beside how many rows of a kind which scripts take no longer than alone, line by line, and how they are compared. The
-# other scripts still search there: docs/PERFORMANCE.md tells what.
+# Beside how many rows of a kind scripts take no longer than alone, line by line, and how they are compared. Beside sections
+# and tokens they do: docs/PERFORMANCE.md tells how.
 LINES_BESIDE, RUNS_BESIDE = 100_000, 3
-FLAT = (
-    (bench.processes, 10_000, (bench.requests, bench.datagrams, bench.closings)),
-    (bench.receives, 10_000, (bench.requests, bench.datagrams, bench.closings)),
-    (bench.waiting_connects, 10_000, (bench.requests, bench.datagrams, bench.closings)),
-    (bench.names, 40_000, (bench.requests, bench.datagrams, bench.connects, bench.creations)),
-    (bench.messages, 20_000, (bench.requests, bench.datagrams, bench.closings)),
+FLAT_SCRIPTS = bench.requests, bench.datagrams, bench.closings, bench.connects, bench.endings, bench.creations
+FLAT_ROWS = (
+    (bench.processes, 10_000),
+    (bench.receives, 10_000),
+    (bench.waiting_connects, 10_000),
+    (bench.names, 40_000),
+    (bench.messages, 20_000),
 )
 
 
@@ -585,7 +586,7 @@ def memory_runs_out(program, replay=Program.replay):
 def growth():
     """Ten times the lines take about ten times as long, where a script leaves as many rows as it finds, where it makes
     processes alone, where it makes and ends them, and where connections stay. Lines on a view take as long whatever the
-    size of its section, and most lines as long whatever rows stand that they don't name."""
+    size of its section, and most lines as long whatever rows stand that they don't name, sections and tokens aside."""
     scripts = (
         bench.requests,
         bench.datagrams,
@@ -603,8 +604,8 @@ def growth():
     for script in bench.boots, bench.creations, bench.connects:
         yield f"time grows with the lines: {script.__name__}", grows_with_lines(script, TIMES_LONGER_WITH_ROWS)
     yield "time doesn't grow with a section's size", grows_not_with_sections
-    for rows, count, scripts in FLAT:
-        yield f"time doesn't grow with rows that stand: {rows.__name__}", grows_not_with_rows(rows, count, scripts)
+    for rows, count in FLAT_ROWS:
+        yield f"time doesn't grow with rows that stand: {rows.__name__}", grows_not_with_rows(rows, count)
 
 
 def grows_with_lines(script, times):
@@ -627,7 +628,7 @@ def grows_not_with_sections(program):
         raise Wrong(f"a line on a view of 4 MiB takes {large / small:.1f} times as long as on one of 4 KiB")
 
 
-def grows_not_with_rows(rows, count, scripts):
+def grows_not_with_rows(rows, count):
     """A check that a line of each script takes at most so many times as long beside many rows as alone. What making the
     rows takes is taken off."""
 
@@ -635,7 +636,7 @@ def grows_not_with_rows(rows, count, scripts):
         standing = list(rows(count))
         making = processor_seconds(program, standing, RUNS_BESIDE)
         slower = []
-        for script in scripts:
+        for script in FLAT_SCRIPTS:
             lines = list(script(LINES_BESIDE))
             alone = processor_seconds(program, lines, RUNS_BESIDE)
             beside = processor_seconds(program, standing + lines, RUNS_BESIDE) - making
