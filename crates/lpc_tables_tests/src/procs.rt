@@ -156,6 +156,7 @@ fn shows_registered(rt: &impl Abort, procs: &Procs, ports: (bool, bool), count: 
     );
     assert!(rt; registered == ports);
     assert!(rt; procs.registration_count(24) == count);
+    assert!(rt; procs.registrations_of(24).len() == count);
 }
 
 // How many registrations there are, and how many of live threads are of the first port.
