@@ -34,7 +34,7 @@ FEW = (100, 300, 1_000)
 # Beside a peer: the lengths, and how often each script is run.
 LENGTHS = (1_000, 10_000, 100_000, 1_000_000)
 TURNS = 5
-# Rows that stand: how many, and the lines of a script beside them: of endings and creations, which walk some rows, few.
+# Rows that stand: how many, and the lines of a script beside them: few beside sections and tokens, which each line walks.
 STANDING = 5_000
 MANY_BESIDE, FEW_BESIDE = 100_000, 10_000
 # Where the numbers of their processes and threads begin: no script of these lengths has one of them.
@@ -392,9 +392,11 @@ def print_beside_rows(program, folder):
 
     making = [(rows, run(list(rows(STANDING)))) for rows in ROWS]
     for kind in (requests, datagrams, closings, connects, endings, creations):
-        script = list(kind(FEW_BESIDE if kind in (endings, creations) else MANY_BESIDE))
-        alone = run(script)
+        scripts = {size: list(kind(size)) for size in (FEW_BESIDE, MANY_BESIDE)}
+        each_alone = {size: run(script) for size, script in scripts.items()}
         for rows, made in making:
+            size = FEW_BESIDE if rows in (sections, tokens) else MANY_BESIDE
+            script, alone = scripts[size], each_alone[size]
             both = run([*rows(STANDING), *script])
             beside = both.seconds - made.seconds
             print(
