@@ -34,7 +34,7 @@ FEW = (100, 300, 1_000)
 # Beside a peer: the lengths, and how often each script is run.
 LENGTHS = (1_000, 10_000, 100_000, 1_000_000)
 TURNS = 5
-# Rows that stand: how many, and the lines of a script beside them: few beside sections and tokens, which each line walks.
+# Rows that stand: how many, and the lines of a script beside them: few beside sections and tokens, which are walked behind most lines.
 STANDING = 5_000
 MANY_BESIDE, FEW_BESIDE = 100_000, 10_000
 # Where the numbers of their processes and threads begin: no script of these lengths has one of them.
@@ -266,7 +266,7 @@ def sections(count):
 
 
 def tokens(count):
-    """Rows that stand: tokens, as which processes' own were opened."""
+    """Rows that stand: tokens, each of which a process opened as its own."""
     yield from owned(count, "NtOpenProcessToken")
 
 

@@ -68,7 +68,7 @@ def checks(program):
         status = 2 if text.splitlines()[-1].startswith(b"stop ") else 0
         count, wanting, wrong = refusals(program, ["replay"], script.read_bytes(), status, text)
         yield f"{script.name}, {count} allocations", wrong
-        # Each allocation that a replay makes is one that it can't do without, but the room for text that is kept back.
+        # Most allocations of a replay are such that it can't do without them.
         few = [f"{wanting} of {2 * count} runs wanted for memory"] if not 0 < wanting >= count else []
         yield f"{script.name}: a refused allocation is told", few
         if script == SMALLEST:
