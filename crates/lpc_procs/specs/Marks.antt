@@ -5,7 +5,7 @@ use Rattle.lpc_base.specs.declared.birth.Birth.{Birth}
 use Rattle.lpc_numbers.specs.Tally.{Tally, count_in}
 use Rattle.lpc_procs.specs.declared.rows.Registration.{Registration}
 
--- a number of a name, which few others have
+-- a number of a name, which names of other makers may have too
 abbrev pub mark_of : Birth → ℕ
 mark_of b = ((b.maker * 65599) % 2 ^ 32 + b.ordinal) % 2 ^ 32
 

@@ -7,7 +7,7 @@ use crate::Registration;
 use lpc_base::Birth;
 use lpc_numbers::Tally;
 
-/// The mark of a name. Other names have it too, but few.
+/// The mark of a name. Names of other makers may have it too.
 pub fn mark_of(birth: Birth) -> u32
     ensures { result ≡ marks.mark_of birth }
 {

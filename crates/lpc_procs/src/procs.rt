@@ -28,12 +28,13 @@ const SPARE_MARKS: usize = 64;
 
 /// The processes and threads of a machine, and every number that was ever used for one.
 ///
-/// A number is used once. It stays used when the row of its process or thread goes, so no number names two things in
-/// a run. Contracts see the rows in order of making, the used numbers, and the room; they don't see the keys under which
+/// A number is used once. It stays used when the row of its process or thread goes, so no number names two things in a
+/// run. Contracts see the rows in order of making, the used numbers, and the room; they don't see the keys under which
 /// rows stand, the maps by which a number or a name leads to its row, nor the counts that are kept: of live threads, of
 /// those of each process, of registrations, of live processes that are to end, of processes of whose exceptions a port
-/// is told, of registrations and of such ports by the marks of their names, and of the live processes that each made; nor
-/// that the threads of each process stand together once more, so that one of them is found without a look at the others.
+/// is told, of registrations and of such ports by the marks of their names, and of the live processes that each made;
+/// nor that the threads of each process stand together once more, so that those of one are found without a look at the
+/// others.
 pub struct Procs {
     processes: Slots<Counted>,
     threads: Slots<ThreadRow>,

@@ -28,7 +28,7 @@ fn has_unreceived(waits: &Waits, tid: u32) -> bool
 }
 
 /// The thread's own messages leave their queues. Only a thread that waits for the answer to a message which wasn't
-/// received has one there, so no message is looked at for another. Answers whether there was one.
+/// received has one there, so for any other thread no message is looked at. Answers whether there was one.
 pub(crate) fn withdraw(ports: &mut Ports, waits: &Waits, tid: u32) -> bool
     requires own { HasOwnOnlyWaiting ports.old waits.now tid }
     ensures table { ports.new ≡ without_messages (is_own_of tid) ports.old }

@@ -16,7 +16,8 @@ use std::marker::Model;
 
 /// The name space of a world, whose items are ports.
 ///
-/// How many names lead to ports of each number is counted, so that no name is looked at for a port that has none.
+/// How many names lead to ports of each number is counted. As long as each found room to be counted, no name is looked
+/// at for a port to which none of its number leads.
 #[derive(Drop)]
 pub(crate) struct PortNames {
     names: Names<Key>,
@@ -116,7 +117,8 @@ impl PortNames {
         self.names.add_link(path, target)
     }
 
-    /// Takes away all names of a port. None is looked at where none leads to a port of its number.
+    /// Takes away all names of a port. As long as each name was counted, none is looked at where none leads to a port
+    /// of its number.
     pub(crate) fn unbind_all(&mut self, port: Key)
         ensures bindings { self.new.bindings ≡ without_names is_key port self.old.bindings }
         ensures spare { self.old.spare ≤ self.new.spare }

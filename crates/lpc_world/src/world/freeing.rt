@@ -57,7 +57,7 @@ impl World {
     }
 
     /// Some row but a name's names the port: one of these, a thread by a registration, a view that goes with it, or a
-    /// process whose exceptions it is told of. Names aren't looked through, since all of them would have to be.
+    /// process whose exceptions it is told of. Names aren't asked.
     pub fn is_used(&self, port: Key) -> bool
         requires { stands self.now.births.ports port ≡ true }
         ensures { result ≡ held.is_used self.now.rows (birth_at self.now port) }
