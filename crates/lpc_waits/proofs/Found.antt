@@ -40,15 +40,6 @@ place_shown [] place key row is = absurd (cc)
 place_shown (other ∷ all) zero key row is = let same : other ≡ (key, row) = cc in ap (λ (r : Row). Some r.1) same
 place_shown (other ∷ all) (suc place) key row is = place_shown all place key row is
 
--- where there is no first key, there is no row
-pub none_shown : (all : List Row) → first_or None (keys_of all) ≡ None → shown all ≡ []
-none_shown [] none = refl
-none_shown (row ∷ all) none = absurd (let clash : Some row.0 ≡ None = none in cc)
-
-pub some_shown : (all : List Row) → shown all ≡ [] → first_or None (keys_of all) ≡ None
-some_shown [] none = refl
-some_shown (row ∷ all) none = absurd (cc)
-
 -- the thread of what is found
 threads : (o : Option Row) → option_map (λ (row : Key × ℕ). row.1) (option_map (λ (row : Row). (row.0, row.1.thread)) o) ≡ option_map (λ (row : WaitingThread). row.thread) (option_map (λ (row : Row). row.1) o)
 threads None = refl

@@ -1,7 +1,7 @@
 //! The waits of threads, in the order of waiting.
 #![tactic(auto)]
 
-ghost use Rattle.std.specs.Prelude.{◌≡◌, ◌↔◌, ◌+◌, ◌<◌, ◌-◌, ◌≤◌, ◌^◌, ◌++◌, ◌∷◌, [], length, OnOk, OnErr, Some, None, IfSome, IsSome, option_copied, option_map, is_some, slice_get, if◌then◌else◌};
+ghost use Rattle.std.specs.Prelude.{◌≡◌, ◌+◌, ◌<◌, ◌-◌, ◌≤◌, ◌^◌, ◌++◌, ◌∷◌, [], length, OnOk, OnErr, Some, None, IfSome, IsSome, option_copied, option_map, is_some, slice_get, if◌then◌else◌};
 ghost use Rattle.std.specs.List.{position};
 ghost use Rattle.lpc_base.specs.Room.{grown_room};
 ghost use Rattle.lpc_base.specs.Rows.{count, without, has};
@@ -316,13 +316,6 @@ impl Waits {
         ensures { waits_of result.now ≡ self.now.rows }
     {
         &self.rows
-    }
-
-    /// The chain of all waits, in the order of waiting: it is empty exactly where no thread waits.
-    pub fn order(&self) -> &Chain<0>
-        ensures { result.now.first ≡ None ↔ self.now.rows ≡ [] }
-    {
-        &self.chains.order
     }
 
     /// The rows of the waits, and over them the chain of all waits, in the order of waiting.
