@@ -6,8 +6,8 @@
 
 PROGRAM is crates/ntlpc/out/ntlpc where it isn't given. Each script is run once; the table goes to standard output. A
 second table has scripts beside 5,000 rows that stand: processes, threads that wait on a port each, connects that wait
-for one port, names, messages in queues, sections, or tokens that were opened. Each is run five times, and what making the
-rows takes is taken off.
+for one port, names, messages in queues, sections, sections that only a view shows, or tokens that were opened. Each is
+run five times, and what making the rows takes is taken off.
 
 With --peer the program and PEER, another one that replays the same scripts, are run in turn, five times each, over seven
 kinds of scripts of about 1,000, 10,000, 100,000 and 1,000,000 lines, or up to LINES. What counts is the least processor
@@ -34,9 +34,9 @@ FEW = (100, 300, 1_000)
 # Beside a peer: the lengths, and how often each script is run.
 LENGTHS = (1_000, 10_000, 100_000, 1_000_000)
 TURNS = 5
-# Rows that stand: how many, and the lines of a script beside them: few beside sections and tokens, which are walked behind most lines.
+# Rows that stand: how many, and the lines of a script beside them.
 STANDING = 5_000
-MANY_BESIDE, FEW_BESIDE = 100_000, 10_000
+LINES_BESIDE = 100_000
 # Where the numbers of their processes and threads begin: no script of these lengths has one of them.
 FIRST_STANDING = 10_000_000
 HERE = os.path.dirname(os.path.abspath(__file__))
@@ -270,7 +270,16 @@ def tokens(count):
     yield from owned(count, "NtOpenProcessToken")
 
 
-ROWS = processes, receives, waiting_connects, names, messages, sections, tokens
+def shown_sections(count):
+    """Rows that stand: sections that views alone show, since the handles to them were closed."""
+    for place in range(count):
+        process = FIRST_STANDING + place // 128
+        if place % 128 == 0:
+            yield f"boot {process} {process}"
+        yield from (f"{process} NtCreateSection 4096 4", f"{process} NtMapViewOfSection 4 0 0 4", f"{process} NtClose 4")
+
+
+ROWS = processes, receives, waiting_connects, names, messages, sections, shown_sections, tokens
 
 
 def peak(process):
@@ -392,11 +401,9 @@ def print_beside_rows(program, folder):
 
     making = [(rows, run(list(rows(STANDING)))) for rows in ROWS]
     for kind in (requests, datagrams, closings, connects, endings, creations):
-        scripts = {size: list(kind(size)) for size in (FEW_BESIDE, MANY_BESIDE)}
-        each_alone = {size: run(script) for size, script in scripts.items()}
+        script = list(kind(LINES_BESIDE))
+        alone = run(script)
         for rows, made in making:
-            size = FEW_BESIDE if rows in (sections, tokens) else MANY_BESIDE
-            script, alone = scripts[size], each_alone[size]
             both = run([*rows(STANDING), *script])
             beside = both.seconds - made.seconds
             print(

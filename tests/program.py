@@ -43,8 +43,7 @@ WORLDS = 20
 # page by page makes it up to four times as long on some machines.
 SHORT_SCRIPT, LONG_SCRIPT, TIMES_LONGER, TIMES_LONGER_WITH_ROWS = 10_000, 100_000, 3, 6
 RUNS = 5
-# Beside how many rows of a kind scripts take no longer than alone, line by line, and how they are compared. Beside sections
-# and tokens they do: docs/PERFORMANCE.md tells how.
+# Beside how many rows of a kind scripts take no longer than alone, line by line, and how they are compared.
 LINES_BESIDE, RUNS_BESIDE = 100_000, 3
 FLAT_SCRIPTS = bench.requests, bench.datagrams, bench.closings, bench.connects, bench.endings, bench.creations
 FLAT_ROWS = (
@@ -53,6 +52,9 @@ FLAT_ROWS = (
     (bench.waiting_connects, 10_000),
     (bench.names, 40_000),
     (bench.messages, 20_000),
+    (bench.sections, 10_000),
+    (bench.shown_sections, 10_000),
+    (bench.tokens, 10_000),
 )
 
 
