@@ -30,11 +30,3 @@ module _ (old new : List (ℕ × ℕ)) (number : ℕ) where
         by : (b : Bool) → (n == number) ≡ b → (if b then count else count_in old n) ≡ count_in old n + (if b then 1 else 0)
         by true same = let e : count_in old n ≡ count_in old number = ap (count_in old) (eqb-true n number same) in omega (arith, is, more, e)
         by false off = omega arith
-
-    -- one less
-    pub one_less : count + 1 ≡ k → (n : ℕ) → count_in new n + one_for n number ≡ count_in old n
-    one_less less n = ap (λ j. j + one_for n number) (after n) ∙ by (n == number) refl
-      where
-        by : (b : Bool) → (n == number) ≡ b → (if b then count else count_in old n) + (if b then 1 else 0) ≡ count_in old n
-        by true same = let e : count_in old n ≡ count_in old number = ap (count_in old) (eqb-true n number same) in omega (arith, is, less, e)
-        by false off = omega arith

@@ -15,11 +15,15 @@ count_in entries n = unwrap_or (lookup (nat_eq n) entries) 0
 abbrev pub one_for : ℕ → ℕ → ℕ
 one_for n number = if n == number then 1 else 0
 
--- there is one more of the number, and one less, as long as each is counted
+-- there is one more of the number, as long as each is counted
 pub record Gains (number : ℕ) (old new : Tally) : Type 0 where
   pub whole : old.whole ≡ true
   pub counts : (n : ℕ) → count_in new.entries n ≡ count_in old.entries n + one_for n number
 
-pub record Loses (number : ℕ) (old new : Tally) : Type 0 where
+-- there are so many less of the number, and one less, as long as each is counted
+pub record LosesMany (number many : ℕ) (old new : Tally) : Type 0 where
   pub whole : old.whole ≡ true
-  pub counts : (n : ℕ) → count_in new.entries n + one_for n number ≡ count_in old.entries n
+  pub counts : (n : ℕ) → count_in new.entries n + (if n == number then many else 0) ≡ count_in old.entries n
+
+abbrev pub Loses : ℕ → Tally → Tally → Type 0
+Loses number old new = LosesMany number 1 old new

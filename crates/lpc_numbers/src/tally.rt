@@ -1,6 +1,6 @@
 // How many there are of each number.
-ghost use Rattle.std.specs.Prelude.{◌≡◌, ◌<◌, ◌==◌, ◌&&◌, [], if◌then◌else◌, not, true, false, ℕ, IfNone, IfSome};
-ghost use Rattle.lpc_numbers.specs.Tally.{Gains, Loses, count_in};
+ghost use Rattle.std.specs.Prelude.{◌≡◌, ◌<◌, ◌≤◌, ◌==◌, ◌&&◌, [], if◌then◌else◌, not, true, false, ℕ, IfNone, IfSome};
+ghost use Rattle.lpc_numbers.specs.Tally.{Gains, Loses, LosesMany, count_in};
 
 use indexmap::IndexMap;
 use std::alloc::Global;
@@ -39,9 +39,9 @@ impl Tally {
     pub fn promise(&mut self, numbers: usize)
         ensures { self.new ≡ self.old }
     {
+        let counted = self.counts.len();
         if numbers > self.counts.capacity() {
-            // A number that finds no room later leaves the tally unfinished.
-            let _ = self.counts.reserve(numbers - self.counts.len());
+            self.promise_more(numbers - counted);
         }
     }
 
@@ -69,12 +69,21 @@ impl Tally {
         ensures kept { 0 < count_in self.old.entries number →
             self.new.whole ≡ self.old.whole }
     {
-        match self.count_of(number) {
-            0 => self.whole = false,
-            1 => {
+        self.take_many(number, 1);
+    }
+
+    /// There are so many less of the number.
+    pub fn take_many(&mut self, number: u32, many: usize)
+        ensures loses { self.new.whole ≡ true → LosesMany number many self.old self.new }
+        ensures kept { many ≤ count_in self.old.entries number →
+            self.new.whole ≡ self.old.whole }
+    {
+        match self.count_of(number).checked_sub(many) {
+            None => self.whole = false,
+            Some(0) => {
                 self.counts.swap_remove(&number);
             }
-            count => self.put(number, count - 1),
+            Some(count) => self.put(number, count),
         }
     }
 
@@ -97,6 +106,13 @@ impl Tally {
         } else {
             None
         }
+    }
+
+    /// Each was counted, and there is none of the number.
+    pub fn has_none(&self, number: u32) -> bool
+        ensures { result ≡ (self.now.whole && count_in self.now.entries number == 0) }
+    {
+        self.whole && self.count_of(number) == 0
     }
 
     /// The count of a number, as it is kept.
