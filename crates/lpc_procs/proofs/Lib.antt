@@ -7,9 +7,9 @@ pub mod Grouped
 pub mod Keeping
 pub mod Keyed
 pub mod Led
-pub mod Marked
 pub mod Owned
 pub mod Placed
 pub mod ProcessRows
 pub mod Stored
 pub mod Tables
+pub mod Tagged

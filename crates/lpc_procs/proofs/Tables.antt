@@ -17,7 +17,7 @@ use Rattle.lpc_procs.specs.declared.rows.Counted.{Counted}
 use Rattle.lpc_procs.specs.declared.rows.ProcessRow.{ProcessRow}
 use Rattle.lpc_procs.specs.declared.rows.ThreadRow.{ThreadRow}
 use Rattle.lpc_procs.specs.Kept.{AreKeyed, AreTallied, AreUsed, IsStored, counting, has_name, has_number, is_doomed_row, is_limited, is_of_used, is_peopled, is_peopled_child, is_watched, process_key, process_name, process_rows, rank_of, rows_in, thread_key, thread_name, told_by, told_in, used_rows}
-use Rattle.lpc_procs.specs.Marks.{Remarks}
+use Rattle.lpc_procs.specs.Tags.{Retags}
 use Rattle.lpc_procs.specs.Members.{Enters, Members, is_member, is_of_rank}
 use Rattle.lpc_procs.specs.declared.rows.BornThread.{BornThread}
 use Rattle.lpc_procs.specs.Procs.{born_thread, ended, event_ports_of, is_process, is_process_born, is_thread, is_thread_born, is_used_thread, lives_in, registered_by}
@@ -29,7 +29,7 @@ use Rattle.lpc_procs.proofs.Gone.{count-gone}
 use Rattle.lpc_procs.proofs.Keeping.{KeepsNumbers, kept-none, unused-absent}
 use Rattle.lpc_procs.proofs.Keyed.{IsPlaced, changed-made, first-at, keyed-changed, keyed-inserted, keyed-removed, keyed-written, left-keyed, placed, rows-changed, rows-length, rows-push, rows-written, stands-keyed}
 use Rattle.lpc_procs.proofs.Led.{names-left, names-more, process-key-push, rank-push, thread-key-push, used-push}
-use Rattle.lpc_procs.proofs.Marked.{each-unseen, lost-none, marked-gone, marked-push, marked-set, remarked}
+use Rattle.lpc_procs.proofs.Tagged.{each-unseen, lost-none, tagged-gone, tagged-push, tagged-set, retagged}
 use Rattle.lpc_procs.proofs.Owned.{grouped-change, grouped-left, grouped-push, grouped-ranks}
 use Rattle.lpc_procs.proofs.Placed.{count-of, none-has, numbers-has, process-born-first, process-first, used-has}
 use Rattle.lpc_procs.proofs.ProcessRows.{KeepsNames, kept-row, names-same, row-changed, with_row}
@@ -50,7 +50,7 @@ process_birth p = p.row.birth
 abbrev pub thread_birth : ThreadRow → Birth
 thread_birth t = t.birth
 
-module _ {ps : Table Counted} {ts : Table ThreadRow} {up : List (ℕ × Key)} {ut : List (ℕ × Use)} {pn tn : Named} {alive registered dooms watched : ℕ} {children : Tally} {members : Members} {marks told_marks : Tally} (kept : IsStored ps ts up ut pn tn alive registered dooms watched children members marks told_marks) where
+module _ {ps : Table Counted} {ts : Table ThreadRow} {up : List (ℕ × Key)} {ut : List (ℕ × Use)} {pn tn : Named} {alive registered dooms watched : ℕ} {children : Tally} {members : Members} {tags told_tags : Tally} (kept : IsStored ps ts up ut pn tn alive registered dooms watched children members tags told_tags) where
   pub thread-at : (tid : ℕ) → first (is_thread tid) (rows_in ts) ≡ at ts (thread_key ut tid)
   thread-at tid = first-at thread_number ts (thread_key ut) kept.found.thread_keys tid
 
@@ -104,9 +104,9 @@ module _ {ps : Table Counted} {ts : Table ThreadRow} {up : List (ℕ × Key)} {u
     thread-rows f = rows-written thread_number ts (thread_key ut) kept.found.thread_keys kept.all.rows.single tid f row there
 
     pub thread-kept : (f : ThreadRow → ThreadRow) → KeepsNumbers f → ((t : ThreadRow) → (f t).birth ≡ t.birth) → (f row).live ≡ row.live → (is_limited row ≡ true → is_limited (f row) ≡ true) → (total : ℕ) → total + length row.registered.items ≡ registered + length (f row).registered.items
-        → (marks' : Tally) → (marks'.whole ≡ true → Remarks row.registered.items (f row).registered.items marks marks')
-        → IsStored ps (with_value ts (thread_key ut tid) (f row)) up ut pn tn alive total dooms watched children members marks' told_marks
-    thread-kept f keeps births lives limits total is_total marks' remarks = record {
+        → (tags' : Tally) → (tags'.whole ≡ true → Retags row.registered.items (f row).registered.items tags tags')
+        → IsStored ps (with_value ts (thread_key ut tid) (f row)) up ut pn tn alive total dooms watched children members tags' told_tags
+    thread-kept f keeps births lives limits total is_total tags' retags = record {
       all = rw (its-place.writes (f row)) (kept-set (rows_in ps) (rows_in ts) (numbers up) (used_rows ut) alive registered kept.all its-place.place tid row its-place.here thread-own f keeps lives limits total is_total);
       found = record {
         process_keys = kept.found.process_keys;
@@ -120,14 +120,14 @@ module _ {ps : Table Counted} {ts : Table ThreadRow} {up : List (ℕ × Key)} {u
       watchers = kept.watchers;
       tallied = kept.tallied;
       grouped = rw (thread-rows f) (grouped-change (rank_of up) (is_thread tid) f keeps (rows_in ts) members kept.grouped);
-      marked = rw (its-place.writes (f row)) (marked-set registered_by (rows_in ts) its-place.place row (f row) its-place.here marks marks' kept.marked remarks);
-      told_marked = kept.told_marked;
+      tagged = rw (its-place.writes (f row)) (tagged-set registered_by (rows_in ts) its-place.place row (f row) its-place.here tags tags' kept.tagged retags);
+      told_tagged = kept.told_tagged;
     }
 
     -- a live thread ends
     pub thread-ended : row.live ≡ true → (live a : ℕ) → live + 1 ≡ count (lives_in row.process) (rows_in ts) → a + 1 ≡ alive
         → (ps' : Table Counted) → ps' ≡ changed ps (Some (process_key up row.process)) (counting live) → (d : ℕ) → d ≡ count is_doomed_row (rows_in ps') → (children' : Tally) → AreTallied (rows_in ps') children'
-        → IsStored ps' (with_value ts (thread_key ut tid) (ended row)) up ut pn tn a registered d watched children' members marks told_marks
+        → IsStored ps' (with_value ts (thread_key ut tid) (ended row)) up ut pn tn a registered d watched children' members tags told_tags
     thread-ended lives live a counted fewer ps' is d doomed children' tallied = record {
       all = rw (counted-rows row.process live ps' is, its-place.writes (ended row)) (kept-ended (rows_in ps) (rows_in ts) (numbers up) (used_rows ut) alive registered kept.all its-place.place tid row its-place.here thread-own lives live a counted fewer);
       found = record {
@@ -142,8 +142,8 @@ module _ {ps : Table Counted} {ts : Table ThreadRow} {up : List (ℕ × Key)} {u
       watchers = counted-watched row.process live ps' is;
       tallied = tallied;
       grouped = rw (thread-rows ended) (grouped-change (rank_of up) (is_thread tid) ended (record { number = λ t. refl; process = λ t. refl }) (rows_in ts) members kept.grouped);
-      marked = rw (its-place.writes (ended row)) (marked-set registered_by (rows_in ts) its-place.place row (ended row) its-place.here marks marks kept.marked (remarked row.registered.items marks));
-      told_marked = rw (counted-told row.process live ps' is) kept.told_marked;
+      tagged = rw (its-place.writes (ended row)) (tagged-set registered_by (rows_in ts) its-place.place row (ended row) its-place.here tags tags kept.tagged (retagged row.registered.items tags));
+      told_tagged = rw (counted-told row.process live ps' is) kept.told_tagged;
     }
 
   -- a process changes
@@ -164,9 +164,9 @@ module _ {ps : Table Counted} {ts : Table ThreadRow} {up : List (ℕ × Key)} {u
     process-shown f = ap process_rows (process-written f) ∙ row-changed f pid (rows_in ps)
 
     pub process-kept : (f : ProcessRow → ProcessRow) → KeepsNames f → (d w : ℕ) → d + cond (is_doomed_row p) 1 0 ≡ dooms + cond (is_doomed_row (with_row f p)) 1 0 → w + cond (is_watched p) 1 0 ≡ watched + cond (is_watched (with_row f p)) 1 0
-        → (told_marks' : Tally) → (told_marks'.whole ≡ true → Remarks (event_ports_of p.row) (event_ports_of (f p.row)) told_marks told_marks')
-        → IsStored (with_value ps (process_key up pid) (with_row f p)) ts up ut pn tn alive registered d w children members marks told_marks'
-    process-kept f keeps d w is_d is_w told_marks' remarks = record {
+        → (told_tags' : Tally) → (told_tags'.whole ≡ true → Retags (event_ports_of p.row) (event_ports_of (f p.row)) told_tags told_tags')
+        → IsStored (with_value ps (process_key up pid) (with_row f p)) ts up ut pn tn alive registered d w children members tags told_tags'
+    process-kept f keeps d w is_d is_w told_tags' retags = record {
       all = rw (process-written f) (kept-row f keeps pid (rows_in ps) (rows_in ts) (numbers up) (used_rows ut) alive registered kept.all);
       found = record {
         process_keys = keyed-written process_number ps (process_key up) kept.found.process_keys (process_key up pid) p (with_row f p) there (keeps.number p.row);
@@ -180,8 +180,8 @@ module _ {ps : Table Counted} {ts : Table ThreadRow} {up : List (ℕ × Key)} {u
       watchers = omega (arith, kept.watchers, is_w, process-counts is_watched (with_row f p));
       tallied = λ whole n. omega (arith, kept.tallied whole n, process-counts (is_peopled_child n) (with_row f p), ap {B = ℕ} (λ m. cond (passes m (λ k. k == n) && is_peopled p) 1 0) (keeps.maker p.row));
       grouped = kept.grouped;
-      marked = kept.marked;
-      told_marked = rw (own-place.writes (with_row f p)) (marked-set told_by (rows_in ps) own-place.place p (with_row f p) own-place.here told_marks told_marks' kept.told_marked remarks);
+      tagged = kept.tagged;
+      told_tagged = rw (own-place.writes (with_row f p)) (tagged-set told_by (rows_in ps) own-place.place p (with_row f p) own-place.here told_tags told_tags' kept.told_tagged retags);
     }
 
   -- a further process, of which no thread lives yet
@@ -189,7 +189,7 @@ module _ {ps : Table Counted} {ts : Table ThreadRow} {up : List (ℕ × Key)} {u
       → (k : Key) (ps' : Table Counted) → ps' ≡ inserted ps k (record { row = row; live = 0 }) → listed ps' ≡ listed ps ++ (k, record { row = row; live = 0 }) ∷ [] → k.generation ≡ ps.made + 1
       → (pn' : Named) → Takes row.birth row.number pn.firsts pn'.firsts → pn'.single ≡ (pn.single && not (is_some (number_in pn.firsts row.birth)))
       → (up' : List (ℕ × Key)) → up' ≡ up ++ (row.number, k) ∷ []
-      → IsStored ps' ts up' ut pn' tn alive registered dooms watched children members marks told_marks
+      → IsStored ps' ts up' ut pn' tn alive registered dooms watched children members tags told_tags
   process-made row unwatched_row within new k ps' is listing young pn' takes single up' used =
       let p : Counted = record { row = row; live = 0 } in
       let rows = rows-push ps ps' k p listing in
@@ -210,8 +210,8 @@ module _ {ps : Table Counted} {ts : Table ThreadRow} {up : List (ℕ × Key)} {u
         watchers = omega (arith, kept.watchers, ap (count is_watched) rows, count-push is_watched (rows_in ps) p, ap {B = ℕ} (λ b. cond b 1 0) unwatched_row);
         tallied = λ whole n. kept.tallied whole n ∙ sym (ap (count (is_peopled_child n)) rows ∙ children-push n row (rows_in ps));
         grouped = grouped-ranks (rank_of up) (rank_of up') (is_of_used (numbers up)) (λ t owned. ap (λ es. rank_of es t.process) used ∙ rank-push t.process row.number k up (sym (numbers-has t.process up) ∙ owned)) (rows_in ts) kept.all.owners members kept.grouped;
-        marked = kept.marked;
-        told_marked = rw rows (marked-push told_by (rows_in ps) p (unwatched row.debug_port row.exception_port unwatched_row) told_marks kept.told_marked);
+        tagged = kept.tagged;
+        told_tagged = rw rows (tagged-push told_by (rows_in ps) p (unwatched row.debug_port row.exception_port unwatched_row) told_tags kept.told_tagged);
       }
 
   -- a further live thread
@@ -222,7 +222,7 @@ module _ {ps : Table Counted} {ts : Table ThreadRow} {up : List (ℕ × Key)} {u
       → (tn' : Named) → Takes t.birth t.number tn.firsts tn'.firsts → tn'.single ≡ (tn.single && not (is_some (number_in tn.firsts t.birth)))
       → (ut' : List (ℕ × Use)) → ut' ≡ ut ++ (t.number, record { process = t.process; key = k }) ∷ []
       → (members' : Members) → (members'.whole ≡ true → Enters (rank_of up t.process) t.number members members')
-      → IsStored ps' ts' up ut' pn tn' (alive + 1) registered d watched children' members' marks told_marks
+      → IsStored ps' ts' up ut' pn tn' (alive + 1) registered d watched children' members' tags told_tags
   thread-made t lives none within new home live counted ps' is d doomed children' tallied k ts' is_ts listing young tn' takes single ut' used members' enters =
       let u : Use = record { process = t.process; key = k } in
       let rows = rows-push ts ts' k t listing in
@@ -245,8 +245,8 @@ module _ {ps : Table Counted} {ts : Table ThreadRow} {up : List (ℕ × Key)} {u
         watchers = counted-watched t.process live ps' is;
         tallied = tallied;
         grouped = rw rows (grouped-push (rank_of up) (rows_in ts) t members members' kept.grouped enters);
-        marked = rw rows (marked-push registered_by (rows_in ts) t none marks kept.marked);
-        told_marked = rw (counted-told t.process live ps' is) kept.told_marked;
+        tagged = rw rows (tagged-push registered_by (rows_in ts) t none tags kept.tagged);
+        told_tagged = rw (counted-told t.process live ps' is) kept.told_tagged;
       }
 
   -- the first process of a name goes
@@ -255,9 +255,9 @@ module _ {ps : Table Counted} {ts : Table ThreadRow} {up : List (ℕ × Key)} {u
       → (d w : ℕ) → d + cond (is_doomed_row p) 1 0 ≡ dooms → w + cond (is_watched p) 1 0 ≡ watched
       → (children' : Tally) → children'.entries ≡ children.entries → children'.whole ≡ (children.whole && not (is_peopled p))
       → (pn' : Named) → Forgets b pn.firsts pn'.firsts → pn'.single ≡ pn.single
-      → (told_marks' : Tally) → told_marks'.entries ≡ told_marks.entries → told_marks'.whole ≡ (told_marks.whole && not (is_watched p))
-      → IsStored ps' ts up ut pn' tn alive registered d w children' members marks told_marks'
-  process-lost b p found ps' is listing d w is_d is_w children' entries whole pn' forgets single told_marks' told_entries told_whole =
+      → (told_tags' : Tally) → told_tags'.entries ≡ told_tags.entries → told_tags'.whole ≡ (told_tags.whole && not (is_watched p))
+      → IsStored ps' ts up ut pn' tn alive registered d w children' members tags told_tags'
+  process-lost b p found ps' is listing d w is_d is_w children' entries whole pn' forgets single told_tags' told_entries told_whole =
       let rows = left-keyed process_number ps (process_key up) kept.found.process_keys (has_name b) p found ps' listing in
       record {
         all = rw rows (kept-processes_left (rows_in ps) (rows_in ts) (numbers up) (used_rows ut) alive registered kept.all (has_name b));
@@ -275,8 +275,8 @@ module _ {ps : Table Counted} {ts : Table ThreadRow} {up : List (ℕ × Key)} {u
             let both = kept-whole children.whole (is_peopled p) (sym whole ∙ still) in
             rw (rows, entries) (kept.tallied both.0 n ∙ sym (children-left n (has_name b) (rows_in ps) p found both.1));
         grouped = kept.grouped;
-        marked = kept.marked;
-        told_marked = rw rows (marked-gone told_by (has_name b) (rows_in ps) p found told_marks told_marks' kept.told_marked told_entries (lost-none told_marks.whole (event_ports_of p.row) (is_watched p) told_marks'.whole told_whole (λ off. ap length (unwatched p.row.debug_port p.row.exception_port off))));
+        tagged = kept.tagged;
+        told_tagged = rw rows (tagged-gone told_by (has_name b) (rows_in ps) p found told_tags told_tags' kept.told_tagged told_entries (lost-none told_tags.whole (event_ports_of p.row) (is_watched p) told_tags'.whole told_whole (λ off. ap length (unwatched p.row.debug_port p.row.exception_port off))));
       }
 
   -- the first thread of a name goes, which has ended
@@ -285,9 +285,9 @@ module _ {ps : Table Counted} {ts : Table ThreadRow} {up : List (ℕ × Key)} {u
       → (total : ℕ) → total + length t.registered.items ≡ registered
       → (tn' : Named) → Forgets b tn.firsts tn'.firsts → tn'.single ≡ tn.single
       → (members' : Members) → members'.rows ≡ without_first (is_member (rank_of up t.process) t.number) members.rows → members'.whole ≡ members.whole
-      → (marks' : Tally) → marks'.entries ≡ marks.entries → (marks'.whole ≡ true → (marks.whole ≡ true) × (length t.registered.items ≡ 0))
-      → IsStored ps ts' up ut pn tn' alive total dooms watched children members' marks' told_marks
-  thread-lost b t found off ts' is listing total is_total tn' forgets single members' gone whole marks' entries lost =
+      → (tags' : Tally) → tags'.entries ≡ tags.entries → (tags'.whole ≡ true → (tags.whole ≡ true) × (length t.registered.items ≡ 0))
+      → IsStored ps ts' up ut pn tn' alive total dooms watched children members' tags' told_tags
+  thread-lost b t found off ts' is listing total is_total tn' forgets single members' gone whole tags' entries lost =
       let rows = left-keyed thread_number ts (thread_key ut) kept.found.thread_keys (is_thread_born b) t found ts' listing in
       record {
         all = rw rows (kept-threads_left (rows_in ps) (rows_in ts) (numbers up) (used_rows ut) alive registered kept.all (is_thread_born b) t found off total is_total);
@@ -303,8 +303,8 @@ module _ {ps : Table Counted} {ts : Table ThreadRow} {up : List (ℕ × Key)} {u
         watchers = kept.watchers;
         tallied = kept.tallied;
         grouped = rw rows (grouped-left (rank_of up) t (is_thread_born b) (rows_in ts) members members' kept.all.rows.single found kept.grouped gone whole);
-        marked = rw rows (marked-gone registered_by (is_thread_born b) (rows_in ts) t found marks marks' kept.marked entries lost);
-        told_marked = kept.told_marked;
+        tagged = rw rows (tagged-gone registered_by (is_thread_born b) (rows_in ts) t found tags tags' kept.tagged entries lost);
+        told_tagged = kept.told_tagged;
       }
 
   -- the row that was read under a key, and the number that has none
@@ -352,9 +352,9 @@ module _ {ps : Table Counted} {ts : Table ThreadRow} {up : List (ℕ × Key)} {u
 
   -- more room
   pub roomier : (ps' : Table Counted) (ts' : Table ThreadRow) (pn' tn' : Named) → ps' ≡ record ps { spare = ps'.spare } → ts' ≡ record ts { spare = ts'.spare } → pn' ≡ record pn { room = pn'.room } → tn' ≡ record tn { room = tn'.room }
-      → IsStored ps' ts' up ut pn' tn' alive registered dooms watched children members marks told_marks
+      → IsStored ps' ts' up ut pn' tn' alive registered dooms watched children members tags told_tags
   roomier ps' ts' pn' tn' is_ps is_ts is_pn is_tn =
-      let one : IsStored (record ps { spare = ps'.spare }) (record ts { spare = ts'.spare }) up ut (record pn { room = pn'.room }) (record tn { room = tn'.room }) alive registered dooms watched children members marks told_marks = record {
+      let one : IsStored (record ps { spare = ps'.spare }) (record ts { spare = ts'.spare }) up ut (record pn { room = pn'.room }) (record tn { room = tn'.room }) alive registered dooms watched children members tags told_tags = record {
         all = kept.all;
         found = record {
           process_keys = record { own = kept.found.process_keys.own; leads = kept.found.process_keys.leads; young = kept.found.process_keys.young };
@@ -368,8 +368,8 @@ module _ {ps : Table Counted} {ts : Table ThreadRow} {up : List (ℕ × Key)} {u
         watchers = kept.watchers;
         tallied = kept.tallied;
         grouped = kept.grouped;
-        marked = kept.marked;
-        told_marked = kept.told_marked;
+        tagged = kept.tagged;
+        told_tagged = kept.told_tagged;
       } in
       rw (is_ps, is_ts, is_pn, is_tn) one
 
@@ -398,9 +398,9 @@ keyed-none {T} number s key empty young = record {
     off k x there = let clash : None ≡ Some x = ap (λ (rows : List (Key × T)). option_map (λ (r : Key × T). r.1) (first (at_key k) rows)) (sym empty) ∙ sym (at_first s k) ∙ there in cc
 
 -- the tables before anything was made
-pub stored-none : (ps : Table Counted) (ts : Table ThreadRow) (up : List (ℕ × Key)) (ut : List (ℕ × Use)) (pn tn : Named) (children : Tally) (members : Members) (marks told_marks : Tally) → listed ps ≡ [] → listed ts ≡ [] → ps.made ≡ 0 → ts.made ≡ 0 → up ≡ [] → ut ≡ [] → pn.firsts ≡ [] → tn.firsts ≡ [] → children.entries ≡ [] → members.rows ≡ [] → marks.entries ≡ [] → told_marks.entries ≡ []
-    → IsStored ps ts up ut pn tn 0 0 0 0 children members marks told_marks
-stored-none ps ts up ut pn tn children members marks told_marks no_ps no_ts ps_made ts_made no_up no_ut no_pn no_tn no_children no_members no_marks no_told_marks =
+pub stored-none : (ps : Table Counted) (ts : Table ThreadRow) (up : List (ℕ × Key)) (ut : List (ℕ × Use)) (pn tn : Named) (children : Tally) (members : Members) (tags told_tags : Tally) → listed ps ≡ [] → listed ts ≡ [] → ps.made ≡ 0 → ts.made ≡ 0 → up ≡ [] → ut ≡ [] → pn.firsts ≡ [] → tn.firsts ≡ [] → children.entries ≡ [] → members.rows ≡ [] → tags.entries ≡ [] → told_tags.entries ≡ []
+    → IsStored ps ts up ut pn tn 0 0 0 0 children members tags told_tags
+stored-none ps ts up ut pn tn children members tags told_tags no_ps no_ts ps_made ts_made no_up no_ut no_pn no_tn no_children no_members no_tags no_told_tags =
     let no_processes : rows_in ps ≡ [] = ap (map (λ (r : Key × Counted). r.1)) no_ps in
     let no_threads : rows_in ts ≡ [] = ap (map (λ (r : Key × ThreadRow). r.1)) no_ts in
     record {
@@ -417,6 +417,6 @@ stored-none ps ts up ut pn tn children members marks told_marks no_ps no_ts ps_m
       watchers = rw no_processes refl;
       tallied = rw no_processes (λ whole pid. ap (λ es. count_in es pid) no_children);
       grouped = rw no_threads (λ whole n. ap (which (is_of_rank n)) no_members);
-      marked = rw no_threads (λ whole n. ap (λ es. count_in es n) no_marks);
-      told_marked = rw no_processes (λ whole n. ap (λ es. count_in es n) no_told_marks);
+      tagged = rw no_threads (λ whole n. ap (λ es. count_in es n) no_tags);
+      told_tagged = rw no_processes (λ whole n. ap (λ es. count_in es n) no_told_tags);
     }

@@ -17,7 +17,7 @@ use Rattle.lpc_procs.specs.declared.rows.ThreadRow.{ThreadRow}
 use Rattle.lpc_procs.specs.declared.rows.UsedThread.{UsedThread}
 use Rattle.lpc_procs.specs.declared.keys.Use.{Use}
 use Rattle.lpc_procs.specs.declared.members.Member.{Member}
-use Rattle.lpc_procs.specs.Marks.{AreMarked}
+use Rattle.lpc_procs.specs.Tags.{AreTagged}
 use Rattle.lpc_procs.specs.Members.{Members, is_of_rank}
 use Rattle.lpc_procs.specs.Procs.{all_registrations, doomed_as, event_ports_of, is_made_by, is_process, is_process_born, is_thread, is_used_thread, lives_in}
 
@@ -234,13 +234,13 @@ rows_of threads members = each (λ m. option_to_list (first (is_thread m.thread)
 
 -- What the tables keep: all that, how many live processes are to end, of how many a port is told of exceptions,
 -- how many live processes each made, which threads are of each, and how many registrations there are of each
--- mark, and how many ports that are told of exceptions.
-pub record IsStored (processes : Table Counted) (threads : Table ThreadRow) (used_processes : List (ℕ × Key)) (used_threads : List (ℕ × Use)) (process_names thread_names : Named) (alive registered dooms watched : ℕ) (children : Tally) (members : Members) (marks told_marks : Tally) : Type 0 where
+-- tag, and how many ports that are told of exceptions.
+pub record IsStored (processes : Table Counted) (threads : Table ThreadRow) (used_processes : List (ℕ × Key)) (used_threads : List (ℕ × Use)) (process_names thread_names : Named) (alive registered dooms watched : ℕ) (children : Tally) (members : Members) (tags told_tags : Tally) : Type 0 where
   pub all : AreKept (rows_in processes) (rows_in threads) (numbers used_processes) (used_rows used_threads) alive registered
   pub found : AreFound processes threads used_processes used_threads process_names thread_names
   pub doomed : dooms ≡ count is_doomed_row (rows_in processes)
   pub watchers : watched ≡ count is_watched (rows_in processes)
   pub tallied : AreTallied (rows_in processes) children
   pub grouped : AreGrouped (rank_of used_processes) (rows_in threads) members
-  pub marked : AreMarked (all_registrations (rows_in threads)) marks
-  pub told_marked : AreMarked (told_in (rows_in processes)) told_marks
+  pub tagged : AreTagged (all_registrations (rows_in threads)) tags
+  pub told_tagged : AreTagged (told_in (rows_in processes)) told_tags

@@ -1,5 +1,5 @@
 pub mod Callers
 pub mod Kept
-pub mod Marks
 pub mod Members
 pub mod Procs
+pub mod Tags

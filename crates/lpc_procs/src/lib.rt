@@ -6,12 +6,12 @@ mod births;
 mod exceptions;
 mod keys;
 mod lists;
-mod marks;
 mod members;
 mod procs;
 mod registrations;
 mod rows;
 mod searches;
+mod tags;
 
 pub use procs::Procs;
 pub use rows::{

@@ -22,9 +22,9 @@ use lpc_slots::{Key, Slots};
 use std::alloc::Global;
 use std::marker::Model;
 
-// For so many marks of ports there is room beside one for each thread, and for each process: one thread may register
+// For so many tags of ports there is room beside one for each thread, and for each process: one thread may register
 // several ports.
-const SPARE_MARKS: usize = 64;
+const SPARE_TAGS: usize = 64;
 
 /// The processes and threads of a machine, and every number that was ever used for one.
 ///
@@ -32,7 +32,7 @@ const SPARE_MARKS: usize = 64;
 /// run. Contracts see the rows in order of making, the used numbers, and the room; they don't see the keys under which
 /// rows stand, the maps by which a number or a name leads to its row, nor the counts that are kept: of live threads, of
 /// those of each process, of registrations, of live processes that are to end, of processes of whose exceptions a port
-/// is told, of registrations and of such ports by the marks of their names, and of the live processes that each made;
+/// is told, of registrations and of such ports by the tags of their names, and of the live processes that each made;
 /// nor that the threads of each process stand together once more, so that those of one are found without a look at the
 /// others.
 pub struct Procs {
@@ -48,8 +48,8 @@ pub struct Procs {
     watched: usize,
     children: Tally,
     members: Members,
-    marks: Tally,
-    told_marks: Tally,
+    tags: Tally,
+    told_tags: Tally,
 }
 
 impl Model for Procs {
@@ -69,7 +69,7 @@ impl Model for Procs {
       thread_room = min s.threads.spare (min s.thread_names.room s.used_threads.room);
     } };
 
-    ghost invariant = { λ s. IsStored s.processes s.threads s.used_processes.entries s.used_threads.entries s.process_names s.thread_names s.alive s.registered s.dooms s.watched s.children s.members s.marks s.told_marks };
+    ghost invariant = { λ s. IsStored s.processes s.threads s.used_processes.entries s.used_threads.entries s.process_names s.thread_names s.alive s.registered s.dooms s.watched s.children s.members s.tags s.told_tags };
 }
 
 // Written out, so that a proof about what holds these tables lets them go in one step, and not map by map.
@@ -88,8 +88,8 @@ impl Drop for Procs {
             watched: _,
             children: _,
             members: _,
-            marks: _,
-            told_marks: _,
+            tags: _,
+            told_tags: _,
         } = self;
     }
 }
@@ -112,8 +112,8 @@ impl Procs {
             watched: 0,
             children: Tally::new(alloc),
             members: Members::new(alloc),
-            marks: Tally::new(alloc),
-            told_marks: Tally::new(alloc),
+            tags: Tally::new(alloc),
+            told_tags: Tally::new(alloc),
         }
     }
 
@@ -147,10 +147,10 @@ impl Procs {
         let all_processes = self.processes.count().saturating_add(processes);
         let all_threads = self.threads.count().saturating_add(threads);
         self.children.promise(all_processes);
-        self.told_marks
-            .promise(all_processes.saturating_add(SPARE_MARKS));
+        self.told_tags
+            .promise(all_processes.saturating_add(SPARE_TAGS));
         self.members.promise(threads);
-        self.marks.promise(all_threads.saturating_add(SPARE_MARKS));
+        self.tags.promise(all_threads.saturating_add(SPARE_TAGS));
         self.threads.reserve(threads)?;
         self.thread_names.reserve(threads, self.threads.count())?;
         self.used_threads.reserve(threads)

@@ -80,7 +80,7 @@ impl Procs {
                 self.dooms -= exceptions::doomed_count(&process);
                 self.watched -= exceptions::watched_count(&process);
                 self.children.give_up_if(births::is_peopled(&process));
-                self.told_marks.give_up_if(exceptions::is_watched(&process));
+                self.told_tags.give_up_if(exceptions::is_watched(&process));
                 self.process_names.remove_name(birth);
                 true
             }
@@ -108,7 +108,7 @@ impl Procs {
             Some(thread) => {
                 let forgotten = thread.registered.len();
                 self.registered -= forgotten;
-                self.marks.give_up_if(forgotten > 0);
+                self.tags.give_up_if(forgotten > 0);
                 self.thread_names.remove_name(birth);
                 let rank = process_rank(&self.used_processes, thread.process);
                 self.members.remove(rank, thread.number);

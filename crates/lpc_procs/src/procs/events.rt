@@ -5,9 +5,9 @@ ghost use Rattle.lpc_procs.specs.Procs.{debugged, doomed, event_ports, excepted,
 
 use crate::exceptions::Told;
 use crate::keys::process_key;
-use crate::marks::{mark_of, unmark};
 use crate::procs::Procs;
 use crate::searches::first_row;
+use crate::tags::{tag_of, untag};
 use crate::{Doomed, Registration, exceptions};
 use lpc_base::Birth;
 use lpc_slots::Key;
@@ -51,8 +51,8 @@ impl Procs {
         {
             Some(process) => {
                 let others = self.watched - exceptions::watched_count(process);
-                unmark(&mut self.told_marks, process.row.debug_port);
-                self.told_marks.add(mark_of(birth));
+                untag(&mut self.told_tags, process.row.debug_port);
+                self.told_tags.add(tag_of(birth));
                 process.row.debug_port = Some(Registration { port, birth });
                 self.watched = others + 1;
             }
@@ -72,8 +72,8 @@ impl Procs {
         {
             Some(process) => {
                 let others = self.watched - exceptions::watched_count(process);
-                unmark(&mut self.told_marks, process.row.exception_port);
-                self.told_marks.add(mark_of(birth));
+                untag(&mut self.told_tags, process.row.exception_port);
+                self.told_tags.add(tag_of(birth));
                 process.row.exception_port = Some(Registration { port, birth });
                 self.watched = others + 1;
             }
@@ -92,8 +92,8 @@ impl Procs {
         {
             Some(process) => {
                 let others = self.watched - exceptions::watched_count(process);
-                unmark(&mut self.told_marks, process.row.debug_port);
-                unmark(&mut self.told_marks, process.row.exception_port);
+                untag(&mut self.told_tags, process.row.debug_port);
+                untag(&mut self.told_tags, process.row.exception_port);
                 process.row.debug_port = None;
                 process.row.exception_port = None;
                 self.watched = others;
@@ -148,7 +148,7 @@ impl Procs {
         if self.watched == 0 {
             return true;
         }
-        match self.told_marks.of(mark_of(birth)) {
+        match self.told_tags.of(tag_of(birth)) {
             Some(count) => count == 0,
             None => false,
         }

@@ -5,10 +5,10 @@ ghost use Rattle.lpc_base.specs.declared.limits.TheConstants.{REGISTRATION_LIMIT
 ghost use Rattle.lpc_procs.specs.Procs.{HasRegistrationLeft, all_registrations, first_untold, has_registered, is_of_birth, live_registrations, registered_by, registering, registration, thread_at, unregistering, with_thread};
 
 use crate::keys::thread_key;
-use crate::marks::{mark_of, take_all};
 use crate::procs::Procs;
 use crate::registrations::{Registers, Untold};
 use crate::searches::first_row;
+use crate::tags::tag_of;
 use crate::{Registration, registrations};
 use lpc_base::Birth;
 use lpc_slots::Key;
@@ -24,7 +24,7 @@ impl Procs {
             Some(row) => {
                 row.registered.push(Registration { port, birth });
                 self.registered += 1;
-                self.marks.add(mark_of(birth));
+                self.tags.add(tag_of(birth));
             }
             None => unreachable!(),
         }
@@ -41,7 +41,7 @@ impl Procs {
                 registrations::forget(&mut row.registered, birth);
                 let forgotten = before - row.registered.len();
                 self.registered -= forgotten;
-                take_all(&mut self.marks, mark_of(birth), forgotten);
+                self.tags.take_many(tag_of(birth), forgotten);
             }
             None => unreachable!(),
         }
@@ -111,7 +111,7 @@ impl Procs {
         if self.registered == 0 {
             return true;
         }
-        match self.marks.of(mark_of(birth)) {
+        match self.tags.of(tag_of(birth)) {
             Some(count) => count == 0,
             None => false,
         }

@@ -1,7 +1,7 @@
 use Rattle.std.proofs.Common.{rules, sym}
 use Rattle.lpc_procs.specs.Kept.{rows_in}
 use Rattle.lpc_procs.specs.Procs.{event_ports_of}
-use Rattle.lpc_procs.proofs.Marked.{none-has}
+use Rattle.lpc_procs.proofs.Tagged.{none-has}
 use Rattle.lpc_procs.proofs.Placed.{told-has}
 use Rattle.lpc_procs.proofs.procs.Procs.is_event_port.Goals as goal
 

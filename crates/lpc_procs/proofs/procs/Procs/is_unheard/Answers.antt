@@ -3,10 +3,10 @@ use Rattle.std.proofs.lemmas.Bool.{eqb-true}
 use Rattle.lpc_base.specs.Rows.{count}
 use Rattle.lpc_numbers.specs.Tally.{count_in}
 use Rattle.lpc_procs.specs.Kept.{rows_in, told_in}
-use Rattle.lpc_procs.specs.Marks.{mark_of}
+use Rattle.lpc_procs.specs.Tags.{tag_of}
 use Rattle.lpc_procs.specs.Procs.{is_of_birth}
 use Rattle.lpc_procs.proofs.Events.{none-told, told-shown}
-use Rattle.lpc_procs.proofs.Marked.{unmarked}
+use Rattle.lpc_procs.proofs.Tagged.{untagged}
 use Rattle.lpc_procs.proofs.procs.Procs.is_unheard.Goals as goal
 
 pub returns-then-self-eq0 : goal.returns-then-self-eq0
@@ -17,10 +17,10 @@ returns-then-self-eq0 c told =
 
 pub returns-in-Some : goal.returns-in-Some
 returns-in-Some c none =
-    let marks = c.self.inside.told_marks in
+    let tags = c.self.inside.told_tags in
     let rows = rows_in c.self.inside.processes in
-    let counted = c.self.invariant.told_marked c.in-Some.ensures.whole (mark_of c.args.birth) in
-    let told : c.in-Some.count ≡ count_in marks.entries (mark_of c.args.birth) = c.in-Some.ensures.count ∙ ap (count_in marks.entries) c.mark_of.ensures in
+    let counted = c.self.invariant.told_tagged c.in-Some.ensures.whole (tag_of c.args.birth) in
+    let told : c.in-Some.count ≡ count_in tags.entries (tag_of c.args.birth) = c.in-Some.ensures.count ∙ ap (count_in tags.entries) c.tag_of.ensures in
     rw (← c.self.view_is)
     (sym (ap (count (is_of_birth c.args.birth)) (told-shown rows))
-    ∙ unmarked c.args.birth (told_in rows) (sym counted ∙ sym told ∙ eqb-true c.in-Some.count 0 none))
+    ∙ untagged c.args.birth (told_in rows) (sym counted ∙ sym told ∙ eqb-true c.in-Some.count 0 none))

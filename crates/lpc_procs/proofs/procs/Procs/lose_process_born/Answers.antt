@@ -46,7 +46,7 @@ invariant_of-self c =
     (omega (arith, c.self.invariant.watchers, c.watched_count.ensures, process-one c.self.invariant c.in-Some.pid p there is_watched))
     c.give_up_if.new.self c.give_up_if.ensures.entries (c.give_up_if.ensures.whole ∙ ap (λ b. c.self.inside.children.whole && not b) c.is_peopled.ensures)
     c.remove_name.new.self c.remove_name.ensures.firsts c.remove_name.ensures.single
-    c.give_up_if-in-Some-remove.new.self c.give_up_if-in-Some-remove.ensures.entries (c.give_up_if-in-Some-remove.ensures.whole ∙ ap (λ b. c.self.inside.told_marks.whole && not b) c.is_watched.ensures)
+    c.give_up_if-in-Some-remove.new.self c.give_up_if-in-Some-remove.ensures.entries (c.give_up_if-in-Some-remove.ensures.whole ∙ ap (λ b. c.self.inside.told_tags.whole && not b) c.is_watched.ensures)
 
 pub returns-clause-went : goal.returns-clause-went
 returns-clause-went c =

@@ -5,7 +5,7 @@ use Rattle.lpc_slots.specs.Table.{Table, at}
 use Rattle.lpc_procs.specs.declared.rows.ThreadRow.{ThreadRow}
 use Rattle.lpc_procs.specs.Kept.{rows_in, thread_key}
 use Rattle.lpc_procs.specs.Procs.{is_thread_born}
-use Rattle.lpc_procs.proofs.Marked.{lost-none, none-lost}
+use Rattle.lpc_procs.proofs.Tagged.{lost-none, none-lost}
 use Rattle.lpc_procs.proofs.Placed.{ended-born}
 use Rattle.lpc_procs.proofs.Stored.{registered-at}
 use Rattle.lpc_procs.proofs.Tables.{born-thread, thread-left, thread-lost, thread-most, thread-place}
@@ -44,7 +44,7 @@ invariant_of-self c =
     (c.self.inside.registered - c.len-forgotten.result) (omega (arith, c.self.invariant.all.told, c.len-forgotten.ensures.value, registered-at (rows_in c.self.inside.threads) place.place t place.here))
     c.remove_name.new.self c.remove_name.ensures.firsts c.remove_name.ensures.single
     c.remove-in-Some-remove.new.self (rw (c.process_rank-rank.ensures) at c.remove-in-Some-remove.ensures.rows) c.remove-in-Some-remove.ensures.whole
-    c.give_up_if.new.self c.give_up_if.ensures.entries (lost-none c.self.inside.marks.whole t.registered.items _ _ c.give_up_if.ensures.whole (none-lost c.len-forgotten.result t.registered.items c.len-forgotten.ensures.value))
+    c.give_up_if.new.self c.give_up_if.ensures.entries (lost-none c.self.inside.tags.whole t.registered.items _ _ c.give_up_if.ensures.whole (none-lost c.len-forgotten.result t.registered.items c.len-forgotten.ensures.value))
 
 pub returns-clause-went : goal.returns-clause-went
 returns-clause-went c =

@@ -1,6 +1,6 @@
 use Rattle.std.proofs.Common.{sym}
 use Rattle.lpc_procs.specs.Procs.{registered_by}
-use Rattle.lpc_procs.proofs.Marked.{none-has}
+use Rattle.lpc_procs.proofs.Tagged.{none-has}
 use Rattle.lpc_procs.proofs.procs.Procs.names.Goals as goal
 
 pub returns-then-is_unregistered : goal.returns-then-is_unregistered

@@ -3,7 +3,7 @@ use Rattle.lpc_procs.specs.Kept.{rows_in, used_rows}
 use Rattle.lpc_numbers.specs.Numbered.{numbers}
 use Rattle.lpc_procs.specs.Procs.{HasRegistrationLeft, registering, registration}
 use Rattle.lpc_procs.proofs.Keeping.{registered-as}
-use Rattle.lpc_procs.proofs.Marked.{remarks-more}
+use Rattle.lpc_procs.proofs.Tagged.{retags-more}
 use Rattle.lpc_procs.proofs.Stored.{registered-few, registered-more, registers-one}
 use Rattle.lpc_procs.proofs.Tables.{its-thread, no-thread, some-left, thread-first, thread-kept, thread-rows}
 use Rattle.lpc_procs.proofs.procs.Procs.register.Goals as goal
@@ -30,7 +30,7 @@ invariant_of-self c =
     let r = registration c.args.port c.args.birth in
     rw (c.thread_key.ensures, shown) (thread-kept c.self.invariant c.args.tid row there (registering r) (record { number = λ t. refl; process = λ t. refl }) (λ t. refl) refl
     (λ h. registered-more row r left) (c.self.inside.registered + 1) (registers-one c.self.inside.registered row r)
-    c.add.new.self (λ whole. remarks-more row.registered.items r c.self.inside.marks c.add.new.self (rw (c.mark_of.ensures) at c.add.ensures whole)))
+    c.add.new.self (λ whole. retags-more row.registered.items r c.self.inside.tags c.add.new.self (rw (c.tag_of.ensures) at c.add.ensures whole)))
 
 pub returns : goal.returns
 returns c =

@@ -1,7 +1,7 @@
 use Rattle.std.proofs.Common.{sym, arith}
 use Rattle.lpc_procs.specs.Kept.{rows_in}
 use Rattle.lpc_procs.proofs.Few.{few}
-use Rattle.lpc_procs.proofs.Marked.{none-registered_to}
+use Rattle.lpc_procs.proofs.Tagged.{none-registered_to}
 use Rattle.lpc_procs.proofs.procs.Procs.registered_to.Goals as goal
 
 pub returns-then-is_unregistered-clause-count : goal.returns-then-is_unregistered-clause-count

@@ -2,7 +2,7 @@ use Rattle.std.proofs.Common.{◌+◌, ◌-◌, refl, arith}
 use Rattle.lpc_procs.specs.Kept.{is_doomed_row, rows_in, used_rows}
 use Rattle.lpc_numbers.specs.Numbered.{numbers}
 use Rattle.lpc_procs.specs.Procs.{doomed, event_ports_of}
-use Rattle.lpc_procs.proofs.Marked.{remarked}
+use Rattle.lpc_procs.proofs.Tagged.{retagged}
 use Rattle.lpc_procs.proofs.Stored.{processes-few}
 use Rattle.lpc_procs.proofs.Tables.{its-process, no-process, process-kept, process-one, process-shown}
 use Rattle.lpc_procs.proofs.procs.Procs.set_doom.Goals as goal
@@ -26,7 +26,7 @@ pub invariant_of-self : goal.invariant_of-self
 invariant_of-self c =
     let p = c.in-Some.process.now in
     let there = its-process c.self.invariant c.args.pid c.process_key.result p c.process_key.ensures c.in-Some.ensures.value in
-    rw (c.process_key.ensures, c.first_code.ensures) (process-kept c.self.invariant c.args.pid p there (doomed c.args.code) (record { number = λ p. refl; birth = λ p. refl; maker = λ p. refl }) (c.self.inside.dooms - c.doomed_count.result + c.doomed_count-in-Some.result) c.self.inside.watched (omega (arith, c.self.invariant.doomed, c.doomed_count.ensures.count, c.doomed_count-in-Some.ensures.count, process-one c.self.invariant c.args.pid p there is_doomed_row)) refl c.self.inside.told_marks (remarked (event_ports_of p.row) c.self.inside.told_marks))
+    rw (c.process_key.ensures, c.first_code.ensures) (process-kept c.self.invariant c.args.pid p there (doomed c.args.code) (record { number = λ p. refl; birth = λ p. refl; maker = λ p. refl }) (c.self.inside.dooms - c.doomed_count.result + c.doomed_count-in-Some.result) c.self.inside.watched (omega (arith, c.self.invariant.doomed, c.doomed_count.ensures.count, c.doomed_count-in-Some.ensures.count, process-one c.self.invariant c.args.pid p there is_doomed_row)) refl c.self.inside.told_tags (retagged (event_ports_of p.row) c.self.inside.told_tags))
 
 pub returns : goal.returns
 returns c =

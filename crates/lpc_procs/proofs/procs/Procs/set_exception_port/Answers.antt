@@ -3,7 +3,7 @@ use Rattle.lpc_procs.specs.Kept.{is_watched, rows_in, used_rows}
 use Rattle.lpc_numbers.specs.Numbered.{numbers}
 use Rattle.lpc_procs.specs.Procs.{excepted, registration}
 use Rattle.lpc_procs.proofs.Events.{excepted-watched}
-use Rattle.lpc_procs.proofs.Marked.{remarks-back}
+use Rattle.lpc_procs.proofs.Tagged.{retags-back}
 use Rattle.lpc_procs.proofs.Stored.{processes-few}
 use Rattle.lpc_procs.proofs.Tables.{its-process, no-process, process-kept, process-one, process-shown}
 use Rattle.lpc_procs.proofs.procs.Procs.set_exception_port.Goals as goal
@@ -29,8 +29,8 @@ invariant_of-self c =
     let told = ap {B = ℕ} (λ b. cond b 1 0) (excepted-watched p (registration c.args.port c.args.birth)) in
     rw (c.process_key.ensures) (process-kept c.self.invariant c.args.pid p there (excepted (registration c.args.port c.args.birth)) (record { number = λ p. refl; birth = λ p. refl; maker = λ p. refl }) c.self.inside.dooms (c.self.inside.watched - c.watched_count.result + 1) refl (omega (arith, c.self.invariant.watchers, c.watched_count.ensures, process-one c.self.invariant c.args.pid p there is_watched, told))
     c.add.new.self (λ whole.
-    let more = rw (c.mark_of.ensures) at c.add.ensures whole in
-    remarks-back c.self.inside.told_marks c.unmark.new.tally c.add.new.self (option_to_list p.row.debug_port) (option_to_list p.row.exception_port) (registration c.args.port c.args.birth) (c.unmark.ensures more.whole) more))
+    let more = rw (c.tag_of.ensures) at c.add.ensures whole in
+    retags-back c.self.inside.told_tags c.untag.new.tally c.add.new.self (option_to_list p.row.debug_port) (option_to_list p.row.exception_port) (registration c.args.port c.args.birth) (c.untag.ensures more.whole) more))
 
 pub returns : goal.returns
 returns c =

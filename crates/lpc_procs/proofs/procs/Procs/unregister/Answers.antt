@@ -2,7 +2,7 @@ use Rattle.std.proofs.Common.{◌-◌, refl, arith}
 use Rattle.lpc_procs.specs.Kept.{rows_in}
 use Rattle.lpc_procs.specs.Procs.{is_of_birth, unregistering}
 use Rattle.lpc_procs.proofs.Keeping.{registered-as}
-use Rattle.lpc_procs.proofs.Marked.{remarks-less}
+use Rattle.lpc_procs.proofs.Tagged.{retags-less}
 use Rattle.lpc_procs.proofs.Stored.{registered-at, registered-less, without-fewer}
 use Rattle.lpc_procs.proofs.Tables.{its-thread, no-thread, thread-kept, thread-place, thread-rows}
 use Rattle.lpc_procs.proofs.procs.Procs.unregister.Goals as goal
@@ -33,7 +33,7 @@ invariant_of-self c =
     let shown = registered-as row c.forget.new.registered _ c.forget.ensures in
     rw (c.thread_key.ensures, shown) (thread-kept c.self.invariant c.args.tid row there (unregistering c.args.birth) (record { number = λ t. refl; process = λ t. refl }) (λ t. refl) refl
     (registered-less row c.args.birth) (c.self.inside.registered - (c.len-before.result - c.len.result)) (omega (arith, c.len-before.ensures.value, left, fewer, had, c.self.invariant.all.told))
-    c.take_all.new.tally (λ whole. remarks-less row.registered.items c.args.birth (c.len-before.result - c.len.result) (omega (arith, c.len-before.ensures.value, left, fewer)) c.self.inside.marks c.take_all.new.tally (rw (c.mark_of.ensures) at c.take_all.ensures whole)))
+    c.take_many.new.self (λ whole. retags-less row.registered.items c.args.birth (c.len-before.result - c.len.result) (omega (arith, c.len-before.ensures.value, left, fewer)) c.self.inside.tags c.take_many.new.self (rw (c.tag_of.ensures) at c.take_many.ensures.loses whole)))
 
 pub returns : goal.returns
 returns c =
