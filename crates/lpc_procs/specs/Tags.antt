@@ -1,5 +1,5 @@
 -- Registrations by the tags of their ports' names, as they are counted. No public clause cites this module.
-use Rattle.std.specs.Prelude.{ℕ, ◌≡◌, ◌+◌, ◌*◌, ◌%◌, ◌^◌, ◌==◌, Bool, true, List, if◌then◌else◌}
+use Rattle.std.specs.Prelude.{ℕ, ◌≡◌, ◌+◌, ◌*◌, ◌%◌, ◌^◌, ◌==◌, Bool, true, List}
 use Rattle.lpc_base.specs.Rows.{count}
 use Rattle.lpc_base.specs.declared.birth.Birth.{Birth}
 use Rattle.lpc_numbers.specs.Tally.{Tally, count_in}
