@@ -69,7 +69,10 @@ impl Model for Procs {
       thread_room = min s.threads.spare (min s.thread_names.room s.used_threads.room);
     } };
 
-    ghost invariant = { λ s. IsStored s.processes s.threads s.used_processes.entries s.used_threads.entries s.process_names s.thread_names s.alive s.registered s.dooms s.watched s.children s.members s.tags s.told_tags };
+    ghost invariant = { λ s. IsStored
+        s.processes s.threads s.used_processes.entries s.used_threads.entries
+        s.process_names s.thread_names s.alive s.registered s.dooms s.watched
+        s.children s.members s.tags s.told_tags };
 }
 
 // Written out, so that a proof about what holds these tables lets them go in one step, and not map by map.
