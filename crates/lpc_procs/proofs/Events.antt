@@ -1,7 +1,8 @@
 -- The ports that are told of exceptions, and the process that is to end next.
-use Rattle.std.proofs.Common.{◌≡◌, ◌+◌, ◌≤◌, ℕ, zero, suc, List, [], ◌∷◌, Bool, true, false, cond, set, None, Option, Some, option_map, refl, ap, sym, ◌∙◌, arith}
-use Rattle.std.specs.Prelude.{is_some, nat_lt, slice_get, option_to_list, ◌&&◌, ◌++◌, ◌||◌}
+use Rattle.std.proofs.Common.{◌≡◌, ◌+◌, ◌≤◌, ℕ, zero, suc, List, [], ◌∷◌, Bool, true, false, cond, length, set, None, Option, Some, option_map, refl, ap, sym, ◌∙◌, arith}
+use Rattle.std.specs.Prelude.{filter, is_some, nat_lt, slice_get, option_to_list, ◌&&◌, ◌++◌, ◌||◌}
 use Rattle.std.proofs.lemmas.Bool.Decides.{nat_tests}
+use Rattle.std.proofs.lemmas.List.{length-append}
 use Rattle.lpc_base.specs.declared.birth.Birth.{Birth}
 use Rattle.lpc_base.specs.Rows.{change, count, every, has, passes, which}
 use Rattle.lpc_base.proofs.RowMaps.{which-map}
@@ -106,6 +107,23 @@ unwatched (Some x) other off = absurd (cc)
 pub told-shown : (ps : List Counted) → told_in ps ≡ event_ports (process_rows ps)
 told-shown [] = refl
 told-shown (p ∷ ps) = ap (λ rs. event_ports_of p.row ++ rs) (told-shown ps)
+
+-- each process of whose exceptions a port is told has such a port
+pub watched-told : (ps : List Counted) → count is_watched ps ≤ length (told_in ps)
+watched-told [] = omega arith
+watched-told (p ∷ ps) =
+    let own = listed p.row.debug_port p.row.exception_port in
+    let all = length-append (event_ports_of p.row) (told_in ps) in
+    by (is_watched p) own all (watched-told ps)
+  where
+    listed : {X : Type 0} (one other : Option X) → cond (is_some one || is_some other) 1 0 ≤ length (option_to_list one ++ option_to_list other)
+    listed None None = omega arith
+    listed None (Some y) = omega arith
+    listed (Some x) other = grind arith
+
+    by : (b : Bool) → cond b 1 0 ≤ length (event_ports_of p.row) → length (told_in (p ∷ ps)) ≡ length (event_ports_of p.row) + length (told_in ps) → count is_watched ps ≤ length (told_in ps) → length (cond b (p ∷ filter is_watched ps) (filter is_watched ps)) ≤ length (told_in (p ∷ ps))
+    by true own all rest = omega (arith, own, all, rest)
+    by false own all rest = omega (arith, own, all, rest)
 
 pub none-told : (b : Birth) (ps : List Counted) → count is_watched ps ≡ 0 → count (is_of_birth b) (told_in ps) ≡ 0
 none-told b [] none = refl

@@ -1,6 +1,7 @@
 -- Registrations by tags.
 use Rattle.std.proofs.Common.{◌≡◌, ◌+◌, ℕ, zero, suc, Bool, true, false, cond, not, refl, sym, ap, ◌∙◌, arith, List, [], ◌∷◌, ◌++◌, Some, length, set}
 use Rattle.std.specs.Prelude.{◌==◌, ◌&&◌, filter, if◌then◌else◌, nat_lt, slice_get}
+use Rattle.std.proofs.lemmas.Bool.{and_parts, eqb-true}
 use Rattle.std.proofs.lemmas.Bool.Decides.{nat_tests}
 use Rattle.lpc_base.specs.declared.birth.Birth.{Birth}
 use Rattle.lpc_base.specs.Rows.{change, count, each, first, has, when, without, without_first}
@@ -137,7 +138,7 @@ retags-less rs b many is old new loses = record {
 
 -- ---- where no registration has the tag of a name, none is of it
 
-pub untagged : (b : Birth) (rs : List Registration) → count (is_tagged (tag_of b)) rs ≡ 0 → count (is_of_birth b) rs ≡ 0
+untagged : (b : Birth) (rs : List Registration) → count (is_tagged (tag_of b)) rs ≡ 0 → count (is_of_birth b) rs ≡ 0
 untagged b rs none =
     let left = left-tags (tag_of b) b rs in
     by (tag_of b == tag_of b) (number-same (tag_of b)) left
@@ -148,6 +149,12 @@ untagged b rs none =
     by : (c : Bool) → c ≡ true → count (is_tagged (tag_of b)) (without (is_of_birth b) rs) + cond c (count (is_of_birth b) rs) 0 ≡ count (is_tagged (tag_of b)) rs → count (is_of_birth b) rs ≡ 0
     by true is left = omega (arith, left, none)
     by false is left = absurd (cc)
+
+-- where a tally has none of the tag, none is of the name
+pub ruled-out : (b : Birth) (rs : List Registration) (tally : Tally) → AreTagged rs tally → (tally.whole && (count_in tally.entries (tag_of b) == 0)) ≡ true → count (is_of_birth b) rs ≡ 0
+ruled-out b rs tally tagged none =
+    let both = and_parts tally.whole (count_in tally.entries (tag_of b) == 0) none in
+    untagged b rs (sym (tagged both.0 (tag_of b)) ∙ eqb-true (count_in tally.entries (tag_of b)) 0 both.1)
 
 live-counts : {X : Type 0} (p : X → Bool) (xs : List X) (live : Bool) → count p xs ≡ 0 → count p (when live xs) ≡ 0
 live-counts p xs true none = none

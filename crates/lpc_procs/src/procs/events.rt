@@ -1,5 +1,5 @@
 // The ports that are told of processes' exceptions, and the processes that are to end.
-ghost use Rattle.std.specs.Prelude.{◌≡◌, ◌*◌, ◌≤◌, true, length, is_some, option_map, Some};
+ghost use Rattle.std.specs.Prelude.{◌≡◌, ◌*◌, ◌<◌, ◌≤◌, true, false, length, is_some, option_map, Some};
 ghost use Rattle.lpc_base.specs.Rows.{count, has};
 ghost use Rattle.lpc_procs.specs.Procs.{debugged, doomed, event_ports, excepted, has_event_port, is_of_birth, least_doomed, portless, process_at, registration, with_process};
 
@@ -141,17 +141,19 @@ impl Procs {
         exceptions::event_ports_to(&self.processes, birth)
     }
 
-    // The port with a birth is told of no process's exceptions, as the counts tell.
+    /// True where the counts rule out that the port with a birth is told of a process's exceptions.
+    ///
+    /// False says nothing of this port, but that some port is told of exceptions: names may share a tag, and a tally in
+    /// which not each such port was counted rules nothing out.
     fn is_unheard(&self, birth: Birth) -> bool
-        ensures { result ≡ true → count (is_of_birth birth) (event_ports self.now.processes) ≡ 0 }
+        ensures none { result ≡ true →
+            count (is_of_birth birth) (event_ports self.now.processes) ≡ 0 }
+        ensures some { result ≡ false → 0 < length (event_ports self.now.processes) }
     {
         if self.watched == 0 {
             return true;
         }
-        match self.told_tags.of(tag_of(birth)) {
-            Some(count) => count == 0,
-            None => false,
-        }
+        self.told_tags.has_none(tag_of(birth))
     }
 
     /// Of the processes that are to end and are live the one of the least number, with its code: None exactly where there

@@ -1,5 +1,5 @@
 // The ports that threads registered.
-ghost use Rattle.std.specs.Prelude.{◌≡◌, ◌*◌, ◌≤◌, true, length, is_some, option_map, Some, IsSomeAnd};
+ghost use Rattle.std.specs.Prelude.{◌≡◌, ◌*◌, ◌<◌, ◌≤◌, true, false, length, is_some, option_map, Some, IsSomeAnd};
 ghost use Rattle.lpc_base.specs.Rows.{count, has};
 ghost use Rattle.lpc_base.specs.declared.limits.TheConstants.{REGISTRATION_LIMIT};
 ghost use Rattle.lpc_procs.specs.Procs.{HasRegistrationLeft, all_registrations, first_untold, has_registered, is_of_birth, live_registrations, registered_by, registering, registration, thread_at, unregistering, with_thread};
@@ -103,18 +103,19 @@ impl Procs {
         registrations::of_birth(&self.threads, birth)
     }
 
-    // No thread registered the port with a birth, as the counts tell.
+    /// True where the counts rule out that a thread registered the port with a birth.
+    ///
+    /// False says nothing of this port, but that some port is registered: names may share a tag, and a tally in which
+    /// not each registration was counted rules nothing out.
     fn is_unregistered(&self, birth: Birth) -> bool
-        ensures { result ≡ true →
+        ensures none { result ≡ true →
             count (is_of_birth birth) (all_registrations self.now.threads) ≡ 0 }
+        ensures some { result ≡ false → 0 < length (all_registrations self.now.threads) }
     {
         if self.registered == 0 {
             return true;
         }
-        match self.tags.of(tag_of(birth)) {
-            Some(count) => count == 0,
-            None => false,
-        }
+        self.tags.has_none(tag_of(birth))
     }
 
     /// Of the threads of the process that have ended, the first that still has registrations: its number, and the

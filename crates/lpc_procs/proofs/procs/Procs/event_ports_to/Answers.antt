@@ -4,7 +4,7 @@ use Rattle.lpc_procs.proofs.Few.{few_processes}
 use Rattle.lpc_procs.proofs.procs.Procs.event_ports_to.Goals as goal
 
 pub returns-then-is_unheard-clause-count : goal.returns-then-is_unheard-clause-count
-returns-then-is_unheard-clause-count c = sym (c.is_unheard.ensures c.if-is_unheard.true)
+returns-then-is_unheard-clause-count c = sym (c.is_unheard.ensures.none c.if-is_unheard.true)
 
 pub event_ports_to-requires : goal.event_ports_to-requires
 event_ports_to-requires c =
