@@ -1,5 +1,5 @@
 -- What the counts of names become where names come and go.
-use Rattle.std.proofs.Common.{◌≡◌, ◌+◌, ◌-◌, ◌*◌, ◌≤◌, ℕ, Bool, true, false, cond, refl, ap, ◌∙◌, arith, [], ◌∷◌, length, eq-eqb}
+use Rattle.std.proofs.Common.{◌≡◌, ◌+◌, ◌-◌, ◌≤◌, ℕ, Bool, true, false, cond, refl, ap, ◌∙◌, arith, [], ◌∷◌, length, eq-eqb}
 use Rattle.std.specs.Prelude.{◌==◌, if◌then◌else◌}
 use Rattle.lpc_base.specs.Rows.{count, has}
 use Rattle.lpc_base.proofs.RowWords.{none-counted, without-none}
@@ -7,7 +7,6 @@ use Rattle.lpc_names.specs.declared.names.Found.TheVariants.{Directory, Item}
 use Rattle.lpc_names.specs.Path.{Path}
 use Rattle.lpc_names.specs.Walk.{Bindings, LinkTo, Node, Stands}
 use Rattle.lpc_names.specs.Binding.{is_name, without_names}
-use Rattle.lpc_numbers.specs.Tally.{one_for}
 use Rattle.lpc_slots.specs.declared.Key.{Key}
 use Rattle.lpc_slots.specs.Table.{is_key}
 use Rattle.lpc_slots.proofs.Keys.{key_is}
@@ -54,24 +53,12 @@ sum port n false same [] = refl
 sum port n true same (row ∷ rows) = grind (arith, same, other port n row, sum port n true same rows)
 sum port n false same (row ∷ rows) = grind (arith, same, other port n row, sum port n false same rows)
 
-times : (b : Bool) (k : ℕ) → k * (if b then 1 else 0) ≡ cond b k 0
-times true k = omega arith
-times false k = omega arith
-
 -- the names of other numbers stay, and of its own so many less as go
-pub left : (port : Key) (n : ℕ) (rows : Bindings Key) → count (is_numbered n) (without_names is_key port rows) + (length rows - length (without_names is_key port rows)) * one_for n (number_of port) ≡ count (is_numbered n) rows
+pub left : (port : Key) (n : ℕ) (rows : Bindings Key) → count (is_numbered n) (without_names is_key port rows) + (if n == number_of port then length rows - length (without_names is_key port rows) else 0) ≡ count (is_numbered n) rows
 left port n rows =
     let fewer : length rows - length (without_names is_key port rows) ≡ gone port rows = omega (arith, parts port rows) in
-    ap (λ k. count (is_numbered n) (without_names is_key port rows) + k) (ap (λ k. k * one_for n (number_of port)) fewer ∙ times (n == number_of port) (gone port rows))
+    ap (λ k. count (is_numbered n) (without_names is_key port rows) + cond (n == number_of port) k 0) fewer
     ∙ sum port n (n == number_of port) refl rows
-
--- one more is taken
-pub next : (n number k taken standing all : ℕ) → taken + one_for n number ≡ standing → standing + k * one_for n number ≡ all → taken + (k + 1) * one_for n number ≡ all
-next n number k taken standing all = by (n == number)
-  where
-    by : (b : Bool) → taken + (if b then 1 else 0) ≡ standing → standing + k * (if b then 1 else 0) ≡ all → taken + (k + 1) * (if b then 1 else 0) ≡ all
-    by true one sum = omega arith
-    by false one sum = omega arith
 
 pub fewer : (port : Key) (rows : Bindings Key) → length (without_names is_key port rows) ≤ length rows
 fewer port rows = omega (arith, parts port rows)

@@ -1,9 +1,8 @@
 // The name space of a world, and how many of its names lead to ports of each number.
-ghost use Rattle.std.specs.Prelude.{◌≡◌, ◌≢◌, ◌+◌, ◌*◌, ◌<◌, ◌≤◌, [], Err, IfErr, IsOk, OnErr, OnOk, length, true, ℕ};
+ghost use Rattle.std.specs.Prelude.{◌≡◌, ◌≢◌, ◌+◌, ◌<◌, ◌≤◌, [], Err, IfErr, IsOk, OnErr, OnOk};
 ghost use Rattle.lpc_names.specs.Binding as binding;
 ghost use Rattle.lpc_names.specs.Binding.{IsBound, RefusedBy, with_directory, with_item, with_link, without_names};
 ghost use Rattle.lpc_names.specs.Walk as names;
-ghost use Rattle.lpc_numbers.specs.Tally.{count_in, one_for};
 ghost use Rattle.lpc_slots.specs.Table.{is_key};
 ghost use Rattle.lpc_world.specs.PortNames.{number_of};
 
@@ -123,10 +122,10 @@ impl PortNames {
         ensures bindings { self.new.bindings ≡ without_names is_key port self.old.bindings }
         ensures spare { self.old.spare ≤ self.new.spare }
     {
-        match self.tally.of(number_of(port)) {
-            Some(0) => {}
-            _ => self.look_through(port),
+        if self.tally.has_none(number_of(port)) {
+            return;
         }
+        self.look_through(port);
     }
 
     // Takes away all names of a port, and looks at each name.
@@ -137,18 +136,7 @@ impl PortNames {
         let before = self.names.count();
         self.names.unbind_all(port);
         let gone = before - self.names.count();
-        take_each(&mut self.tally, number_of(port), gone);
-    }
-}
-
-// There are so many less of a number.
-fn take_each(tally: &mut Tally, number: u32, gone: usize)
-    ensures whole { tally.new.whole ≡ true → tally.old.whole ≡ true }
-    ensures counts { tally.new.whole ≡ true → (n : ℕ) →
-        count_in tally.new.entries n + gone * one_for n number ≡ count_in tally.old.entries n }
-{
-    for _ in 0..gone {
-        tally.take(number);
+        self.tally.take_many(number_of(port), gone);
     }
 }
 

@@ -1,6 +1,6 @@
-use Rattle.std.proofs.Common.{◌≡◌, ◌-◌, ◌*◌, ap, ◌∙◌, arith, length}
+use Rattle.std.proofs.Common.{◌≡◌, ◌-◌, ap, ◌∙◌, arith, length}
+use Rattle.std.specs.Prelude.{◌==◌, if◌then◌else◌}
 use Rattle.lpc_names.specs.Binding.{without_names}
-use Rattle.lpc_numbers.specs.Tally.{one_for}
 use Rattle.lpc_slots.specs.Table.{is_key}
 use Rattle.lpc_world.specs.PortNames.{number_of}
 use Rattle.lpc_world.proofs.Told.{cancel, fewer, left}
@@ -19,6 +19,7 @@ invariant_of-self c = λ whole n.
     let port = c.args.port in
     let after = c.count.ensures ∙ ap length c.unbind_all.ensures.bindings in
     let before = c.count-before.ensures in
-    let same : (c.count-before.result - c.count.result) * one_for n c.number_of.result ≡ (length rows - length (without_names is_key port rows)) * one_for n (number_of port) = λ i. (before i - after i) * one_for n (c.number_of.ensures i) in
+    let loses = c.take_many.ensures.loses whole in
+    let same : (if n == c.number_of.result then c.count-before.result - c.count.result else 0) ≡ (if n == number_of port then length rows - length (without_names is_key port rows) else 0) = λ i. if n == c.number_of.ensures i then before i - after i else 0 in
     rw c.unbind_all.ensures.bindings
-    (cancel _ _ _ _ _ (c.take_each.ensures.counts whole n ∙ c.self.invariant (c.take_each.ensures.whole whole) n) (left port n rows) same)
+    (cancel _ _ _ _ _ (loses.counts n ∙ c.self.invariant loses.whole n) (left port n rows) same)
