@@ -1,5 +1,7 @@
 pub mod Counted
 pub mod Keyed
+pub mod Many
+pub mod Numbers
 pub mod OnePart
 pub mod Named
 pub mod Places

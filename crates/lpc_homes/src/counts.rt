@@ -93,6 +93,13 @@ impl Counts {
         }
     }
 
+    /// Each was counted.
+    pub fn is_whole(&self) -> bool
+        ensures { result ≡ self.now.whole }
+    {
+        self.whole
+    }
+
     /// The count of an object, as it is kept.
     fn count_of(&self, object: Object) -> usize
         ensures { result ≡ count_in self.now.entries object }

@@ -2,7 +2,9 @@
 #![tactic(auto)]
 
 mod counts;
+mod held;
 mod object;
+mod object_counts;
 mod parts;
 mod view_counts;
 mod views;

@@ -3,6 +3,7 @@ ghost use Rattle.std.specs.Prelude.{◌≡◌};
 ghost use Rattle.std.proofs.Common.{rules};
 ghost use Rattle.std.specs.Cmp.Rules.{hashing};
 ghost use Rattle.lpc_homes.specs.Hashed.{hashed};
+ghost use Rattle.lpc_homes.specs.Numbered.{is_numbered};
 ghost use Rattle.lpc_homes.specs.Parts.{port_of};
 
 use lpc_base::Birth;
@@ -33,6 +34,13 @@ impl Object {
             Object::Port(port) => Some(port),
             Object::Process(_) | Object::Thread(_) | Object::Section(_) | Object::Token(_) => None,
         }
+    }
+
+    /// The object is a section or a token: of these it is kept how many are held.
+    pub(crate) fn is_numbered(self) -> bool
+        ensures { result ≡ is_numbered self }
+    {
+        matches!(self, Object::Section(_) | Object::Token(_))
     }
 }
 

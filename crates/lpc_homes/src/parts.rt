@@ -1,16 +1,16 @@
 // The parts of all processes, of which contracts see the list.
-ghost use Rattle.std.specs.Prelude.{◌≡◌, ◌+◌, ◌*◌, ◌-◌, ◌<◌, ◌≤◌, ◌↔◌, ◌++◌, ◌∷◌, [], true, false, Some, IsErr, IfOk, OnOk, OnErr, length};
+ghost use Rattle.std.specs.Prelude.{◌≡◌, ◌+◌, ◌*◌, ◌-◌, ◌<◌, ◌≤◌, ◌↔◌, ◌++◌, ◌∷◌, [], true, false, Some, IsErr, IfOk, IfSome, OnOk, OnErr, length};
 ghost use Rattle.std.specs.List.{position};
 ghost use Rattle.lpc_base.specs.Places.{least_handle};
 ghost use Rattle.lpc_base.specs.Room.{grown_room};
 ghost use Rattle.lpc_base.specs.Rows.{count, has};
 ghost use Rattle.lpc_handles.specs.Handles.{values};
+ghost use Rattle.lpc_homes.specs.Held.{AreSoMany, is_held_section, is_held_token};
 ghost use Rattle.lpc_homes.specs.Parts.{HasFew, all_rows, are_single_parts, closing, handing, has_name_of, is_part, names_it, new_part, rooming, rows_at, spare_at};
 ghost use Rattle.lpc_base.specs.declared.limits.TheConstants.{HANDLE_LIMIT, LINES_LIMIT};
 
 use crate::Object;
-use crate::counts::Counts;
-use crate::view_counts::ViewCounts;
+use crate::object_counts::ObjectCounts;
 use lpc_base::{OutOfMemory, reserve_rows};
 use lpc_handles::{Table, TableFault};
 use lpc_numbers::Numbered;
@@ -38,8 +38,7 @@ pub struct Part {
 pub struct Parts {
     pub(crate) parts: Vec<Part>,
     places: Numbered<()>,
-    handle_counts: Counts,
-    pub(crate) view_counts: ViewCounts,
+    pub(crate) counts: ObjectCounts,
     alloc: Global,
 }
 
@@ -56,7 +55,7 @@ impl Model for Parts {
       room = min (vec_capacity s.parts - vec_len s.parts) s.places.room;
     } };
 
-    ghost invariant = { λ s. AreAllCounted s.parts.items (numbers s.places.entries) s.handle_counts s.view_counts };
+    ghost invariant = { λ s. AreAllCounted s.parts.items (numbers s.places.entries) s.counts.handles s.counts.views };
 }
 
 // Written out, so that a proof about what holds the parts lets them go in one step, and not map by map.
@@ -65,8 +64,7 @@ impl Drop for Parts {
         let Parts {
             parts: _,
             places: _,
-            handle_counts: _,
-            view_counts: _,
+            counts: _,
             alloc: _,
         } = self;
     }
@@ -80,8 +78,7 @@ impl Parts {
         Parts {
             parts: Vec::new(alloc),
             places: Numbered::new(alloc),
-            handle_counts: Counts::new(alloc),
-            view_counts: ViewCounts::new(alloc),
+            counts: ObjectCounts::new(alloc),
             alloc,
         }
     }
@@ -162,7 +159,7 @@ impl Parts {
     {
         let place = self.place_of(pid);
         let value = self.parts[place].handles.add(object, access)?;
-        self.handle_counts.add(object);
+        self.counts.add_handle(object);
         Ok(value)
     }
 
@@ -191,8 +188,8 @@ impl Parts {
         let before = self.parts[place].handles.spare();
         let made = self.parts[place].handles.reserve(more);
         // What the counts find no memory for is counted by a walk.
-        self.handle_counts
-            .promise(self.parts[place].handles.spare() - before);
+        self.counts
+            .promise_handles(self.parts[place].handles.spare() - before);
         made
     }
 
@@ -205,7 +202,7 @@ impl Parts {
     {
         let place = self.place_of(pid);
         if let Some(row) = self.parts[place].handles.close(value) {
-            self.handle_counts.take(row.object);
+            self.counts.take_handle(row.object);
         }
     }
 
@@ -215,7 +212,7 @@ impl Parts {
         ensures count { result ≡ count (names_it object) (all_rows self.now.items) }
         ensures bound { result ≤ HANDLE_LIMIT * length self.now.items }
     {
-        match self.handle_counts.of(object) {
+        match self.counts.handles_to(object) {
             Some(count) => count,
             None => handles_in(&self.parts, object),
         }
@@ -233,10 +230,25 @@ impl Parts {
     pub fn names(&self, object: Object) -> bool
         ensures { result ≡ has (has_name_of object) self.now.items }
     {
-        match self.handle_counts.of(object) {
+        match self.counts.handles_to(object) {
             Some(count) => count > 0,
             None => is_named(&self.parts, object),
         }
+    }
+
+    /// How many sections some handle names or some view shows; None where not each handle and view was counted, for want
+    /// of memory.
+    pub fn held_sections(&self) -> Option<usize>
+        ensures { IfSome result (AreSoMany (is_held_section self.now.items)) }
+    {
+        self.counts.held_sections()
+    }
+
+    /// How many tokens some handle names; None where not each handle and view was counted, for want of memory.
+    pub fn held_tokens(&self) -> Option<usize>
+        ensures { IfSome result (AreSoMany (is_held_token self.now.items)) }
+    {
+        self.counts.held_tokens()
     }
 }
 

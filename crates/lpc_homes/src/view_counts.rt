@@ -1,8 +1,6 @@
 // How many views count for each section and for each port.
 ghost use Rattle.std.specs.Prelude.{◌≡◌, ◌∷◌, [], false, true, IfNone, IfSome};
-ghost use Rattle.lpc_base.specs.Rows.{which};
 ghost use Rattle.lpc_homes.specs.Counts.{GainsViews, LosesViews, count_in};
-ghost use Rattle.lpc_homes.specs.Parts.{goes_with};
 
 use crate::Object;
 use crate::counts::Counts;
@@ -77,27 +75,6 @@ impl ViewCounts {
         }
     }
 
-    /// So many views less as there are in a list.
-    pub fn take_all(&mut self, views: &[View<Key>])
-        ensures { self.new.whole ≡ true → LosesViews views.now self.old self.new }
-    {
-        for view in views {
-            self.take(*view);
-        }
-    }
-
-    /// So many views less as there are in a list that go with a port.
-    pub fn take_owned(&mut self, views: &[View<Key>], owner: Key)
-        ensures { let owned = which (goes_with owner) views.now in
-            self.new.whole ≡ true → LosesViews owned self.old self.new }
-    {
-        for view in views {
-            if view.owner == Some(owner) {
-                self.take(*view);
-            }
-        }
-    }
-
     /// How many views count for the object, a section or a port; None where not each was counted.
     pub fn of(&self, object: Object) -> Option<usize>
         ensures whole { IfSome result (λ n. self.now.whole ≡ true) }
@@ -105,6 +82,13 @@ impl ViewCounts {
         ensures unfinished { IfNone result (self.now.whole ≡ false) }
     {
         self.counts.of(object)
+    }
+
+    /// Each view was counted.
+    pub fn is_whole(&self) -> bool
+        ensures { result ≡ self.now.whole }
+    {
+        self.counts.is_whole()
     }
 
     /// The place of the process to which the last view was given that goes with a port. Where that isn't kept, it is any.

@@ -54,8 +54,8 @@ impl Parts {
         let before = self.parts[place].views.spare();
         let made = self.parts[place].views.reserve(more);
         // What the counts find no memory for is counted by a walk.
-        self.view_counts
-            .promise(self.parts[place].views.spare() - before);
+        self.counts
+            .promise_views(self.parts[place].views.spare() - before);
         made
     }
 
@@ -91,7 +91,7 @@ impl Parts {
         let view = self.parts[place]
             .views
             .map(sections, section, offset, size, writable, owner)?;
-        self.view_counts.add(view, place);
+        self.counts.add_view(view, place);
         Ok(view)
     }
 
@@ -108,7 +108,7 @@ impl Parts {
     {
         let place = self.place_of(pid);
         self.parts[place].views.add(view);
-        self.view_counts.add(view, place);
+        self.counts.add_view(view, place);
     }
 
     /// Takes the view of a process that holds an address away, and answers it; None exactly where none does, and then
@@ -126,7 +126,7 @@ impl Parts {
     {
         let place = self.place_of(pid);
         let view = self.parts[place].views.unmap(address)?;
-        self.view_counts.take(view);
+        self.counts.take_view(view);
         Some(view)
     }
 
@@ -139,7 +139,7 @@ impl Parts {
     {
         let place = self.place_of(pid);
         let views = &mut self.parts[place].views;
-        self.view_counts.take_all(views.views());
+        self.counts.take_all_views(views.views());
         views.clear();
     }
 
@@ -176,7 +176,7 @@ impl Parts {
         ensures left { let all = map (dropped owner) in all self.new.items ≡ all self.old.items }
         ensures kept { self.new.room ≡ self.old.room }
     {
-        let home = self.view_counts.home_of(owner);
+        let home = self.counts.home_of(owner);
         if home < self.items().len() {
             self.drop_owned_at(home, owner);
         }
@@ -189,7 +189,7 @@ impl Parts {
         ensures kept { self.new.room ≡ self.old.room }
     {
         let views = &mut self.parts[place].views;
-        self.view_counts.take_owned(views.views(), owner);
+        self.counts.take_owned_views(views.views(), owner);
         views.drop_owned(owner);
     }
 
@@ -243,7 +243,7 @@ impl Parts {
             IfSome result (λ n. n ≡ count (shows section) views) }
         ensures bound { IfSome result (λ n. n ≤ VIEW_LIMIT * length self.now.items) }
     {
-        self.view_counts.of(Object::Section(section))
+        self.counts.views_for(Object::Section(section))
     }
 
     // How many views of all processes go with the port; None where not each was counted.
@@ -252,7 +252,7 @@ impl Parts {
             IfSome result (λ n. n ≡ count (goes_with owner) views) }
         ensures bound { IfSome result (λ n. n ≤ VIEW_LIMIT * length self.now.items) }
     {
-        self.view_counts.of(Object::Port(owner))
+        self.counts.views_for(Object::Port(owner))
     }
 }
 

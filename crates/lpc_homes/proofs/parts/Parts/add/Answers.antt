@@ -11,6 +11,6 @@ pub invariant_of-self : goal.invariant_of-self
 invariant_of-self c =
     rw (c.push_reserved.ensures.items, c.add.ensures.entries, push-map, c.new.ensures, c.new-2.ensures)
     (record {
-      of_handles = pushed_kept c.self.inside.parts.items (numbers c.self.inside.places.entries) c.self.inside.handle_counts c.args.pid c.self.invariant.of_handles;
-      of_views = pushed_unseen c.self.inside.parts.items c.self.inside.view_counts c.args.pid c.self.invariant.of_views;
+      of_handles = pushed_kept c.self.inside.parts.items (numbers c.self.inside.places.entries) c.self.inside.counts.handles c.args.pid c.self.invariant.of_handles;
+      of_views = pushed_unseen c.self.inside.parts.items c.self.inside.counts.views c.args.pid c.self.invariant.of_views;
     })

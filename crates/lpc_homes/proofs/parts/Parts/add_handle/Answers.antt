@@ -37,6 +37,6 @@ invariant_of-self-2 c =
     let one = rw (← c.self.view_is) at c.requires.one in
     rw (handed_part c.self.inside.parts.items c.args.pid c.place_of-place.result c.index_mut.result.now (record { object = c.args.object; access = c.args.access }) (Ok c.in_ok-value.value) c.add.new.self one at c.in_ok-value.ensures.rows c.in_ok-value.ensures.spare)
     (record {
-      of_handles = handed_kept c.self.inside.parts.items (numbers c.self.inside.places.entries) c.self.inside.handle_counts c.add-2.new.self c.args.pid c.in_ok-value.value c.index_mut.result.now (record { object = c.args.object; access = c.args.access }) one at.is_first c.self.invariant.of_handles c.in_ok-value.ensures.value (λ full. true≢false (sym (c.in_ok-value.ensures.quota.1 full))) c.add-2.ensures;
-      of_views = unseen_kept (handed c.in_ok-value.value (record { object = c.args.object; access = c.args.access })) (λ p. refl) c.args.pid c.self.inside.parts.items c.self.inside.view_counts c.self.invariant.of_views;
+      of_handles = handed_kept c.self.inside.parts.items (numbers c.self.inside.places.entries) c.self.inside.counts.handles c.add_handle.new.self.handles c.args.pid c.in_ok-value.value c.index_mut.result.now (record { object = c.args.object; access = c.args.access }) one at.is_first c.self.invariant.of_handles c.in_ok-value.ensures.value (λ full. true≢false (sym (c.in_ok-value.ensures.quota.1 full))) c.add_handle.ensures.gains;
+      of_views = rw c.add_handle.ensures.views (unseen_kept (handed c.in_ok-value.value (record { object = c.args.object; access = c.args.access })) (λ p. refl) c.args.pid c.self.inside.parts.items c.self.inside.counts.views c.self.invariant.of_views);
     })

@@ -22,6 +22,6 @@ returns-clause-parts c =
 pub invariant_of-self : goal.invariant_of-self
 invariant_of-self c =
     let at = part_is c.self.inside.parts.items c.args.pid c.place_of-place.result c.index_mut.result.now (rw (← c.self.view_is) at c.place_of-place.ensures) c.index_mut.ensures.value in
-    views_kept c.self.inside.parts.items (numbers c.self.inside.places.entries) c.self.inside.handle_counts c.self.inside.view_counts c.add-2.new.self c.place_of-place.result c.index_mut.result.now c.add.new.self at.here c.self.invariant
-    (one_more c.index_mut.result.now.views c.add.new.self c.self.inside.view_counts c.add-2.new.self c.args.view c.add.ensures.views (few_based c.index_mut.result.now.views.views c.args.view.size c.args.view.base (rw (← c.self.view_is, at.is_first) at c.requires.base)))
-    (gained c.index_mut.result.now.views c.add.new.self c.self.inside.view_counts c.add-2.new.self c.args.view c.add.ensures.views c.add-2.ensures)
+    rw c.add_view.ensures.handles (views_kept c.self.inside.parts.items (numbers c.self.inside.places.entries) c.self.inside.counts.handles c.self.inside.counts.views c.add_view.new.self.views c.place_of-place.result c.index_mut.result.now c.add.new.self at.here c.self.invariant
+    (one_more c.index_mut.result.now.views c.add.new.self c.self.inside.counts.views c.add_view.new.self.views c.args.view c.add.ensures.views (few_based c.index_mut.result.now.views.views c.args.view.size c.args.view.base (rw (← c.self.view_is, at.is_first) at c.requires.base)))
+    (gained c.index_mut.result.now.views c.add.new.self c.self.inside.counts.views c.add_view.new.self.views c.args.view c.add.ensures.views c.add_view.ensures.gains))

@@ -22,6 +22,6 @@ invariant_of-self c =
     let one = rw (← c.self.view_is) at c.requires.one in
     rw (closed_part c.self.inside.parts.items c.args.pid c.place_of-place.result c.args.value c.index_mut.result.now (Some c.in-Some.row) c.close.new.self one at c.in-Some.ensures.row c.in-Some.ensures.one c.in-Some.ensures.spare c.in-Some.ensures.same)
     (record {
-      of_handles = closed_kept c.self.inside.parts.items (numbers c.self.inside.places.entries) c.self.inside.handle_counts c.take.new.self c.args.pid c.args.value c.index_mut.result.now c.in-Some.row one at.is_first c.self.invariant.of_handles c.in-Some.ensures.row c.take.ensures.loses;
-      of_views = unseen_kept (closed c.args.value) (λ p. refl) c.args.pid c.self.inside.parts.items c.self.inside.view_counts c.self.invariant.of_views;
+      of_handles = closed_kept c.self.inside.parts.items (numbers c.self.inside.places.entries) c.self.inside.counts.handles c.take_handle.new.self.handles c.args.pid c.args.value c.index_mut.result.now c.in-Some.row one at.is_first c.self.invariant.of_handles c.in-Some.ensures.row c.take_handle.ensures.loses;
+      of_views = rw c.take_handle.ensures.views (unseen_kept (closed c.args.value) (λ p. refl) c.args.pid c.self.inside.parts.items c.self.inside.counts.views c.self.invariant.of_views);
     })

@@ -13,6 +13,6 @@ returns-clause-parts c =
 pub invariant_of-self : goal.invariant_of-self
 invariant_of-self c =
     let here = slice_get_read c.self.inside.parts.items _ c.args.place c.index_mut.result.now refl (rw (← c.self.view_is) at c.requires) c.index_mut.ensures.value in
-    views_kept c.self.inside.parts.items (numbers c.self.inside.places.entries) c.self.inside.handle_counts c.self.inside.view_counts c.take_owned.new.self c.args.place c.index_mut.result.now c.drop_owned.new.self here c.self.invariant
-    (some_less c.index_mut.result.now.views c.drop_owned.new.self c.self.inside.view_counts c.take_owned.new.self (goes_with c.args.owner) c.drop_owned.ensures.views)
-    (lost c.index_mut.result.now.views c.drop_owned.new.self c.self.inside.view_counts c.take_owned.new.self (goes_with c.args.owner) c.drop_owned.ensures.views (rw c.views.ensures.views at c.take_owned.ensures))
+    rw c.take_owned_views.ensures.handles (views_kept c.self.inside.parts.items (numbers c.self.inside.places.entries) c.self.inside.counts.handles c.self.inside.counts.views c.take_owned_views.new.self.views c.args.place c.index_mut.result.now c.drop_owned.new.self here c.self.invariant
+    (some_less c.index_mut.result.now.views c.drop_owned.new.self c.self.inside.counts.views c.take_owned_views.new.self.views (goes_with c.args.owner) c.drop_owned.ensures.views)
+    (lost c.index_mut.result.now.views c.drop_owned.new.self c.self.inside.counts.views c.take_owned_views.new.self.views (goes_with c.args.owner) c.drop_owned.ensures.views (rw c.views.ensures.views at c.take_owned_views.ensures.loses)))

@@ -11,6 +11,6 @@ returns-clause-parts c =
 pub invariant_of-self : goal.invariant_of-self
 invariant_of-self c =
     let at = part_is c.self.inside.parts.items c.args.pid c.place_of-place.result c.index_mut.result.now (rw (← c.self.view_is) at c.place_of-place.ensures) c.index_mut.ensures.value in
-    views_kept c.self.inside.parts.items (numbers c.self.inside.places.entries) c.self.inside.handle_counts c.self.inside.view_counts c.take_all.new.self c.place_of-place.result c.index_mut.result.now c.clear.new.self at.here c.self.invariant
-    (none_left c.index_mut.result.now.views c.clear.new.self c.self.inside.view_counts c.take_all.new.self c.clear.ensures.views)
-    (all_lost c.index_mut.result.now.views c.clear.new.self c.self.inside.view_counts c.take_all.new.self c.clear.ensures.views (rw c.views.ensures.views at c.take_all.ensures))
+    rw c.take_all_views.ensures.handles (views_kept c.self.inside.parts.items (numbers c.self.inside.places.entries) c.self.inside.counts.handles c.self.inside.counts.views c.take_all_views.new.self.views c.place_of-place.result c.index_mut.result.now c.clear.new.self at.here c.self.invariant
+    (none_left c.index_mut.result.now.views c.clear.new.self c.self.inside.counts.views c.take_all_views.new.self.views c.clear.ensures.views)
+    (all_lost c.index_mut.result.now.views c.clear.new.self c.self.inside.counts.views c.take_all_views.new.self.views c.clear.ensures.views (rw c.views.ensures.views at c.take_all_views.ensures.loses)))

@@ -33,6 +33,6 @@ returns-clause-place c =
 pub invariant_of-self-2 : goal.invariant_of-self-2
 invariant_of-self-2 c =
     let at = part_is c.self.inside.parts.items c.args.pid c.place_of-place.result c.index_mut.result.now (rw (← c.self.view_is) at c.place_of-place.ensures) c.index_mut.ensures.value in
-    views_kept c.self.inside.parts.items (numbers c.self.inside.places.entries) c.self.inside.handle_counts c.self.inside.view_counts c.add.new.self c.place_of-place.result c.index_mut.result.now c.map.new.self at.here c.self.invariant
-    (one_more c.index_mut.result.now.views c.map.new.self c.self.inside.view_counts c.add.new.self c.in_ok-view.view c.in_ok-view.ensures.views (few_mapped c.index_mut.result.now.views.views c.args.section c.args.offset c.args.size c.args.writable c.args.owner (row_at c.args.sections.now c.args.section) c.in_ok-view.view c.in_ok-view.ensures.answer))
-    (gained c.index_mut.result.now.views c.map.new.self c.self.inside.view_counts c.add.new.self c.in_ok-view.view c.in_ok-view.ensures.views c.add.ensures)
+    rw c.add_view.ensures.handles (views_kept c.self.inside.parts.items (numbers c.self.inside.places.entries) c.self.inside.counts.handles c.self.inside.counts.views c.add_view.new.self.views c.place_of-place.result c.index_mut.result.now c.map.new.self at.here c.self.invariant
+    (one_more c.index_mut.result.now.views c.map.new.self c.self.inside.counts.views c.add_view.new.self.views c.in_ok-view.view c.in_ok-view.ensures.views (few_mapped c.index_mut.result.now.views.views c.args.section c.args.offset c.args.size c.args.writable c.args.owner (row_at c.args.sections.now c.args.section) c.in_ok-view.view c.in_ok-view.ensures.answer))
+    (gained c.index_mut.result.now.views c.map.new.self c.self.inside.counts.views c.add_view.new.self.views c.in_ok-view.view c.in_ok-view.ensures.views c.add_view.ensures.gains))

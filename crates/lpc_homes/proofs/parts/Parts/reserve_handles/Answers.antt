@@ -57,9 +57,9 @@ pub invariant_of-self : goal.invariant_of-self
 invariant_of-self c =
     let at = part_is c.self.inside.parts.items c.args.pid c.place_of-place.result c.index_mut.result.now (rw (← c.self.view_is) at c.place_of-place.ensures) c.index_mut.ensures.value in
     let one = rw (← c.self.view_is) at c.requires.one in
-    rw c.promise.ensures (record {
-      of_handles = roomed_kept c.self.inside.parts.items (numbers c.self.inside.places.entries) c.self.inside.handle_counts c.args.pid c.place_of-place.result c.index_mut.result.now c.reserve-made.new.self one at c.reserve-made.ensures.rows c.self.invariant.of_handles;
+    rw c.promise_handles.ensures (record {
+      of_handles = roomed_kept c.self.inside.parts.items (numbers c.self.inside.places.entries) c.self.inside.counts.handles c.args.pid c.place_of-place.result c.index_mut.result.now c.reserve-made.new.self one at c.reserve-made.ensures.rows c.self.invariant.of_handles;
       of_views =
           rw (roomed_part c.self.inside.parts.items c.args.pid c.place_of-place.result c.index_mut.result.now c.reserve-made.new.self one at c.reserve-made.ensures.rows).parts_are
-          (unseen_kept (roomed c.reserve-made.new.self.spare) (λ p. refl) c.args.pid c.self.inside.parts.items c.self.inside.view_counts c.self.invariant.of_views);
+          (unseen_kept (roomed c.reserve-made.new.self.spare) (λ p. refl) c.args.pid c.self.inside.parts.items c.self.inside.counts.views c.self.invariant.of_views);
     })

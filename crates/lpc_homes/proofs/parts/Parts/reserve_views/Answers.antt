@@ -1,3 +1,4 @@
+use Rattle.std.proofs.Common.{refl}
 use Rattle.lpc_numbers.specs.Numbered.{numbers}
 use Rattle.lpc_homes.proofs.OnePart.{part_is, view_roomed_part}
 use Rattle.lpc_homes.proofs.Viewed.{as_many, same_views, views_kept}
@@ -53,6 +54,6 @@ returns-clause-enough c =
 pub invariant_of-self : goal.invariant_of-self
 invariant_of-self c =
     let at = part_is c.self.inside.parts.items c.args.pid c.place_of-place.result c.index_mut.result.now (rw (← c.self.view_is) at c.place_of-place.ensures) c.index_mut.ensures.value in
-    views_kept c.self.inside.parts.items (numbers c.self.inside.places.entries) c.self.inside.handle_counts c.self.inside.view_counts c.promise.new.self c.place_of-place.result c.index_mut.result.now c.reserve-made.new.self at.here c.self.invariant
-    (as_many c.index_mut.result.now.views c.reserve-made.new.self c.self.inside.view_counts c.promise.new.self c.reserve-made.ensures.views)
-    (same_views c.index_mut.result.now.views c.reserve-made.new.self c.self.inside.view_counts c.promise.new.self c.reserve-made.ensures.views c.promise.ensures)
+    rw c.promise_views.ensures (views_kept c.self.inside.parts.items (numbers c.self.inside.places.entries) c.self.inside.counts.handles c.self.inside.counts.views c.self.inside.counts.views c.place_of-place.result c.index_mut.result.now c.reserve-made.new.self at.here c.self.invariant
+    (as_many c.index_mut.result.now.views c.reserve-made.new.self c.self.inside.counts.views c.self.inside.counts.views c.reserve-made.ensures.views)
+    (same_views c.index_mut.result.now.views c.reserve-made.new.self c.self.inside.counts.views c.self.inside.counts.views c.reserve-made.ensures.views refl))

@@ -28,6 +28,6 @@ returns-in_err-view-clause-view c =
 pub invariant_of-self-2 : goal.invariant_of-self-2
 invariant_of-self-2 c =
     let at = part_is c.self.inside.parts.items c.args.pid c.place_of-place.result c.index_mut.result.now (rw (← c.self.view_is) at c.place_of-place.ensures) c.index_mut.ensures.value in
-    views_kept c.self.inside.parts.items (numbers c.self.inside.places.entries) c.self.inside.handle_counts c.self.inside.view_counts c.take.new.self c.place_of-place.result c.index_mut.result.now c.unmap.new.self at.here c.self.invariant
-    (one_less c.index_mut.result.now.views c.unmap.new.self c.self.inside.view_counts c.take.new.self (holds c.args.address 1) c.in_ok-view.ensures.one)
-    (one_lost c.index_mut.result.now.views c.unmap.new.self c.self.inside.view_counts c.take.new.self (holds c.args.address 1) c.in_ok-view.view c.in_ok-view.ensures.view c.in_ok-view.ensures.one c.take.ensures)
+    rw c.take_view.ensures.handles (views_kept c.self.inside.parts.items (numbers c.self.inside.places.entries) c.self.inside.counts.handles c.self.inside.counts.views c.take_view.new.self.views c.place_of-place.result c.index_mut.result.now c.unmap.new.self at.here c.self.invariant
+    (one_less c.index_mut.result.now.views c.unmap.new.self c.self.inside.counts.views c.take_view.new.self.views (holds c.args.address 1) c.in_ok-view.ensures.one)
+    (one_lost c.index_mut.result.now.views c.unmap.new.self c.self.inside.counts.views c.take_view.new.self.views (holds c.args.address 1) c.in_ok-view.view c.in_ok-view.ensures.view c.in_ok-view.ensures.one c.take_view.ensures.loses))
