@@ -1,11 +1,12 @@
 -- What is told of closings: each completed client port that loses its last handle is told of once.
-use Rattle.std.specs.Prelude.{◌≡◌, ℕ, ◌++◌, Bool, List, [], ◌∷◌}
+use Rattle.std.specs.Prelude.{◌≡◌, ℕ, ◌++◌, ◌&&◌, not, Bool, List, [], ◌∷◌}
 use Rattle.lpc_base.specs.Rows.{each, given, when, which}
-use Rattle.lpc_model.specs.World.{Birth, MessageRow, World, no_rows}
+use Rattle.lpc_model.specs.declared.entry.ObjectKind.TheVariants as kind
+use Rattle.lpc_model.specs.World.{Birth, HandleRow, MessageRow, World, no_rows}
 use Rattle.lpc_model.specs.Message.{tells_closing}
-use Rattle.lpc_model.specs.Found.{handle_at, port_row}
+use Rattle.lpc_model.specs.Found.{handle_at, is_open, port_row, same_kind}
 use Rattle.lpc_model.specs.Basics.{Basic, DropsHandle, basic}
-use Rattle.lpc_model.specs.Close.{is_last, closing_post}
+use Rattle.lpc_model.specs.Close.{closing_post}
 use Rattle.lpc_model.specs.Lines.{ScriptLine}
 use Rattle.lpc_model.specs.Machine.{step, steps}
 use Rattle.lpc_model.specs.Run.{Along, said_in}
@@ -14,9 +15,13 @@ use Rattle.lpc_model.specs.Run.{Along, said_in}
 abbrev pub is_closed_post : MessageRow → Bool
 is_closed_post m = tells_closing m.message
 
--- the port whose last handle goes by a step
+-- a handle names a port that is open in the one world, and isn't in the other
+abbrev pub shuts : World → World → HandleRow → Bool
+shuts w v r = same_kind r.object.kind kind.Port && (is_open w r.object.birth && not (is_open v r.object.birth))
+
+-- the port whose last handle goes by a step: it is open before that, and isn't behind it
 abbrev pub closes : World → Basic → List Birth
-closes w (DropsHandle pid value) = given (handle_at w pid value) (λ r. when (is_last r w) (r.object.birth ∷ []))
+closes w (DropsHandle pid value) = given (handle_at w pid value) (λ r. when (shuts w (basic w (DropsHandle pid value)) r) (r.object.birth ∷ []))
 closes w b = []
 
 -- what is told of a closed port: one message to its connection port, where it is a completed client port and the

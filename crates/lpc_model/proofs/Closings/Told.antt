@@ -1,23 +1,23 @@
 -- What steps tell of closings, and what they close.
-use Rattle.std.proofs.Common.{◌≡◌, ◌∙◌, ℕ, List, [], ◌∷◌, ◌++◌, Bool, true, false, cond, not, Option, Some, None, refl, sym, ap, arith, append-nil, append_assoc}
+use Rattle.std.proofs.Common.{◌≡◌, ◌≤◌, ◌∙◌, ℕ, List, [], ◌∷◌, ◌++◌, Bool, true, false, cond, not, Option, Some, None, refl, subst, sym, ap, arith, append-nil, append_assoc}
 use Rattle.std.proofs.lemmas.Bool.{and_from}
 use Rattle.std.specs.Prelude.{◌&&◌, option_and_then, option_map}
-use Rattle.lpc_base.specs.Rows.{change, each, every, given, when, which}
+use Rattle.lpc_base.specs.Rows.{change, count, each, every, given, when, which}
 use Rattle.lpc_base.proofs.RowWords.{every-more, first-passes}
 use Rattle.lpc_base.proofs.Bools.{first-true, second-true}
 use Rattle.lpc_base.specs.declared.status.TheConstants.{PORT_DISCONNECTED}
-use Rattle.lpc_model.specs.World.{Birth, Creator, HandleRow, MessageRow, PortRow, World}
-use Rattle.lpc_model.specs.Found.{handle_at, if_open, is_client_port, is_connect, is_port, port_row}
+use Rattle.lpc_model.specs.World.{Birth, Creator, HandleRow, HandleTable, MessageRow, PortRow, World}
+use Rattle.lpc_model.specs.Found.{handle_at, if_open, is_client_port, is_connect, is_port, is_table, port_row}
 use Rattle.lpc_model.specs.Basics.{AddsHandle, Awaits, Basic, Cuts, DropsHandle, DropsOwned, Empties, Enters, Receives, Takes, TakesConnect, Unbinds, Wakes, Withdraws, basic, cut, is_end_of, posted, posts_of, world_after, Marks}
 use Rattle.lpc_model.specs.Entering.{enter, received_steps}
 use Rattle.lpc_model.specs.Sweep.{sweep}
-use Rattle.lpc_model.specs.Closings.{closes, is_closed_post, closing_posts, closings_posted}
+use Rattle.lpc_model.specs.Closings.{closes, is_closed_post, closing_posts, closings_posted, shuts}
 use Rattle.lpc_model.specs.Close.{close_handle, close_port, closed_row, cut_pair, drop_name, empty_queue, end_receives, end_request, end_requests, is_last, is_receiver, is_request_on, post_closed, server_of, closing_post, wake, is_event_on, mark_event, mark_events}
 use Rattle.lpc_model.specs.SoundWaits.{IsSoundWorld}
 use Rattle.lpc_model.proofs.Sound.Cuts.{cut-row, no-row}
 use Rattle.lpc_model.proofs.Steps.Closing.{close-pass, ends-pass, pair-pass, queue-pass, stage_five, stage_four, stage_one, stage_three, stage_two, takes_away, stage_marked}
 use Rattle.lpc_model.proofs.Sound.Closing.{close-shut, five-shut}
-use Rattle.lpc_model.proofs.Sound.Close.{shut-found}
+use Rattle.lpc_model.proofs.Sound.Close.{last-shuts, shut-found}
 use Rattle.lpc_model.proofs.Steps.Sweep.{sweep_every}
 use Rattle.lpc_model.proofs.Calls.Taking.{is_taking, taken_at_once, taking-entered, taking-receipt}
 
@@ -260,8 +260,10 @@ handle-tells w pid r at s = by_last (is_last r w) refl
   where
     dropped : (v : World) (last : Bool) → v.handles ≡ w.handles → is_last r w ≡ last → closings_posted v (DropsHandle pid r.value ∷ []) ≡ each (closing_posts v) (when last (r.object.birth ∷ []))
     dropped v last same is =
-        let test : is_last r v ≡ last = same-last w v r same ∙ is in
-        let closed : closes v (DropsHandle pid r.value) ≡ when last (r.object.birth ∷ []) = rw (shut-found w v pid r same at, test) refl in
+        let one = subst (λ (hs : List HandleTable). count (is_table pid) hs ≤ 1) (sym same) (s.tables pid) in
+        let here = shut-found w v pid r same at in
+        let test : shuts v (basic v (DropsHandle pid r.value)) r ≡ last = last-shuts v pid r one here ∙ (same-last w v r same ∙ is) in
+        let closed : closes v (DropsHandle pid r.value) ≡ when last (r.object.birth ∷ []) = rw (here, test) refl in
         append-nil (each (closing_posts v) (closes v (DropsHandle pid r.value))) ∙ ap (each (closing_posts v)) closed
 
     by_last : (last : Bool) → is_last r w ≡ last → TellsClosings w (when last (close_port r.object.birth w) ++ DropsHandle pid r.value ∷ [])

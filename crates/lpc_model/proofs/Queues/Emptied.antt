@@ -1,7 +1,7 @@
 -- A line empties the queues of the ports that lose their last handles in it, and no other.
-use Rattle.std.proofs.Common.{◌≡◌, ◌∙◌, ℕ, List, [], ◌∷◌, ◌++◌, Bool, true, false, Option, Some, None, ap, refl, sym, append-nil, append_assoc}
+use Rattle.std.proofs.Common.{◌≡◌, ◌≤◌, ◌∙◌, ℕ, List, [], ◌∷◌, ◌++◌, Bool, true, false, Option, Some, None, ap, refl, subst, sym, append-nil, append_assoc}
 use Rattle.std.specs.Prelude.{option_and_then, option_map}
-use Rattle.lpc_base.specs.Rows.{each, every, given, when, which}
+use Rattle.lpc_base.specs.Rows.{count, each, every, given, when, which}
 use Rattle.lpc_base.proofs.Bools.{first-true, second-true}
 use Rattle.lpc_base.proofs.RowWords.{every-append, every-more}
 use Rattle.lpc_base.specs.declared.status.Status.{Status}
@@ -10,23 +10,23 @@ use Rattle.lpc_model.proofs.Calls.Acts.{Law, connect_act, outcomes}
 use Rattle.lpc_model.proofs.Calls.Lines.{AnyWorld, LineLaw, Shut, line-does, passing-lines}
 use Rattle.lpc_model.proofs.Closings.Told.{close-dropless, dropless-basic, is_dropless, same-last}
 use Rattle.lpc_model.proofs.Calls.Taking.{is_taking, taken_at_once, taking-entered, taking-receipt}
-use Rattle.lpc_model.proofs.Sound.Close.{shut-found}
+use Rattle.lpc_model.proofs.Sound.Close.{last-shuts, shut-found}
 use Rattle.lpc_model.proofs.Sound.Closing.{close-shut}
 use Rattle.lpc_model.proofs.Steps.Closing.{behind, stage_five, stage_four, stage_one, stage_three, stage_two, stage_marked}
 use Rattle.lpc_model.proofs.Steps.Sweep.{sweep_every}
 use Rattle.lpc_model.specs.Basics.{Awaits, Basic, Cuts, Dies, DropsHandle, DropsOwned, Empties, Receives, Steps, Takes, TakesConnect, Wakes, Withdraws, basic, end_each, world_after}
 use Rattle.lpc_model.specs.Close.{close_handle, close_port, closed_row, closing_post, cut_pair, drop_name, empty_queue, end_accepted, end_offered, end_receives, end_request, end_requests, is_accepted_across, is_last, is_offered_to, is_queued_request, is_receive_across, is_receiver, is_request_across, is_request_on, post_closed, server_of, wake, is_event_across, is_event_on, is_queued_event, mark_event, mark_events}
-use Rattle.lpc_model.specs.Closings.{closes}
+use Rattle.lpc_model.specs.Closings.{closes, shuts}
 use Rattle.lpc_model.specs.Connect.{client_port, connection_request}
 use Rattle.lpc_model.specs.Death.{end_client, die}
 use Rattle.lpc_model.specs.Entering.{enter, received_steps, row_of, take_connect_steps, take_steps}
-use Rattle.lpc_model.specs.Found.{handle_at, is_accepted, is_connect, port_row, wait_of}
+use Rattle.lpc_model.specs.Found.{handle_at, is_accepted, is_connect, is_table, port_row, wait_of}
 use Rattle.lpc_model.specs.Leaving.{EmptiesWithHandles, closed, emptied, empties}
 use Rattle.lpc_model.specs.Lines.{ScriptLine}
 use Rattle.lpc_model.specs.Machine.{bare_steps, own_steps}
 use Rattle.lpc_model.specs.SoundWaits.{HasShutConnects, IsSoundWorld}
 use Rattle.lpc_model.specs.Sweep.{sweep}
-use Rattle.lpc_model.specs.World.{Birth, Creator, HandleRow, MessageRow, PortRow, ThreadRow, WaitRow, World}
+use Rattle.lpc_model.specs.World.{Birth, Creator, HandleRow, HandleTable, MessageRow, PortRow, ThreadRow, WaitRow, World}
 use Rattle.lpc_model.proofs.Calls.Sharing.{connect_begun}
 use Rattle.lpc_model.proofs.Settling.Keeps.{bare-does, settling-does}
 use Rattle.lpc_model.proofs.Settling.Settled.{IsReady}
@@ -194,8 +194,10 @@ handle-empties w pid r at s = by_last (is_last r w) refl
 
     dropped : (v : World) (last : Bool) → v.handles ≡ w.handles → is_last r w ≡ last → closed v drop ≡ when last (r.object.birth ∷ [])
     dropped v last same is =
-        let test : is_last r v ≡ last = same-last w v r same ∙ is in
-        append-nil (closes v (DropsHandle pid r.value)) ∙ rw (shut-found w v pid r same at, test) refl
+        let one = subst (λ (hs : List HandleTable). count (is_table pid) hs ≤ 1) (sym same) (s.tables pid) in
+        let here = shut-found w v pid r same at in
+        let test : shuts v (basic v (DropsHandle pid r.value)) r ≡ last = last-shuts v pid r one here ∙ (same-last w v r same ∙ is) in
+        append-nil (closes v (DropsHandle pid r.value)) ∙ rw (here, test) refl
 
     by_last : (last : Bool) → is_last r w ≡ last → Empty w (when last (close_port r.object.birth w) ++ drop)
     by_last true is =

@@ -15,6 +15,7 @@ use Rattle.lpc_model.specs.World.{Birth, ObjectKind, ObjectName, HandleRow, Hand
 use Rattle.lpc_model.specs.Found.{all_handles, handle_at, handle_count, handles_of, has_value, port_name, rows_in, is_open, is_table, is_the, names_port, pair_of, port_row, same_birth, same_kind, same_object, is_marked}
 use Rattle.lpc_model.specs.Basics.{DropsHandle, basic, world_after, without_handle}
 use Rattle.lpc_model.specs.Tests.{is_client}
+use Rattle.lpc_model.specs.Closings.{shuts}
 use Rattle.lpc_model.specs.Close.{close_handle, close_port, is_last}
 use Rattle.lpc_model.specs.SoundWaits.{IsSoundWorld, has_client_port, has_come, has_home, is_answerable, is_joined, is_message_of, leads_open, waiter_of, is_sound_request}
 use Rattle.lpc_model.proofs.Steps.Rows.{count-change}
@@ -198,3 +199,21 @@ last-closes w pid r one at is =
     zero : (n m : ℕ) (c : Bool) → c ≡ true → n + cond c 1 0 ≡ m → m ≡ 1 → n ≤ 0
     zero n m true is sum one = omega (arith, sum, one)
     zero n m false is sum one = absurd (cc)
+
+-- a handle is the last one exactly where its port is open before it goes, and isn't behind that
+pub last-shuts : (w : World) (pid : ℕ) (r : HandleRow) → count (is_table pid) w.handles ≤ 1 → handle_at w pid r.value ≡ Some r → shuts w (basic w (DropsHandle pid r.value)) r ≡ is_last r w
+last-shuts w pid r one at = by_last (is_last r w) refl
+  where
+    shut : (k o c : Bool) → k ≡ true → o ≡ true → c ≡ false → (k && (o && not c)) ≡ true
+    shut k o c is opened closed = grind (arith, is, opened, closed)
+
+    kept : (k o c : Bool) → (o ≡ true → c ≡ true) → (k && (o && not c)) ≡ false
+    kept k true c more = let is = more refl in grind (arith, is)
+    kept k false c more = grind arith
+
+    by_last : (last : Bool) → is_last r w ≡ last → shuts w (basic w (DropsHandle pid r.value)) r ≡ last
+    by_last true is =
+        let both = last-closes w pid r one at is in
+        shut (same_kind r.object.kind kind.Port) (is_open w r.object.birth) (is_open (basic w (DropsHandle pid r.value)) r.object.birth) (first-true (same_kind r.object.kind kind.Port) (handle_count w r.object == 1) is) both.0 both.1
+    by_last false off =
+        kept (same_kind r.object.kind kind.Port) (is_open w r.object.birth) (is_open (basic w (DropsHandle pid r.value)) r.object.birth) (still-open w pid r one at off r.object.birth)
