@@ -1,22 +1,24 @@
--- Messages that ask for no answer are accounted for: each that was posted stands in its queue, was received from it, or
--- was lost when the queue's port closed. So is each that tells of a thread's end or of a closed port.
-use Rattle.std.specs.Prelude.{◌≡◌, ℕ, ◌+◌, ◌++◌, ◌&&◌, ◌==◌, Bool, false, List, [], ◌∷◌, Option, None, Some, option_and_then, option_map, Result, Ok, Err}
+-- Messages are accounted for: each that was posted stands in its queue, was received from it, was withdrawn with the wait of
+-- its thread, or was lost when the queue's port closed. So is each that tells of a
+-- thread's end or of a closed port.
+use Rattle.std.specs.Prelude.{◌≡◌, ℕ, ◌+◌, ◌++◌, ◌&&◌, ◌||◌, ◌==◌, Bool, true, false, List, [], ◌∷◌, Option, None, Some, option_and_then, option_map, Result, Ok, Err}
 use Rattle.std.specs.Str.{bytes_eq}
-use Rattle.lpc_base.specs.Rows.{count}
+use Rattle.lpc_base.specs.Rows.{count, which}
 use Rattle.lpc_base.specs.declared.status.Status.{Status}
 use Rattle.lpc_message.specs.Layout.{header_of}
 use Rattle.lpc_message.specs.declared.kind.TheConstants.{CLIENT_DIED, PORT_CLOSED}
 use Rattle.lpc_model.specs.declared.entry.Entry.{Entry}
 use Rattle.lpc_model.specs.declared.entry.Entry.TheVariants.{Answer, Wakes}
 use Rattle.lpc_model.specs.declared.entry.Field.{Field}
+use Rattle.lpc_model.specs.declared.entry.FieldName.TheVariants.{Msg}
 use Rattle.lpc_model.specs.declared.entry.Value.TheVariants.{Bytes, Hex}
 use Rattle.lpc_base.specs.declared.birth.Birth.{Birth}
 use Rattle.lpc_model.specs.World.{MessageRow, PortRow, World, no_rows}
-use Rattle.lpc_model.specs.Message.{asks, bytes_of, message_of}
-use Rattle.lpc_model.specs.Found.{is_the, live_thread, queue_of, queued_on, same_birth, wait_of}
-use Rattle.lpc_model.specs.Basics.{Basic, Empties, basic, entries_of, world_after}
+use Rattle.lpc_model.specs.Message.{bytes_of, is_connection_request, message_of}
+use Rattle.lpc_model.specs.Found.{is_own_of, is_the, live_thread, queue_of, queued_on, same_birth, wait_of}
+use Rattle.lpc_model.specs.Basics.{Basic, Empties, Withdraws, basic, entries_of, world_after}
 use Rattle.lpc_model.specs.Tests.{port_test}
-use Rattle.lpc_model.specs.Lines.{ScriptLine, reply_wait_receive_port, run}
+use Rattle.lpc_model.specs.Lines.{ScriptLine, listen_port, reply_wait_receive_port, run}
 use Rattle.lpc_model.specs.Machine.{step, steps, own_steps}
 use Rattle.lpc_model.specs.Run.{all_posts, said_in, trace, world_behind}
 use Rattle.lpc_model.specs.Settle.{settle}
@@ -28,16 +30,22 @@ pub record Receipt : Type 0 where
   pub bytes : List ℕ
 
 -- Messages
--- a message stands so in its queue, or is posted so: it has this queue, context and bytes
+-- the bytes are a connection request's
+abbrev pub connects : Receipt → Bool
+connects r = is_connection_request (message_of r.bytes)
+
+-- a message stands so in its queue, or is posted so: it has this queue, context and bytes; of a connection request the context
+-- isn't compared, since a listen shows none
 abbrev pub has_receipt : Receipt → MessageRow → Bool
-has_receipt r m = same_birth r.queue m.queue && ((m.context == r.context) && bytes_eq (bytes_of m.message) r.bytes)
+has_receipt r m =
+    same_birth r.queue m.queue && (((m.context == r.context) || connects r) && bytes_eq (bytes_of m.message) r.bytes)
 
 -- how many such messages stand
 abbrev pub standing : Receipt → World → ℕ
 standing r w = count (has_receipt r) w.messages
 
 -- Receives
--- the two fields of a receive show the context and the bytes
+-- the two fields of a receive show the context and the bytes, and the one of a listen those of a connection request
 abbrev pub shows_context : ℕ → Field → Bool
 shows_context context f = elim f.value [
   | Hex n ↦ n == context
@@ -50,22 +58,34 @@ shows_bytes bytes f = elim f.value [
   | _ ↦ false
 ]
 
+abbrev pub is_message : Field → Bool
+is_message f = elim f.name [
+  | Msg ↦ true
+  | _ ↦ false
+]
+
 abbrev pub shows_receipt : Receipt → List Field → Bool
-shows_receipt r (context ∷ bytes ∷ []) = shows_context r.context context && shows_bytes r.bytes bytes
+shows_receipt r (bytes ∷ []) = connects r && (is_message bytes && shows_bytes r.bytes bytes)
+shows_receipt r (context ∷ bytes ∷ []) = (shows_context r.context context || connects r) && shows_bytes r.bytes bytes
 shows_receipt r fields = false
 
 -- the queue on which a thread waits
 abbrev pub waited_on : World → ℕ → Option Birth
 waited_on w tid = option_map (λ x. x.queue) (wait_of w tid)
 
--- the queue of the port that a receive's handle names
+-- the queue of the port that a receive's handle names, and the port itself for a listen
 abbrev pub queue_at : World → Result PortRow Status → Option Birth
 queue_at w (Ok port) = queue_of w port
 queue_at w (Err s) = None
 
+abbrev pub birth_at : Result PortRow Status → Option Birth
+birth_at (Ok port) = Some port.birth
+birth_at (Err s) = None
+
 abbrev pub received_on : World → ScriptLine → Option Birth
 received_on w (run tid (reply_wait_receive_port handle reply)) =
     option_and_then (λ by. queue_at w (port_test w by handle)) (live_thread w tid)
+received_on w (run tid (listen_port handle)) = option_and_then (λ by. birth_at (port_test w by handle)) (live_thread w tid)
 received_on w line = None
 
 -- an entry shows such a message as received from the queue: that on which its thread waited before the line, or that of
@@ -87,9 +107,11 @@ receipts r w line =
     count (is_received r w line) (entries_of (own_steps line w)) + count (is_woken r v) (entries_of (settle v))
 
 -- Losses
--- how many such messages a step loses: those of a queue that it empties, whose port is closed
+-- how many such messages a step loses: those of a queue that it empties, whose port is closed, and a thread's own, which
+-- it withdraws as the thread's wait ends or its event is marked; one that asks for no answer is none of these
 abbrev pub loses : Receipt → World → Basic → ℕ
 loses r w (Empties queue) = count (has_receipt r) (queued_on w queue)
+loses r w (Withdraws who) = count (has_receipt r) (which (is_own_of who) w.messages)
 loses r w b = 0
 
 abbrev pub lost : Receipt → World → List Basic → ℕ
@@ -115,11 +137,10 @@ AreAccountedFor r lines =
     count (has_receipt r) (all_posts (trace no_rows lines))
     ≡ standing r (world_behind no_rows lines) + (received_in r no_rows lines + lost_in r no_rows lines)
 
--- behind each line of a script, for each queue, context and bytes of a message that asks for no answer
+-- behind each line of a script, for each queue, context and bytes
 abbrev pub RunAccountsForMessages : List ℕ → Type 0
 RunAccountsForMessages script =
-    (r : Receipt) → asks (message_of r.bytes) ≡ false →
-    (front back : List (Option ScriptLine)) → said_in script ≡ front ++ back → AreAccountedFor r front
+    (r : Receipt) → (front back : List (Option ScriptLine)) → said_in script ≡ front ++ back → AreAccountedFor r front
 
 -- so of the messages of a type
 abbrev pub RunAccountsForKind : ℕ → List ℕ → Type 0

@@ -9,29 +9,32 @@ use Rattle.lpc_base.specs.declared.status.Status.{Status}
 use Rattle.lpc_base.specs.declared.status.TheConstants.{SUCCESS}
 use Rattle.lpc_message.specs.declared.kind.TheConstants.{DATAGRAM, REQUEST}
 use Rattle.lpc_model.specs.declared.entry.CallName.{CallName}
-use Rattle.lpc_model.specs.declared.entry.CallName.TheVariants.{NtClose, NtReplyWaitReceivePort, NtReplyPort}
+use Rattle.lpc_model.specs.declared.entry.CallName.TheVariants.{NtClose, NtListenPort, NtReplyWaitReceivePort, NtReplyPort}
 use Rattle.lpc_model.specs.declared.entry.Entry.{Entry}
 use Rattle.lpc_model.specs.declared.entry.Entry.TheVariants as entry
+use Rattle.lpc_model.specs.declared.entry.Field.{Field}
 use Rattle.lpc_model.specs.declared.message.Message.{Message}
-use Rattle.lpc_model.specs.World.{HandleRow, MessageRow, PortRow, ThreadRow, World, ViewRow, ProcessRow, Raised, WaitRow}
+use Rattle.lpc_model.specs.World.{HandleRow, MessageRow, PortRow, ThreadRow, TokenRow, World, ViewRow, ProcessRow, Raised, WaitRow}
 use Rattle.lpc_model.specs.Accounts.{Receipt, is_received, has_receipt, received_on, standing, is_woken, lost, receipts}
-use Rattle.lpc_model.specs.Basics.{Basic, Receives, Takes, Tells, Wakes, world_after, Marks, Dooms, Frees, Leaves, doing, entries_of, first_code, posts_of}
+use Rattle.lpc_model.specs.Basics.{Basic, Receives, Takes, TakesConnect, Tells, Wakes, world_after, Marks, Dooms, Frees, Leaves, doing, entries_of, first_code, posts_of}
 use Rattle.lpc_model.specs.Close.{close_handle, close_steps}
-use Rattle.lpc_model.specs.Connect.{client_port, connection_request, connect_start, accept_steps, accept_start, shared_fields, allow_steps, connect_steps, create_steps, guard_steps, named_steps}
+use Rattle.lpc_model.specs.Connect.{client_port, connection_request, connect_start, accept_steps, accept_start, shared_fields, allow_steps, connect_steps, create_steps, guard_steps, listen_steps, named_steps}
 use Rattle.lpc_model.specs.Death.{end_threads, code_status}
 use Rattle.lpc_model.specs.Entering.{enter, row_of, woken}
-use Rattle.lpc_model.specs.Fields.{receipt}
-use Rattle.lpc_model.specs.Found.{is_queued, free_handle, live_threads}
-use Rattle.lpc_model.specs.Lines.{ScriptLine, reply_wait_receive_port, run, connect_port, boot}
+use Rattle.lpc_model.specs.Fields as fields
+use Rattle.lpc_model.specs.Fields.{msg, receipt}
+use Rattle.lpc_model.specs.Impersonation.{TOKEN_GROUPS, TOKEN_IMPERSONATION_LEVEL, TOKEN_USER, level_told, told_of}
+use Rattle.lpc_model.specs.Found.{is_queued, is_queued_connect, free_handle, live_threads, same_birth}
+use Rattle.lpc_model.specs.Lines.{ScriptLine, listen_port, reply_wait_receive_port, run, connect_port, boot}
 use Rattle.lpc_model.specs.Machine.{bare_steps, steps, own_steps, step}
-use Rattle.lpc_model.specs.Message.{asks, message_of}
+use Rattle.lpc_model.specs.Message.{as_reply, asks, bytes_of, is_connection_request, message_of}
 use Rattle.lpc_model.specs.Request.{datagram_start, given_reply, receive_steps, receive_test, reply_test, request_start, sent_by, reply_steps}
 use Rattle.lpc_model.specs.SoundWaits.{IsSoundWorld}
 use Rattle.lpc_model.specs.Sweep.{sweep}
 use Rattle.lpc_model.proofs.Account.Steps.{ArePlain, end_balances, handle_balances, plain-level, sent_balances, sweep-plain, Balances, enter_balances, plain_balances, then_balances}
 use Rattle.lpc_model.proofs.Calls.Acts.{tested-queue}
-use Rattle.lpc_model.proofs.Account.Balance.{AreBalanced, are_two, both-balanced, is_level, level-balanced, none-read, tells_two, entries-both, lost-both}
-use Rattle.lpc_model.proofs.Account.DryQueues.{count-one, dry-first, level-receipt, one-each, seen-as, IsEntered}
+use Rattle.lpc_model.proofs.Account.Balance.{AreBalanced, has_request, shows_message, both-balanced, is_level, level-balanced, none-read, tells_message, entries-both, lost-both}
+use Rattle.lpc_model.proofs.Account.DryQueues.{count-one, dry-first, listened-as, one-each, seen-as, IsEntered}
 use Rattle.lpc_model.proofs.Steps.Ending.{answered_end}
 use Rattle.lpc_model.proofs.Calls.Holding.{Holds, bind_holds, holds_ok}
 use Rattle.lpc_model.proofs.Calls.Lines.{AnyWorld, IsCalled, LineLaw, line-does, shows_status}
@@ -48,40 +51,66 @@ use Rattle.lpc_model.proofs.Settling.Settled.{IsReady}
 use Rattle.lpc_model.proofs.Steps.InTurn.{after-append}
 use Rattle.lpc_model.proofs.Steps.Sweep.{sweep_every}
 use Rattle.lpc_model.specs.Settle.{turns, and_then_on, doomed_processes, end_doomed, least, most_turns, settle, turn, turn_by}
-use Rattle.std.specs.Prelude.{option_map}
+use Rattle.std.specs.Prelude.{◌&&◌, ◌==◌, if◌then◌else◌, option_map}
+use Rattle.lpc_base.proofs.Bools.{first-true, second-true}
 
 -- an entry that shows a status alone tells of no receipt
-status-level : (e : Entry) → shows_status e ≡ true → not (tells_two e) ≡ true
+status-level : (e : Entry) → shows_status e ≡ true → not (tells_message e) ≡ true
 status-level (entry.Wakes who call status fields) is = absurd (cc)
 status-level (entry.Answer who call status []) is = refl
 status-level (entry.Answer who call status (f ∷ fields)) is = absurd (cc)
 status-level e is = refl
 
-module _ (s : Receipt) (quiet : asks (message_of s.bytes) ≡ false) where
+-- a reply isn't a connection request
+reply-shown : (m : Message) → is_connection_request (message_of (bytes_of (as_reply m))) ≡ false
+unfolding bytes_of
+reply-shown m = refl
+
+-- what is told of a token is none
+told-level : (t : TokenRow) (class : ℕ) (field : Field) → told_of t class ≡ Some field → not (has_request field) ≡ true
+told-level t class field told = user_at (class == TOKEN_USER) told
+  where
+    level_at : (o : Option ℕ) → level_told o ≡ Some field → not (has_request field) ≡ true
+    level_at None is = absurd (cc)
+    level_at (Some n) is = let same : fields.level n ≡ field = cc in subst (λ f. not (has_request f) ≡ true) same refl
+
+    class_at : (c : Bool) → (if c then level_told t.level else None) ≡ Some field → not (has_request field) ≡ true
+    class_at true is = level_at t.level is
+    class_at false is = absurd (cc)
+
+    groups_at : (c : Bool) → (if c then Some (fields.groups t.token) else (if class == TOKEN_IMPERSONATION_LEVEL then level_told t.level else None)) ≡ Some field → not (has_request field) ≡ true
+    groups_at true is = let same : fields.groups t.token ≡ field = cc in subst (λ f. not (has_request f) ≡ true) same refl
+    groups_at false is = class_at (class == TOKEN_IMPERSONATION_LEVEL) is
+
+    user_at : (c : Bool) → (if c then Some (fields.user t.token) else (if class == TOKEN_GROUPS then Some (fields.groups t.token) else (if class == TOKEN_IMPERSONATION_LEVEL then level_told t.level else None))) ≡ Some field → not (has_request field) ≡ true
+    user_at true is = let same : fields.user t.token ≡ field = cc in subst (λ f. not (has_request f) ≡ true) same refl
+    user_at false is = groups_at (class == TOKEN_GROUPS) is
+
+module _ (s : Receipt) where
   abbrev Balanced : ScriptLine → World → List Basic → Type 0
-  Balanced line w bs = AreBalanced s quiet w line w bs
+  Balanced line w bs = AreBalanced s w line w bs
 
   -- what the law says of a line, in which its steps can be read
   record IsBalanced (line : ScriptLine) (w : World) (bs : List Basic) : Type 0 where
     sum : Balanced line w bs
 
   level : (w : World) (line : ScriptLine) (bs : List Basic) → every is_level bs ≡ true → IsBalanced line w bs
-  level w line bs all = record { sum = level-balanced s quiet w line w bs all }
+  level w line bs all = record { sum = level-balanced s w line w bs all }
 
   sent : (w : World) (line : ScriptLine) (m : MessageRow) (start : List Basic) → ArePlain start → IsSoundWorld w → IsBalanced line w (start ++ enter m (world_after w start))
-  sent w line m start plain sound = record { sum = sent_balances s quiet w line m start plain (dry-first w sound) }
+  sent w line m start plain sound = record { sum = sent_balances s w line m start plain (dry-first w sound) }
 
   -- A receive takes what it shows
   -- what a reply does before: nothing, a wake, or a mark
   abbrev are_replies : List Basic → Bool
   are_replies [] = true
-  are_replies (Wakes who call status fields ∷ []) = not (are_two fields)
+  are_replies (Wakes who call status fields ∷ []) = not (shows_message fields)
   are_replies (Marks who ∷ []) = true
   are_replies bs = false
 
   given-replies : (w : World) (port : PortRow) (o : Option Message) → Holds (λ bs. are_replies bs ≡ true) (given_reply w port o)
   given-replies w port None = refl
-  given-replies w port (Some m) = bind_holds (reply_test w port m) _ (λ bs. are_replies bs ≡ true) (λ x _. reply-cases (λ b. are_replies (b ∷ []) ≡ true) x m refl refl (λ _. refl))
+  given-replies w port (Some m) = bind_holds (reply_test w port m) _ (λ bs. are_replies bs ≡ true) (λ x _. reply-cases (λ b. are_replies (b ∷ []) ≡ true) x m (rw (reply-shown m) refl) refl (λ _. refl))
 
   module _ (w : World) (line : ScriptLine) (by : ThreadRow) (port : PortRow) (queue : Birth) (m : MessageRow) (found : first (is_queued queue) w.messages ≡ Some m) (from : received_on w line ≡ Some queue) where
     abbrev answer : Entry
@@ -91,7 +120,7 @@ module _ (s : Receipt) (quiet : asks (message_of s.bytes) ≡ false) where
     its_queue = birth-same m.queue queue (first-passes (is_queued queue) w.messages m found)
 
     seen : is_received s w line answer ≡ has_receipt s m
-    seen = seen-as s quiet w line (received_on w line) m (rw (from, its_queue) (birth-self queue))
+    seen = seen-as s w line (received_on w line) m (rw (from, its_queue) (birth-self queue))
 
     -- it stood, and is shown
     taken-sum : standing s w ≡ count (has_receipt s) (without_first (is_queued m.queue) w.messages) + count (is_received s w line) (answer ∷ [])
@@ -111,7 +140,7 @@ module _ (s : Receipt) (quiet : asks (message_of s.bytes) ≡ false) where
     taken-balanced (Wakes who call status fields ∷ []) is = at (asks m.message)
       where
         none : count (is_received s w line) (entry.Wakes who call status fields ∷ []) ≡ 0
-        none = none-read s quiet w line (entry.Wakes who call status fields) is
+        none = none-read s w line (entry.Wakes who call status fields) is
 
         more : count (is_received s w line) (answer ∷ entry.Wakes who call status fields ∷ []) ≡ count (is_received s w line) (answer ∷ []) + count (is_received s w line) (entry.Wakes who call status fields ∷ [])
         more = count-append (is_received s w line) (answer ∷ []) (entry.Wakes who call status fields ∷ [])
@@ -128,6 +157,35 @@ module _ (s : Receipt) (quiet : asks (message_of s.bytes) ≡ false) where
     taken-balanced (Marks who ∷ b ∷ bs) is = absurd (cc)
     taken-balanced (b ∷ bs) is = absurd (cc)
 
+  -- A listen takes the connection request that it shows
+  module _ (w : World) (line : ScriptLine) (by : ThreadRow) (queue : Birth) (m : MessageRow) (found : first (is_queued_connect queue) w.messages ≡ Some m) (from : received_on w line ≡ Some queue) where
+    abbrev shown_alone : Entry
+    shown_alone = entry.Answer by.number NtListenPort SUCCESS (msg m.message ∷ [])
+
+    is_its : (same_birth m.queue queue && is_connection_request m.message) ≡ true
+    is_its = first-passes (is_queued_connect queue) w.messages m found
+
+    listen_queue : m.queue ≡ queue
+    listen_queue = birth-same m.queue queue (first-true (same_birth m.queue queue) (is_connection_request m.message) is_its)
+
+    heard : is_received s w line shown_alone ≡ has_receipt s m
+    heard = listened-as s w line (received_on w line) m (second-true (same_birth m.queue queue) (is_connection_request m.message) is_its) (rw (from, listen_queue) (birth-self queue))
+
+    listened-balanced : Balanced line w (listen_steps by queue (Some m))
+    listened-balanced = at (asks m.message)
+      where
+        sum : standing s w ≡ count (has_receipt s) (without_first (is_queued_connect m.queue) w.messages) + count (is_received s w line) (shown_alone ∷ [])
+        sum =
+            let taken = count-first (has_receipt s) (is_queued_connect queue) w.messages m found in
+            let here : count (has_receipt s) (without_first (is_queued_connect m.queue) w.messages) + one_if (has_receipt s m) ≡ standing s w = subst (λ q. count (has_receipt s) (without_first (is_queued_connect q) w.messages) + one_if (has_receipt s m) ≡ standing s w) (sym listen_queue) taken in
+            let one = one-each (has_receipt s) (is_received s w line) m shown_alone heard (count (has_receipt s) (without_first (is_queued_connect m.queue) w.messages)) in
+            let own = count-one (has_receipt s) m in
+            omega (arith, here, one, own)
+
+        at : (a : Bool) → Balanced line w (Tells shown_alone ∷ TakesConnect m.queue ∷ when a (Receives m.message.header.client.thread m.queue ∷ []))
+        at true = omega (arith, sum)
+        at false = omega (arith, sum)
+
   waits-balanced : (w : World) (line : ScriptLine) (by : ThreadRow) (port : PortRow) (queue : Birth) (replied : List Basic) → are_replies replied ≡ true → IsBalanced line w (receive_steps by port queue replied None)
   waits-balanced w line by port queue [] is = level w line (receive_steps by port queue [] None) refl
   waits-balanced w line by port queue (Wakes who call status fields ∷ []) is = level w line (receive_steps by port queue (Wakes who call status fields ∷ []) None) (rw is refl)
@@ -141,17 +199,17 @@ module _ (s : Receipt) (quiet : asks (message_of s.bytes) ≡ false) where
   answered : (w : World) (line : ScriptLine) (by : ThreadRow) (name : CallName) (bs : List Basic) → Balanced line w bs → IsBalanced line w (Tells (entry.Answer by.number name SUCCESS []) ∷ bs)
   answered w line by name bs sum =
       let told = Tells (entry.Answer by.number name SUCCESS []) ∷ [] in
-      record { sum = both-balanced s quiet w line w told bs (level-balanced s quiet w line w told refl) sum }
+      record { sum = both-balanced s w line w told bs (level-balanced s w line w told refl) sum }
 
   closed-balanced : (w : World) (line : ScriptLine) (by : ThreadRow) (r : HandleRow) → IsSoundWorld w → IsBalanced line w (close_steps by r w)
-  closed-balanced w line by r sound = let closed = handle_balances s quiet w line by.process r w (dry-first w sound) in answered w line by NtClose (close_handle by.process r w) closed.balanced
+  closed-balanced w line by r sound = let closed = handle_balances s w line by.process r w (dry-first w sound) in answered w line by NtClose (close_handle by.process r w) closed.balanced
 
   ended-balanced : (w : World) (line : ScriptLine) (by : ThreadRow) (name : CallName) (own : Bool) (pid : ℕ) (code : Status) (ts : List ThreadRow) → IsSoundWorld w → IsBalanced line w (answered_end by name own pid code ts w)
-  ended-balanced w line by name true pid code ts sound = let ends = end_balances s quiet w line pid code ts w (dry-first w sound) in record { sum = ends.balanced }
-  ended-balanced w line by name false pid code ts sound = let ends = end_balances s quiet w line pid code ts w (dry-first w sound) in answered w line by name (end_threads pid code ts w) ends.balanced
+  ended-balanced w line by name true pid code ts sound = let ends = end_balances s w line pid code ts w (dry-first w sound) in record { sum = ends.balanced }
+  ended-balanced w line by name false pid code ts sound = let ends = end_balances s w line pid code ts w (dry-first w sound) in answered w line by name (end_threads pid code ts w) ends.balanced
 
   -- an accept tells no two fields of which the second has bytes
-  shared-level : (value : ℕ) (own theirs across : Option ViewRow) → not (are_two (shared_fields value (record { own = own; theirs = theirs; across = across }))) ≡ true
+  shared-level : (value : ℕ) (own theirs across : Option ViewRow) → not (shows_message (shared_fields value (record { own = own; theirs = theirs; across = across }))) ≡ true
   shared-level value None None None = refl
   shared-level value None None (Some c) = refl
   shared-level value None (Some b) None = refl
@@ -174,10 +232,12 @@ module _ (s : Receipt) (quiet : asks (message_of s.bytes) ≡ false) where
         let bs = start ++ enter row (world_after w start) in
         let one = sent w line row start refl is.sound in
         let maps = mapped by.process own in
-        let both = both-balanced s quiet w line w bs maps one.sum (level-balanced s quiet w line (world_after w bs) maps (mapped-pass is_level by.process (λ _. refl) own)) in
+        let both = both-balanced s w line w bs maps one.sum (level-balanced s w line (world_after w bs) maps (mapped-pass is_level by.process (λ _. refl) own)) in
         let all = connect_steps by connection offer own m w in
-        record { sum = both-balanced s quiet w line w all (allow_steps w by quality) both (level-balanced s quiet w line (world_after w all) (allow_steps w by quality) refl) };
-    listens = λ handle port m l at. level w _ _ (level-receipt m);
+        record { sum = both-balanced s w line w all (allow_steps w by quality) both (level-balanced s w line (world_after w all) (allow_steps w by quality) refl) };
+    listens = λ handle port m l at.
+        let line = run by.number (listen_port handle) in
+        record { sum = listened-balanced w line by port.birth m at (rw (is.can.lives, l.port_found) refl) };
     awaits_connect = λ handle port l at. level w _ _ refl;
     refuses = λ context bytes view a at. level w _ _ refl;
     accepts = λ context bytes view offer a views c. level w _ (accept_steps by context (free_handle w by.process) a views)
@@ -185,7 +245,7 @@ module _ (s : Receipt) (quiet : asks (message_of s.bytes) ≡ false) where
     completes = λ handle c at. level w _ _ refl;
     sends = λ handle bytes t at. sent w _ (row_of t.queue t.port (sent_by by DATAGRAM t.message)) (datagram_start by) refl is.sound;
     asks = λ handle bytes t at. let m = sent_by by REQUEST t.message in sent w _ (row_of t.queue t.port m) (request_start by t.port.birth t.queue m) refl is.sound;
-    replies = λ handle bytes port m x at read fits. level w _ (reply_steps by x m) (reply-cases (λ b. every is_level (Tells (entry.Answer by.number NtReplyPort SUCCESS []) ∷ b ∷ []) ≡ true) x m refl refl (λ _. refl));
+    replies = λ handle bytes port m x at read fits. level w _ (reply_steps by x m) (reply-cases (λ b. every is_level (Tells (entry.Answer by.number NtReplyPort SUCCESS []) ∷ b ∷ []) ≡ true) x m (rw (reply-shown m) refl) refl (λ _. refl));
     receives = λ handle bytes o port queue replied m r at.
         let line = run by.number (reply_wait_receive_port handle bytes) in
         let from : received_on w line ≡ Some queue = rw (is.can.lives, r.port_found) (holds_ok _ (receive_test w port) queue (tested-queue w port) r.queue_found) in
@@ -209,7 +269,7 @@ module _ (s : Receipt) (quiet : asks (message_of s.bytes) ≡ false) where
     reverts = λ class. level w _ _ refl;
     opens_own = λ own at. level w _ _ refl;
     opens_primary = level w _ _ refl;
-    asks_token = λ handle class t field at told. level w _ _ refl;
+    asks_token = λ handle class t field at told. level w _ _ (and_from _ true (told-level t class field told) refl);
     sets = λ target class handle pid port at found live. level w _ (set_port_steps by class pid port.birth) (set-passes (λ bs. every is_level bs ≡ true) by class pid port.birth refl refl);
     handles = λ code handled. level w _ _ refl;
     hears = λ code handled h is. sent w _ (row_of h.queue h.port (event_message (client_of by) by.next_identifier code h.chance)) (raise_told by ∷ event_begun by code handled h) refl (let c = called in c.sound);
@@ -239,43 +299,43 @@ module _ (s : Receipt) (quiet : asks (message_of s.bytes) ≡ false) where
   woken-same v (entry.Answer tid call status fields) = refl
   woken-same v e = refl
 
-  on-balances : (v : World) (tid : ℕ) → Balances s quiet v no_receive (go_on tid)
-  on-balances v tid u dry = on-holds (IsEntered s quiet v no_receive u) u tid (plain_balances s quiet v no_receive (doing []) (λ _. refl) u dry) (λ t x r g. at t x r (behind_chance u x.process r.handled r.chance))
+  on-balances : (v : World) (tid : ℕ) → Balances s v no_receive (go_on tid)
+  on-balances v tid u dry = on-holds (IsEntered s v no_receive u) u tid (plain_balances s v no_receive (doing []) (λ _. refl) u dry) (λ t x r g. at t x r (behind_chance u x.process r.handled r.chance))
     where
-      at : (t : ThreadRow) (x : WaitRow) (r : Raised) (n : Next) → IsEntered s quiet v no_receive u (goes_on t x r n u)
-      at t x r Handled = plain_balances s quiet v no_receive (doing (woken SUCCESS [] x ∷ [])) (λ _. refl) u dry
+      at : (t : ThreadRow) (x : WaitRow) (r : Raised) (n : Next) → IsEntered s v no_receive u (goes_on t x r n u)
+      at t x r Handled = plain_balances s v no_receive (doing (woken SUCCESS [] x ∷ [])) (λ _. refl) u dry
       at t x r (Heard h) =
-          then_balances s quiet v no_receive (doing (Leaves x.thread ∷ event_begun t r.code r.handled h)) (enter (row_of h.queue h.port (event_message (client_of t) t.next_identifier r.code h.chance)))
-          (plain_balances s quiet v no_receive (doing (Leaves x.thread ∷ event_begun t r.code r.handled h)) (λ _. refl)) (enter_balances s quiet v no_receive (row_of h.queue h.port (event_message (client_of t) t.next_identifier r.code h.chance))) u dry
-      at t x r Unhandled = plain_balances s quiet v no_receive (doing (Leaves x.thread ∷ Dooms x.process r.code ∷ [])) (λ _. refl) u dry
+          then_balances s v no_receive (doing (Leaves x.thread ∷ event_begun t r.code r.handled h)) (enter (row_of h.queue h.port (event_message (client_of t) t.next_identifier r.code h.chance)))
+          (plain_balances s v no_receive (doing (Leaves x.thread ∷ event_begun t r.code r.handled h)) (λ _. refl)) (enter_balances s v no_receive (row_of h.queue h.port (event_message (client_of t) t.next_identifier r.code h.chance))) u dry
+      at t x r Unhandled = plain_balances s v no_receive (doing (Leaves x.thread ∷ Dooms x.process r.code ∷ [])) (λ _. refl) u dry
 
-  doomed-balances : (v : World) (p : ProcessRow) → Balances s quiet v no_receive (end_doomed p)
+  doomed-balances : (v : World) (p : ProcessRow) → Balances s v no_receive (end_doomed p)
   unfolding end_doomed
-  doomed-balances v p u dry = end_balances s quiet v no_receive p.number (code_status (first_code 0 p.doom)) (live_threads u p.number) u dry
+  doomed-balances v p u dry = end_balances s v no_receive p.number (code_status (first_code 0 p.doom)) (live_threads u p.number) u dry
 
-  turns-balance : (v : World) (n : ℕ) → Balances s quiet v no_receive (turns n)
-  turns-balance v zero u dry = plain_balances s quiet v no_receive (doing []) (λ _. refl) u dry
+  turns-balance : (v : World) (n : ℕ) → Balances s v no_receive (turns n)
+  turns-balance v zero u dry = plain_balances s v no_receive (doing []) (λ _. refl) u dry
   turns-balance v (suc n) u dry = at (turn u) refl (turns-balance v n)
     where
-      turned : (bs : List Basic) → turn u ≡ Some bs → IsEntered s quiet v no_receive u bs
+      turned : (bs : List Basic) → turn u ≡ Some bs → IsEntered s v no_receive u bs
       turned bs = marked u.marks
         where
-          by_process : (o : Option ProcessRow) → option_map (λ p. end_doomed p u) o ≡ Some bs → IsEntered s quiet v no_receive u bs
+          by_process : (o : Option ProcessRow) → option_map (λ p. end_doomed p u) o ≡ Some bs → IsEntered s v no_receive u bs
           by_process None is = absurd (cc)
-          by_process (Some p) is = let same : end_doomed p u ≡ bs = cc in subst (IsEntered s quiet v no_receive u) same (doomed-balances v p u dry)
+          by_process (Some p) is = let same : end_doomed p u ≡ bs = cc in subst (IsEntered s v no_receive u) same (doomed-balances v p u dry)
 
-          marked : (ms : List ℕ) → turn_by u ms ≡ Some bs → IsEntered s quiet v no_receive u bs
+          marked : (ms : List ℕ) → turn_by u ms ≡ Some bs → IsEntered s v no_receive u bs
           marked [] is = by_process (least (doomed_processes u)) is
-          marked (tid ∷ later) is = let same : go_on tid u ≡ bs = cc in subst (IsEntered s quiet v no_receive u) same (on-balances v tid u dry)
+          marked (tid ∷ later) is = let same : go_on tid u ≡ bs = cc in subst (IsEntered s v no_receive u) same (on-balances v tid u dry)
 
-      at : (o : Option (List Basic)) → turn u ≡ o → Balances s quiet v no_receive (turns n) → IsEntered s quiet v no_receive u (and_then_on u o (turns n))
-      at None none later = plain_balances s quiet v no_receive (doing []) (λ _. refl) u dry
+      at : (o : Option (List Basic)) → turn u ≡ o → Balances s v no_receive (turns n) → IsEntered s v no_receive u (and_then_on u o (turns n))
+      at None none later = plain_balances s v no_receive (doing []) (λ _. refl) u dry
       at (Some bs) some later =
           let one = turned bs some in
           let z = world_after u bs in
           let two = later z one.dry in
           record {
-            balanced = both-balanced s quiet v no_receive u bs (turns n z) one.balanced two.balanced;
+            balanced = both-balanced s v no_receive u bs (turns n z) one.balanced two.balanced;
             dry = rw (after-append u bs (turns n z)) two.dry;
           }
 
@@ -288,7 +348,7 @@ module _ (s : Receipt) (quiet : asks (message_of s.bytes) ≡ false) where
       → standing s w + count (has_receipt s) (posts_of (xs ++ ys)) ≡ standing s (world_after w (xs ++ ys)) + ((m + n) + lost s w (xs ++ ys))
   joined-balanced w xs ys m n one two =
       let posts : count (has_receipt s) (posts_of (xs ++ ys)) ≡ count (has_receipt s) (posts_of xs) + count (has_receipt s) (posts_of ys) = ap (count (has_receipt s)) (posts-append xs ys) ∙ count-append (has_receipt s) (posts_of xs) (posts_of ys) in
-      let losses = lost-both s quiet w no_receive w xs ys in
+      let losses = lost-both s w no_receive w xs ys in
       let worlds : standing s (world_after w (xs ++ ys)) ≡ standing s (world_after (world_after w xs) ys) = ap (standing s) (after-append w xs ys) in
       omega (arith, one, two, posts, losses, worlds)
 
@@ -318,8 +378,8 @@ module _ (s : Receipt) (quiet : asks (message_of s.bytes) ≡ false) where
       let one = line-does AnyWorld IsBalanced balanced-lines w sound tt line in
       let two = settled-balanced v ready.safe.sound in
       let same : world_after w bare ≡ u = after-append w own set in
-      let three : Balanced no_receive v (set ++ swept) = both-balanced s quiet v no_receive v set swept two (level-balanced s quiet v no_receive u swept (plain-level swept (sweep-plain (world_after w bare)))) in
-      let parts = entries-both s quiet v no_receive set swept in
+      let three : Balanced no_receive v (set ++ swept) = both-balanced s v no_receive v set swept two (level-balanced s v no_receive u swept (plain-level swept (sweep-plain (world_after w bare)))) in
+      let parts = entries-both s v no_receive set swept in
       let none : count (is_received s v no_receive) (entries_of swept) ≡ 0 = ap (λ es. count (is_received s v no_receive) es) (gone-silent swept (sweep_every is_row_gone (λ _. refl) (world_after w bare))) in
       let woken = woken-count v (entries_of set) in
       let whole : standing s w + count (has_receipt s) (posts_of (own ++ (set ++ swept))) ≡ standing s (world_after w (own ++ (set ++ swept))) + ((count (is_received s w line) (entries_of own) + count (is_received s v no_receive) (entries_of (set ++ swept))) + lost s w (own ++ (set ++ swept))) = joined-balanced w own (set ++ swept) _ _ one.sum three in

@@ -1,11 +1,8 @@
--- Along each script the messages that ask for no answer are accounted for.
-use Rattle.std.proofs.Common.{◌≡◌, ℕ, ◌+◌, List, [], ◌∷◌, false, Option, Some, None, refl, arith}
+-- Along each script the messages are accounted for.
+use Rattle.std.proofs.Common.{◌≡◌, ℕ, ◌+◌, List, [], ◌∷◌, Option, Some, None, arith}
 use Rattle.lpc_base.specs.Rows.{count}
 use Rattle.lpc_base.proofs.RowWords.{count-append}
-use Rattle.lpc_message.specs.Layout.{header_of}
-use Rattle.lpc_message.specs.declared.kind.TheConstants.{CLIENT_DIED, PORT_CLOSED}
 use Rattle.lpc_model.specs.World.{World, no_rows}
-use Rattle.lpc_model.specs.Message.{asks, message_of}
 use Rattle.lpc_model.specs.Basics.{posts_of}
 use Rattle.lpc_model.specs.Lines.{ScriptLine}
 use Rattle.lpc_model.specs.Machine.{step, steps}
@@ -15,30 +12,23 @@ use Rattle.lpc_model.proofs.Runs.{lawful_none, lawful_step, lawful-readied}
 use Rattle.lpc_model.specs.Accounts.{RunAccountsForDeaths, RunAccountsForMessages, Receipt, has_receipt, lost_in, received_in, standing}
 use Rattle.lpc_model.proofs.Account.Lines.{line-balanced}
 
-accounted-from : (s : Receipt) → asks (message_of s.bytes) ≡ false → (w : World) (lines : List (Option ScriptLine)) → IsLawfulWorld w
+accounted-from : (s : Receipt) → (w : World) (lines : List (Option ScriptLine)) → IsLawfulWorld w
     → standing s w + count (has_receipt s) (all_posts (trace w lines)) ≡ standing s (world_behind w lines) + (received_in s w lines + lost_in s w lines)
 unfolding trace world_behind received_in lost_in
-accounted-from s quiet w [] l = omega arith
-accounted-from s quiet w (None ∷ later) l = accounted-from s quiet w later l
-accounted-from s quiet w (Some line ∷ later) l =
+accounted-from s w [] l = omega arith
+accounted-from s w (None ∷ later) l = accounted-from s w later l
+accounted-from s w (Some line ∷ later) l =
     let v = (step w line).world in
-    let here = line-balanced s quiet w line l.sound (lawful-readied w line l) in
-    let there = accounted-from s quiet v later (lawful_step w line l) in
+    let here = line-balanced s w line l.sound (lawful-readied w line l) in
+    let there = accounted-from s v later (lawful_step w line l) in
     let posts = count-append (has_receipt s) (posts_of (steps line w)) (all_posts (trace v later)) in
     omega (arith, here, there, posts)
 
 pub messages-accounted : (script : List ℕ) → RunAccountsForMessages script
-messages-accounted script s quiet front back parts = let all = accounted-from s quiet no_rows front lawful_none in omega (arith, all)
-
--- a message that tells of an end, or of a closed port, asks for no answer
-died-quiet : (bytes : List ℕ) → (header_of bytes).kind ≡ CLIENT_DIED → asks (message_of bytes) ≡ false
-died-quiet bytes kind = rw kind refl
-
-closed-quiet : (bytes : List ℕ) → (header_of bytes).kind ≡ PORT_CLOSED → asks (message_of bytes) ≡ false
-closed-quiet bytes kind = rw kind refl
+messages-accounted script s front back parts = let all = accounted-from s no_rows front lawful_none in omega (arith, all)
 
 pub deaths-accounted : (script : List ℕ) → RunAccountsForDeaths script
 deaths-accounted script = (
-  λ s kind front back parts. messages-accounted script s (died-quiet s.bytes kind) front back parts,
-  λ s kind front back parts. messages-accounted script s (closed-quiet s.bytes kind) front back parts,
+  λ s kind front back parts. messages-accounted script s front back parts,
+  λ s kind front back parts. messages-accounted script s front back parts,
 )

@@ -8,7 +8,6 @@ use Rattle.lpc_base.specs.declared.birth.Birth.{Birth}
 use Rattle.lpc_base.specs.declared.status.Status.{Status}
 use Rattle.lpc_base.specs.declared.status.TheConstants.{LPC_REPLY_LOST, PORT_DISCONNECTED}
 use Rattle.lpc_model.specs.World.{Creator, HandleRow, MessageRow, PortRow, ThreadRow, WaitRow, World}
-use Rattle.lpc_model.specs.Message.{asks, message_of}
 use Rattle.lpc_model.specs.Found.{handles_of, is_accepted, is_connect, is_live, port_row, wait_of}
 use Rattle.lpc_model.specs.Basics.{Basic, Cuts, Dies, DropsHandle, DropsOwned, DropsViewsOf, Empties, Steps, Unregisters, Withdraws, doing, end_each, in_turn, provided, world_after, ◌▹◌, LetsGo}
 use Rattle.lpc_model.specs.Entering.{enter}
@@ -43,20 +42,20 @@ each-plain ending all (x ∷ xs) = every-append is_plain (ending x) (each ending
 pub sweep-plain : (w : World) → ArePlain (sweep w)
 sweep-plain = sweep_every is_plain (λ _. refl)
 
-module _ (s : Receipt) (quiet : asks (message_of s.bytes) ≡ false) (w : World) (line : ScriptLine) where
+module _ (s : Receipt) (w : World) (line : ScriptLine) where
   -- steps that are in balance, and leave dry queues behind, where they find them
   abbrev pub Balances : Steps → Type 0
-  Balances f = (v : World) → HasDryQueues w v → IsEntered s quiet w line v (f v)
+  Balances f = (v : World) → HasDryQueues w v → IsEntered s w line v (f v)
 
   pub plain_balances : (f : Steps) → ((v : World) → ArePlain (f v)) → Balances f
-  plain_balances f plain v dry = record { balanced = level-balanced s quiet w line v (f v) (plain-level (f v) (plain v)); dry = dry-all w v (f v) (plain-soft (f v) (plain v)) dry }
+  plain_balances f plain v dry = record { balanced = level-balanced s w line v (f v) (plain-level (f v) (plain v)); dry = dry-all w v (f v) (plain-soft (f v) (plain v)) dry }
 
   pub then_balances : (f g : Steps) → Balances f → Balances g → Balances (f ▹ g)
   then_balances f g one two v dry =
       let here = one v dry in
       let there = two (behind f v) here.dry in
       record {
-        balanced = both-balanced s quiet w line v (f v) (g (behind f v)) here.balanced there.balanced;
+        balanced = both-balanced s w line v (f v) (g (behind f v)) here.balanced there.balanced;
         dry = subst (HasDryQueues w) (sym (after-append v (f v) (g (behind f v)))) there.dry;
       }
 
@@ -65,9 +64,9 @@ module _ (s : Receipt) (quiet : asks (message_of s.bytes) ≡ false) (w : World)
   turn_balances f each (x ∷ xs) v dry = then_balances (f x) (in_turn f xs) (each x) (turn_balances f each xs) v dry
 
   pub enter_balances : (m : MessageRow) → Balances (enter m)
-  enter_balances m v dry = entered s quiet w line v m dry
+  enter_balances m v dry = entered s w line v m dry
 
-  pub none_balances : (v : World) → HasDryQueues w v → IsEntered s quiet w line v []
+  pub none_balances : (v : World) → HasDryQueues w v → IsEntered s w line v []
   none_balances v dry = plain_balances (doing []) (λ v. refl) v dry
 
   ends_balance : (test : World → WaitRow → Bool) (ending : WaitRow → List Basic) → ((x : WaitRow) → ArePlain (ending x)) → Balances (end_each test ending)
@@ -88,15 +87,15 @@ module _ (s : Receipt) (quiet : asks (message_of s.bytes) ≡ false) (w : World)
   post_balances : (b : Birth) → Balances (post_closed b)
   post_balances b v dry = at (port_row v b)
     where
-      by_creator : (p : PortRow) (queue : Birth) (o : Option Creator) → IsEntered s quiet w line v (given (option_map (closed_row p queue) o) (λ m. enter m v))
+      by_creator : (p : PortRow) (queue : Birth) (o : Option Creator) → IsEntered s w line v (given (option_map (closed_row p queue) o) (λ m. enter m v))
       by_creator p queue None = none_balances v dry
       by_creator p queue (Some by) = enter_balances (closed_row p queue by) v dry
 
-      queued : (p : PortRow) (o : Option Birth) → IsEntered s quiet w line v (given (option_and_then (λ queue. option_map (closed_row p queue) p.creator) o) (λ m. enter m v))
+      queued : (p : PortRow) (o : Option Birth) → IsEntered s w line v (given (option_and_then (λ queue. option_map (closed_row p queue) p.creator) o) (λ m. enter m v))
       queued p None = none_balances v dry
       queued p (Some queue) = by_creator p queue p.creator
 
-      at : (o : Option PortRow) → IsEntered s quiet w line v (given o (λ p. given (closing_post v p) (λ m. enter m v)))
+      at : (o : Option PortRow) → IsEntered s w line v (given o (λ p. given (closing_post v p) (λ m. enter m v)))
       at None = none_balances v dry
       at (Some p) = queued p (server_of v p)
 
@@ -114,7 +113,7 @@ module _ (s : Receipt) (quiet : asks (message_of s.bytes) ≡ false) (w : World)
   provided_balances : (test : World → Bool) (f : Steps) → Balances f → Balances (provided test f)
   provided_balances test f one v dry = at (test v)
     where
-      at : (b : Bool) → IsEntered s quiet w line v (when b (f v))
+      at : (b : Bool) → IsEntered s w line v (when b (f v))
       at true = one v dry
       at false = none_balances v dry
 
@@ -134,7 +133,7 @@ module _ (s : Receipt) (quiet : asks (message_of s.bytes) ≡ false) (w : World)
   told_balances : (t : ThreadRow) (b : Birth) → Balances (post_death t b)
   told_balances t b = then_balances (doing (Unregisters t.number b ∷ [])) (λ w. given (death_post w t b) (λ m. enter m w)) (plain_balances (doing (Unregisters t.number b ∷ [])) (λ v. refl)) (λ v dry. at v dry (death_post v t b))
     where
-      at : (v : World) → HasDryQueues w v → (o : Option MessageRow) → IsEntered s quiet w line v (given o (λ m. enter m v))
+      at : (v : World) → HasDryQueues w v → (o : Option MessageRow) → IsEntered s w line v (given o (λ m. enter m v))
       at v dry None = none_balances v dry
       at v dry (Some m) = enter_balances m v dry
 
@@ -147,6 +146,6 @@ module _ (s : Receipt) (quiet : asks (message_of s.bytes) ≡ false) (w : World)
       (then_balances (close_handles pid) (doing (DropsViewsOf pid ∷ [])) (λ u dry. turn_balances (close_handle pid) (handle_balances pid) (handles_of u pid) u dry) (plain_balances (doing (DropsViewsOf pid ∷ [])) (λ v. refl))) v dry)))
 
   -- Messages that are sent
-  pub sent_balances : (m : MessageRow) (start : List Basic) → ArePlain start → HasDryQueues w w → AreBalanced s quiet w line w (start ++ enter m (world_after w start))
+  pub sent_balances : (m : MessageRow) (start : List Basic) → ArePlain start → HasDryQueues w w → AreBalanced s w line w (start ++ enter m (world_after w start))
   sent_balances m start plain dry =
       let all = then_balances (doing start) (enter m) (plain_balances (doing start) (λ v. plain)) (enter_balances m) w dry in all.balanced
