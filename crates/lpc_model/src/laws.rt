@@ -150,16 +150,17 @@ pub fn law_views()
     ensures offers_runs { (script : List ℕ) → RunKeepsOffers script }
 {}
 
-/// In every script each message that asks for no answer is accounted for.
+/// In every script each message is accounted for.
 ///
-/// Behind each line, for each queue, context and bytes of such a message: as many were posted so far
-/// as stand in the queue, were shown as received from it, and were lost when its port closed. So it
-/// is with datagrams, and with what tells of closed ports and of threads that ended. Each line
-/// empties the queues of the ports that lose their last handles in it, once for each, and no other:
-/// so no message is lost while its port is open. What settling shows as received was waited for when
-/// it began. Requests, connection requests and events may leave their queue as well where their
-/// thread's wait ends: a line withdraws the message of a thread only where it wakes or ends that
-/// thread, or marks its event.
+/// Behind each line, for each queue, context and bytes of a message: as many were posted so far as
+/// stand in the queue, were shown as received from it, were withdrawn as the wait of their thread
+/// ended or its event was marked, and were lost when the queue's port closed. So it is with requests,
+/// events, datagrams, and what tells of closed ports and of threads that ended; of a connection
+/// request, which a listen shows without a context, the context isn't compared. Each line empties the
+/// queues of the ports that lose their last handles in it, once for each, and no other: so no message
+/// is lost while its port is open. What settling shows as received was waited for when it began. A
+/// line withdraws the message of a thread only where it wakes or ends that thread, or marks its
+/// event.
 pub fn law_messages_are_accounted_for()
     ensures runs { (script : List ℕ) → RunAccountsForMessages script }
     ensures emptied { (script : List ℕ) → RunEmptiesWithHandles script }

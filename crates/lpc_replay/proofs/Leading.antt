@@ -6,8 +6,9 @@ use Rattle.lpc_base.specs.declared.status.TheConstants.{ACCESS_DENIED, INVALID_H
 use Rattle.lpc_model.specs.declared.entry.ObjectKind.{ObjectKind}
 use Rattle.lpc_model.specs.declared.entry.ObjectKind.TheVariants as kind
 use Rattle.lpc_model.specs.declared.line.ProcArg.TheVariants.{By}
-use Rattle.lpc_model.specs.Found.{handle_at, is_born_process, is_born_thread, port_row, same_kind, token_row}
+use Rattle.lpc_model.specs.Found.{handle_at, is_born_process, is_born_thread, port_row, same_kind, section_row, token_row}
 use Rattle.lpc_model.specs.Impersonation.{TOKEN_RIGHT, token_test}
+use Rattle.lpc_model.specs.Memory.{section_test}
 use Rattle.lpc_model.specs.Refusal.{found_or, refuse_if}
 use Rattle.lpc_model.specs.Standing.{NamesWhatStands, names_object, stands_as}
 use Rattle.lpc_model.specs.Targets.{LIFE_RIGHT, process_target, thread_target}
@@ -81,4 +82,5 @@ leads w n = record {
   threads = λ by handle s is. alone (object_test w by kind.Thread LIFE_RIGHT handle) (λ b. first (is_born_thread b) w.threads) s (stands w n by kind.Thread LIFE_RIGHT handle) is;
   processes = λ by handle s is. alike (object_test w by kind.Process LIFE_RIGHT handle) (λ b. first (is_born_process b) w.processes) (λ p. p.number) s (stands w n by kind.Process LIFE_RIGHT handle) is;
   tokens = λ by handle s is. alone (object_test w by kind.Token TOKEN_RIGHT handle) (token_row w) s (stands w n by kind.Token TOKEN_RIGHT handle) is;
+  sections = λ by rights handle s is. alone (object_test w by kind.Section rights handle) (section_row w) s (stands w n by kind.Section rights handle) is;
 }

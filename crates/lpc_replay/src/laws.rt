@@ -73,9 +73,9 @@ pub fn law_worked_transcripts()
 
 /// What a handle names has a row, in every script.
 ///
-/// Before each line, where a handle of a thread's process names a port, a thread, a process or a token, and grants the
-/// right that the call wants, what it names has a row. The definitions have an answer for a row that is missing,
-/// INVALID_HANDLE; it never comes: each refusal of these tests is one of the handle's own.
+/// Before each line, where a handle of a thread's process names a port, a thread, a process, a token or a section, and
+/// grants the right that the call wants, what it names has a row. The definitions have an answer for a row that is
+/// missing, INVALID_HANDLE; it never comes: each refusal of these tests is one of the handle's own.
 pub fn law_handles_lead_to_rows()
     ensures { (script : List ℕ) → HandlesLead script }
 {}
