@@ -49,12 +49,15 @@ fn free(world: &mut World, object: Object)
     }
 }
 
-/// While there is a token that no handle names, it goes.
+/// While there is a token that no handle names, it goes. None is looked at where the counts tell that each has a handle.
 fn free_tokens(world: &mut World)
     requires can { CanSweep world.old.rows }
     ensures ahead { SweepsAhead world.old world.new }
     ensures held { HasHeldTokens world.new.rows }
 {
+    if world.tokens_are_held() {
+        return;
+    }
     for freed in 0..token_count(world) {
         let _ = freed;
         match unheld_token(world) {
@@ -64,12 +67,16 @@ fn free_tokens(world: &mut World)
     }
 }
 
-/// While there is a section that no row counts for, it goes.
+/// While there is a section that no row counts for, it goes. None is looked at where the counts tell that each has a
+/// handle or a view.
 fn free_sections(world: &mut World)
     requires can { CanSweep world.old.rows }
     ensures ahead { SweepsAhead world.old world.new }
     ensures held { HasHeldSections world.new.rows }
 {
+    if world.sections_are_held() {
+        return;
+    }
     for freed in 0..section_count(world) {
         let _ = freed;
         match unheld_section(world) {

@@ -3,5 +3,6 @@ mod Places
 mod Told
 mod Hearers
 mod Enrolled
+mod AllHeld
 mod Owners
 mod Unreceived

@@ -2,7 +2,7 @@
 ghost use Rattle.std.specs.Prelude.{◌≡◌, ◌+◌, ◌≤◌, true, false};
 ghost use Rattle.lpc_model.specs.Basics.{Frees};
 ghost use Rattle.lpc_model.specs.Found.{is_born_process, is_born_thread, port_name, process_name, thread_name};
-ghost use Rattle.lpc_model.specs.Linked.{AreLivesHeld, HasHeldPorts};
+ghost use Rattle.lpc_model.specs.Linked.{AreLivesHeld, HasHeldPorts, HasHeldSections, HasHeldTokens};
 ghost use Rattle.lpc_model.specs.Sweep.{is_unheld};
 ghost use Rattle.lpc_base.specs.Rows.{has};
 ghost use Rattle.lpc_world.specs.declared.suspected_lives.LifeSuspect.TheVariants as life;
@@ -140,6 +140,22 @@ impl World {
         self.loose = false;
         self.suspects = Suspects::none();
         self.lives = SuspectedLives::nobody();
+    }
+
+    /// Each token that stands has a handle, as far as the counts tell: true says so, and false says nothing. No token is
+    /// looked at.
+    pub fn tokens_are_held(&self) -> bool
+        ensures { result ≡ true → HasHeldTokens self.now.rows }
+    {
+        self.parts.held_tokens() == Some(self.tokens.count())
+    }
+
+    /// Each section that stands has a handle or a view, as far as the counts tell: true says so, and false says nothing.
+    /// No section is looked at.
+    pub fn sections_are_held(&self) -> bool
+        ensures { result ≡ true → HasHeldSections self.now.rows }
+    {
+        self.parts.held_sections() == Some(self.sections.count())
     }
 
     /// The row of a thread that has ended goes.

@@ -8,6 +8,9 @@ use Rattle.lpc_sweep.proofs.Ahead.{ahead_same, ahead_then, section-ahead}
 use Rattle.lpc_sweep.proofs.Places.{length_less, none_left}
 use Rattle.lpc_sweep.proofs.freeing.free_sections.Goals as goal
 
+pub returns-then-sections_are_held-clause-ahead : goal.returns-then-sections_are_held-clause-ahead
+returns-then-sections_are_held-clause-ahead c = ahead_same c.args.world.now c.requires.can
+
 pub loop-freed-init : goal.loop-freed-init
 loop-freed-init c = record { ahead = ahead_same c.args.world.now c.requires.can; fewer = omega arith }
 
