@@ -107,8 +107,9 @@ fn process_maps_and_unmaps_a_view(rt: HostRuntime) -> Result<(), Fail> {
     assert!(&rt; parts.shows(key) && parts.views_to(key) == 1);
     assert!(&rt; parts.views_of(2).view_at(0x10fff).is_some());
     assert!(&rt; parts.unmap_view(2, 0x11000).is_none());
+    assert!(&rt; parts.held_sections() == Some(1));
     assert!(&rt; parts.unmap_view(2, 0x10fff).is_some());
-    assert!(&rt; !parts.shows(key));
+    assert!(&rt; !parts.shows(key) && parts.held_sections() == Some(0));
     Ok(())
 }
 
@@ -133,5 +134,16 @@ fn process_closes_a_handle_to_a_port(rt: HostRuntime) -> Result<(), Fail> {
     assert!(&rt; parts.handles_of(2).get(4).is_some());
     parts.close_handle(2, 4);
     assert!(&rt; !parts.names(Object::Port(port())));
+    Ok(())
+}
+
+#[test]
+fn token_is_held_by_its_handle(rt: HostRuntime) -> Result<(), Fail> {
+    let mut parts = one_part(rt.alloc())?;
+    parts.reserve_handles(2, 1)?;
+    assert!(&rt; parts.add_handle(2, Object::Token(port()), 1).ok() == Some(4));
+    assert!(&rt; parts.held_tokens() == Some(1) && parts.held_sections() == Some(0));
+    parts.close_handle(2, 4);
+    assert!(&rt; parts.held_tokens() == Some(0));
     Ok(())
 }
