@@ -687,12 +687,12 @@ fn starts_call(word: &[u8]) -> bool
 fn is_printable(text: &[u8]) -> bool
     ensures { result ≡ list_all grammar.is_printable text.now }
 {
+    let mut printable = true;
+    // It looks at each byte, since many can be looked at at once then.
     for byte in text {
-        if *byte < b' ' || *byte > b'~' {
-            return false;
-        }
+        printable &= *byte >= b' ' && *byte <= b'~';
     }
-    true
+    printable
 }
 
 /// What a text says by its words, none where it has no word, or its first fault.
