@@ -54,3 +54,7 @@ places_by_two w new own bound others = places_grown w new own 2 (omega arith) bo
 
 pub places_same : (w : Kept) (new : Capacity) → new.handles ≡ w.capacity.handles → HasPlacesWithin w new
 places_same w new is pid = same_places w new pid (rw is refl)
+
+-- behind a sweep: what a table had, with the rows that stood, and what it has, with those that stand
+pub swept_within : (had asked swept stood standing bare most : ℕ) → asked ≤ most → had ≡ asked → swept + standing ≤ had + stood → stood ≡ bare → swept + standing ≤ most + bare
+swept_within had asked swept stood standing bare most within same less is = omega (arith, within, same, less, is)

@@ -25,7 +25,7 @@ use Rattle.lpc_machine.proofs.Turning.{can-sweep}
 -- behind the steps of a line the world can be swept, and need not be where no row went
 module _ (old taken : Kept) (before list : List Entry) (line : ScriptLine) (s : IsSettled old) (empty : before ≡ [])
     (takes : let end : Left = record { world = taken.rows; entries = list; loose = taken.loose } in end ≡ left_by old.rows before old.loose (bare_steps line old.rows)) where
-  rows_are : taken.rows ≡ world_after old.rows (bare_steps line old.rows)
+  pub rows_are : taken.rows ≡ world_after old.rows (bare_steps line old.rows)
   rows_are = ap (λ (l : Left). l.world) takes
 
   pub can_sweep : CanSweep taken.rows

@@ -1,5 +1,5 @@
 // The machine, and one line's step.
-ghost use Rattle.std.specs.Prelude.{ℕ, ◌≡◌, ◌≤◌, ◌<◌, ◌+◌, [], ◌∷◌, ◌++◌, true, false, IsOk, OnOk, OnErr, IsErr};
+ghost use Rattle.std.specs.Prelude.{ℕ, ◌≡◌, ◌≤◌, ◌<◌, ◌+◌, [], ◌∷◌, ◌++◌, true, false, length, IsOk, OnOk, OnErr, IsErr};
 ghost use Rattle.lpc_model.specs.World.{no_rows};
 ghost use Rattle.lpc_model.specs.Found as found;
 ghost use Rattle.lpc_model.specs.Found.{live_thread};
@@ -14,7 +14,7 @@ ghost use Rattle.lpc_model.specs.Deaths.{DeathsAreTold, HasLivingRegistrations, 
 ghost use Rattle.lpc_model.specs.Left.{LeavesNothing};
 ghost use Rattle.lpc_model.specs.SingleClosings.{HasSingleClosings};
 ghost use Rattle.lpc_base.specs.declared.limits.TheConstants.{LINES_LIMIT};
-ghost use Rattle.lpc_model.specs.Machine.{hosting_status, own_steps, step, thread_steps};
+ghost use Rattle.lpc_model.specs.Machine.{bare_step, hosting_status, own_steps, step, thread_steps};
 ghost use Rattle.lpc_model.specs.Settle as settling;
 ghost use Rattle.lpc_model.specs.SoundViews.{HasSoundOffers, HasSoundViews};
 ghost use Rattle.lpc_model.specs.SoundWaits.{HasSoundWaits};
@@ -424,9 +424,11 @@ impl Machine {
     /// refused; they want for memory only where the room for what they make wasn't there, which the bytes of a section
     /// never have; every other line is answered. Of ports, messages and waits no line leaves more memory than there
     /// was, than the rows before it need with one more and what was owed, or than twice these rows do, and of each
-    /// process's handles the same with two more; how far that of processes, threads, sections, views and tokens may
-    /// grow is said of each call alone, and of names nowhere. One of the five directives, and a call of a thread that
-    /// lives and doesn't wait, counts as a call, refused or not, unless it found no memory.
+    /// process's handles the same with two more. Of processes and threads none leaves more than there was, than the
+    /// numbers ever used need with one more, or than twice these do, but for the places of the rows that went at its
+    /// end. How far that of sections, views and tokens may grow is said of each call alone, and of names nowhere. One of
+    /// the five directives, and a call of a thread that lives and doesn't wait, counts as a call, refused or not, unless
+    /// it found no memory.
     pub fn step(&mut self, line: &Line<'_>, out: &mut Entries) -> Result<(), OutOfMemory>
         requires empty { out.old.list ≡ [] }
         requires unread { out.old.reads ≡ false }
@@ -467,6 +469,18 @@ impl Machine {
         ensures asked_messages { let new = self.new.capacity in
             new.messages ≤ grown_messages self.old 1 }
         ensures asked_waits { let new = self.new.capacity in new.waits ≤ grown_waits self.old 1 }
+        ensures asked_processes { OnOk result
+            (let bare = bare_step self.old.rows (line_of line.now) in
+            self.new.capacity.processes + length self.new.rows.processes
+            ≤ grown_processes self.old 1 + length bare.world.processes) }
+        ensures asked_threads { OnOk result
+            (let bare = bare_step self.old.rows (line_of line.now) in
+            self.new.capacity.threads + length self.new.rows.threads
+            ≤ grown_threads self.old 1 + length bare.world.threads) }
+        ensures failed_processes { OnErr result (let new = self.new.capacity in
+            new.processes ≤ grown_processes self.old 1) }
+        ensures failed_threads { OnErr result (let new = self.new.capacity in
+            new.threads ≤ grown_threads self.old 1) }
         ensures asked_handles { (pid : ℕ) →
             handle_places self.new.capacity pid ≤ grown_handles self.old pid 2 }
     {

@@ -200,10 +200,10 @@ grown_tokens w more = grown_capacity w.capacity.tokens more (length w.rows.token
 abbrev pub grown_views : Kept → ℕ → ℕ → ℕ
 grown_views w pid more = grown_capacity (view_places w.capacity pid) more (length (views_of w.rows pid))
 
--- there is no more memory for processes and threads, those that stand and the room together
+-- there is no more memory for processes and threads, but for the places of the rows that went
 pub record GainsNoLives (old new : Kept) : Type 0 where
-  pub for_processes : new.room.processes + length new.rows.processes ≤ old.room.processes + length old.rows.processes
-  pub for_threads : new.room.threads + length new.rows.threads ≤ old.room.threads + length old.rows.threads
+  pub for_processes : new.capacity.processes + length new.rows.processes ≤ old.capacity.processes + length old.rows.processes
+  pub for_threads : new.capacity.threads + length new.rows.threads ≤ old.capacity.threads + length old.rows.threads
 
 -- nothing changed but the room, and the memory that it is of
 pub record Same (old new : Kept) : Type 0 where

@@ -2,7 +2,10 @@ use Rattle.lpc_model.specs.Lines.{line_of}
 use Rattle.lpc_model.proofs.Sound.Lines.{sound_waits}
 use Rattle.lpc_model.proofs.Settling.Deaths.{deaths_told}
 use Rattle.lpc_model.proofs.Closings.ToldLines.{closings_told}
-use Rattle.std.proofs.Common.{◌∙◌}
+use Rattle.std.proofs.Common.{ap, length, ◌∙◌}
+use Rattle.lpc_model.specs.World.{World}
+use Rattle.lpc_rows.specs.Capacity.{Capacity}
+use Rattle.lpc_machine.proofs.Asked.{swept_within}
 use Rattle.lpc_machine.proofs.Refused.{refused_stays}
 use Rattle.lpc_model.proofs.Runs.{lawful-once, lawful-readied}
 use Rattle.lpc_machine.proofs.Settles.{may-settle, settle-begins}
@@ -69,3 +72,9 @@ returns-clause-refused c = rw (← c.self.view_is) (λ halts. sound.swept_is c.s
 
 pub returns-in_err-take-clause-left : goal.returns-in_err-take-clause-left
 returns-in_err-take-clause-left c = sound.leaves_nothing c.take.new.world (sound.stays_same c.self.inside.world c.take.new.world c.in_err-take.ensures.err c.self.invariant)
+
+pub returns-clause-asked_processes : goal.returns-clause-asked_processes
+returns-clause-asked_processes c = rw (← c.self.view_is) (swept_within _ _ _ _ _ _ _ c.take.ensures.asked_processes (ap (λ (m : Capacity). m.processes) c.settle.ensures.capacity) c.sweep.ensures.lives.for_processes (ap (λ (w : World). length w.processes) (sound.rows_are c.self.inside.world c.settle.new.world c.args.out.now.list c.settle.new.out.list (line_of c.args.line.now) c.self.invariant c.requires.empty (took-bare (line_of c.args.line.now) c.self.inside.world c.take.new.world c.settle.new.world c.args.out.now c.take.new.out c.settle.new.out c.in_ok-take.ensures.takes c.settle.ensures.took))))
+
+pub returns-clause-asked_threads : goal.returns-clause-asked_threads
+returns-clause-asked_threads c = rw (← c.self.view_is) (swept_within _ _ _ _ _ _ _ c.take.ensures.asked_threads (ap (λ (m : Capacity). m.threads) c.settle.ensures.capacity) c.sweep.ensures.lives.for_threads (ap (λ (w : World). length w.threads) (sound.rows_are c.self.inside.world c.settle.new.world c.args.out.now.list c.settle.new.out.list (line_of c.args.line.now) c.self.invariant c.requires.empty (took-bare (line_of c.args.line.now) c.self.inside.world c.take.new.world c.settle.new.world c.args.out.now c.take.new.out c.settle.new.out c.in_ok-take.ensures.takes c.settle.ensures.took))))
