@@ -43,7 +43,7 @@ WORLDS = 20
 # page by page makes it up to four times as long on some machines.
 SHORT_SCRIPT, LONG_SCRIPT, TIMES_LONGER, TIMES_LONGER_WITH_ROWS = 10_000, 100_000, 3, 6
 RUNS = 5
-# Beside how many rows of a kind scripts take no longer than alone, line by line, and how they are compared.
+# Beside how many rows of a kind a line may take TIMES_LONGER times as long as alone, and how they are compared.
 LINES_BESIDE, RUNS_BESIDE = 100_000, 3
 FLAT_SCRIPTS = bench.requests, bench.datagrams, bench.closings, bench.connects, bench.endings, bench.creations
 FLAT_ROWS = (
