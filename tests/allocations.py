@@ -19,12 +19,15 @@ import sys
 
 sys.dont_write_bytecode = True
 from failing import tried
+from tally import counted
 
 ROOT = pathlib.Path(__file__).resolve().parent.parent
 FOLDERS = "examples", "tests/worked"
 SMALLEST = ROOT / "examples" / "first-request.script"
 TOLD = re.compile(r"in a replay of `examples/first-request\.script` these are (\d+)\b")
 OUT_OF_MEMORY = 5
+# How many checks there are: who adds a script or a form changes the number.
+CHECKS = 75
 USAGE = b"usage: ntlpc COMMAND [WORDS]\n"
 
 
@@ -60,8 +63,13 @@ def refusals(program, words, source, status, text):
     return whole.allocations, wanting, wrong
 
 
+def all_checks(program):
+    """All checks, and that there are as many."""
+    yield from counted("the allocations", checks(program), CHECKS)
+
+
 def checks(program):
-    """All checks: each with its name and what it found wrong."""
+    """Each check with its name and what it found wrong."""
     page = (ROOT / "docs" / "PROOFS.md").read_text(encoding="utf-8")
     for script in (it for folder in FOLDERS for it in sorted((ROOT / folder).glob("*.script"))):
         text = script.with_suffix(".transcript").read_bytes()
@@ -87,4 +95,4 @@ def checks(program):
 
 
 if __name__ == "__main__":
-    sys.exit(tried("tests/allocations.py", checks, sys.argv[1:]))
+    sys.exit(tried("tests/allocations.py", all_checks, sys.argv[1:]))

@@ -8,6 +8,9 @@
 - `conformance/run` runs every script of a suite, and passes no case that is broken; `conformance/coverage` tells what
   is missing and what isn't named; the suite's folder has as many cases as files that make one.
 - The probe of `tests/program.py` that takes memory away refuses a program that tells nothing, and one that doesn't run.
+- What tests compare of a run is all that is to be compared: its status, its bytes, its standard error, its counts.
+- A test that finds something wrong says so by its closing line and its status, and so does one that makes fewer checks
+  than there are; `tests/program.py` refuses scripts of which a line takes longer the more there are.
 - `tests/edge.py` passes a program that writes what each line tells, and one that keeps it back until more is read; it
   refuses those that go wrong where a read or a write fails. Where there is no C compiler this is left out.
 - `tests/states.py` passes the text of an example, and refuses texts in which a row or an entry is altered.
@@ -17,6 +20,7 @@ Each check that fails has a line, and the last line is `N passed, M failed`. The
 where not.
 """
 import contextlib
+import io
 import itertools
 import os
 import pathlib
@@ -27,13 +31,17 @@ import subprocess
 import sys
 import tempfile
 import time
+import types
 
 sys.dont_write_bytecode = True
+import allocations
 import edge
 import failing
+import isolation
 import program
 import states
 import tables
+import tally
 
 ROOT = pathlib.Path(__file__).resolve().parent.parent
 # What `.ci/run` runs, in order. Who adds a part adds it here.
@@ -173,6 +181,27 @@ COUNTED = {
     "counts a row too many": (r'("line":13,"changed":"port 20.1".*"pointers":)2', r"\g<1>3"),
     "names an object that isn't there": (r'("line":5,"came":"handle 8/4".*"object":)"port 12.1"', r'\1"port 12.9"'),
 }
+# How a run ended that is right, and how those did that aren't: what is compared of it, altered one by one.
+RIGHT = {"status": 0, "printed": b"1 - boot 00000000\n", "said": b"", "reads": 3, "writes": 1}
+WRONG = {"status": 4, "printed": b"1 - boot 00000001\n", "said": b"?", "reads": 4, "writes": 2}
+# A run that wants for memory behind the first of two lines, and such as are wrong.
+WANTING = {"status": 5, "printed": b"1 - a\n", "said": b""}
+NOT_WANTING = (
+    {"status": 4},
+    {"printed": b"1 - b\n"},
+    {"printed": b"1 - a"},
+    {"printed": b"1 - a\nend 1 1 0\n"},
+    {"said": b"?"},
+)
+# Programs that tell the client of tests/isolation.py the same in both runs, and such as don't.
+CLIENT_TOLD = "for at in 1 2 3 4 5; do echo $at 36 told; done; echo 6 44 NtRequestPort %s; echo end 6 6 0"
+TOLD_SAME = "cat > /dev/null; " + CLIENT_TOLD % "c0000044"
+TOLD_OTHERWISE = (
+    "cat > /dev/null; " + CLIENT_TOLD % "00000000",
+    'many=$(wc -l); echo 0 36 "$many"; ' + CLIENT_TOLD % "c0000044",
+    'many=$(wc -l); [ "$many" -gt 40 ] && echo 0 36 more; ' + CLIENT_TOLD % "c0000044",
+    "cat > /dev/null; echo 6 44 NtRequestPort c0000044; echo end 6 6 0",
+)
 # What the pages name that transcripts can reach, and how many cases the suite has at least.
 OUTCOMES = 255
 CASES_AT_LEAST = 2_000
@@ -462,6 +491,99 @@ def rows():
             yield f"a text that {how}", lambda: rows_altered(whole, pattern, other)
 
 
+def ended(found):
+    """A run, by what is known of it."""
+    return types.SimpleNamespace(**found)
+
+
+def should_finds(run):
+    """Whether a run is refused that should have ended as the right one."""
+    try:
+        program.Ended(run.status, run.printed, run.said).should(RIGHT["status"], RIGHT["printed"])
+    except program.Wrong:
+        return True
+    return False
+
+
+def edge_compares(run):
+    """Whether the test of the edge refuses a run that should have ended as the right one."""
+    return bool(edge.wrong_with(run, RIGHT["status"], RIGHT["printed"], reads=RIGHT["reads"], writes=RIGHT["writes"]))
+
+
+def comparisons():
+    """What tests compare of a run: each part of it alone is altered."""
+    for name, finds, parts in ("should", should_finds, 3), ("wrong_with", edge_compares, 5):
+        yield f"{name} passes what is right", lambda: same(finds(ended(RIGHT)), False)
+        for part in list(RIGHT)[:parts]:
+            run = ended({**RIGHT, part: WRONG[part]})
+            yield f"{name} compares the {part}", lambda: same(finds(run), True)
+    refuses = lambda run: bool(allocations.wrong_with(run, 0, b"1 - a\nend 1 1 0\n"))
+    yield "a run may want for memory", lambda: same(refuses(ended(WANTING)), False)
+    for other in NOT_WANTING:
+        yield f"no run wants for memory so: {other}", lambda: same(refuses(ended({**WANTING, **other})), True)
+
+
+def quietly(test, *given):
+    """The status of a test, and its closing line."""
+    with contextlib.redirect_stdout(io.StringIO()) as told:
+        status = test(*given)
+    return status, told.getvalue().splitlines()[-1]
+
+
+def two_checks():
+    """A group of the form of tests/program.py of two checks, of which the second finds something."""
+    yield "right", lambda _: None
+    yield "wrong", lambda _: program.fail_where(["wrong"])
+
+
+def closings():
+    """How tests end that find something, and those that make fewer checks than there are."""
+    found = [("right", []), ("wrong", ["one", "two"])]
+    yield "tally counts", lambda: same(quietly(tally.tally, found), (1, "1 passed, 1 failed"))
+    yield "tally passes", lambda: same(quietly(tally.tally, found[:1]), (0, "1 passed, 0 failed"))
+    for least, few in (2, []), (3, ["2 were made"]):
+        told = [*found, (f"it: {least} checks at least", few)]
+        yield f"two of {least} checks", lambda: same(list(tally.counted("it", found, least)), told)
+    for least, told in (2, "2 passed, 1 failed"), (3, "1 passed, 2 failed"):
+        group = {two_checks: least}
+        yield f"the program's, two of {least}", lambda: same(quietly(program.tried, None, group), (1, told))
+    for script, told in (TOLD_SAME, (0, "2 passed, 0 failed")), *((it, None) for it in TOLD_OTHERWISE):
+        status = lambda: quietly(isolation.main, ["sh", "-c", script])
+        yield f"isolation: {script}", lambda: same(status(), told) if told else same(status()[0], 1)
+
+
+def grown(check, cost):
+    """Whether a check of growth refuses a program of which scripts of so many lines take so long."""
+    measured, program.processor_seconds = program.processor_seconds, lambda _, lines, *given: cost(lines)
+    try:
+        check(None)
+    except program.Wrong:
+        return True
+    finally:
+        program.processor_seconds = measured
+    return False
+
+
+def growths():
+    """What tests/program.py says of growth, over costs that are made up: by the lines, by their square, by the lines and
+    the rows that stand, which are made by the first lines of a script."""
+    script, rows = program.bench.requests, program.bench.processes
+    standing = next(rows(1))
+    ways = {
+        "the lines": (program.grows_with_lines(script, program.TIMES_LONGER), len, False),
+        "their square": (program.grows_with_lines(script, program.TIMES_LONGER), lambda it: len(it) ** 2, True),
+        "their square, with rows": (
+            program.grows_with_lines(script, program.TIMES_LONGER_WITH_ROWS), lambda it: len(it) ** 2, True
+        ),
+        "the lines, beside rows": (program.grows_not_with_rows(rows, 10), len, False),
+        "the rows too": (
+            program.grows_not_with_rows(rows, 10), lambda it: len(it) * (10 if it[0] == standing else 1), True
+        ),
+    }
+    for name, (check, cost, wrong) in ways.items():
+        yield f"the time grows with {name}", lambda: same(grown(check, cost), wrong)
+
+
 def stands(place, cell):
     """Whether what a row names as false of a wrong body of `lpc_homes` stands there."""
     return not list(tables.wrong_with("lpc_homes", place, cell))
@@ -478,10 +600,30 @@ def clauses():
         yield f"the place of {edit[1]}", lambda: same(tables.place_of(edit[0], found[edit]), place)
 
 
+# The groups of checks, and how many each makes: who adds one changes the number.
+GROUPS = {
+    gate_seconds: 10,
+    gate: 39,
+    suites: 12,
+    probes: 6,
+    edges: len(GOOD) + len(BAD),
+    rows: 21,
+    clauses: len(CLAUSES) + len(NO_CLAUSES) + len(PLACES),
+    comparisons: 16,
+    closings: 11,
+    growths: 5,
+}
+
+
 def checks():
-    """All checks: each with its name and what finds out what is wrong."""
-    for group in (gate_seconds, gate, suites, probes, edges, rows, clauses):
-        yield from group()
+    """All checks: each with its name and what finds out what is wrong; and that each group makes as many as there are."""
+    for group, least in GROUPS.items():
+        count = 0
+        for check in group():
+            count += 1
+            yield check
+        name, found = tally.enough(group.__name__, count, least if group is not edges or failing.compiler() else 0)
+        yield name, lambda: "; ".join(found)
 
 
 def main():

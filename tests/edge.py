@@ -29,6 +29,7 @@ import sys
 sys.dont_write_bytecode = True
 import worlds
 from failing import tried
+from tally import counted
 
 ROOT = pathlib.Path(__file__).resolve().parent.parent
 SMALLEST, FAULTY, WORKED = "first-request", "faulty-line", "tests/worked"
@@ -37,6 +38,8 @@ STATED = "07-a-connection", "examples/exercises"
 PIECES, USAGE, STORM = 7, b"usage: ntlpc COMMAND [WORDS]\n", ("storm", "2", "0")
 STORM_BEGINS = b"storm lines=58 entries=67 objects=0 replies=1 mismatches=1 sum="
 ERRORS = {it: getattr(errno, it) for it in ("EIO", "EAGAIN", "ENOSPC", "EBADF", "EPIPE", "EINTR")}
+# How many checks there are of a program that is right: who adds one, or alters an example, changes the number.
+CHECKS = 1_940
 # The most that is read at once, and the most that is kept back where the input is a file.
 PIECE, MOST_KEPT = 4_096, 65_536
 # An input that is a pipe and gives a byte at a time.
@@ -284,8 +287,13 @@ def states(program):
     yield from full_disks(program, it, sorted({0, *ends[:-1], *(end - 1 for end in ends)}))
 
 
+def all_checks(program):
+    """All checks, and that there are as many."""
+    yield from counted("the edge", checks(program), CHECKS)
+
+
 def checks(program):
-    """All checks: each with its name and what it found wrong."""
+    """Each check with its name and what it found wrong."""
     smallest, faulty = example(SMALLEST), example(FAULTY)
     count = len(smallest.pieces())
     yield f"there are {PIECES} pieces", [] if count == PIECES else [f"there are {count}"]
@@ -316,4 +324,4 @@ def checks(program):
 
 
 if __name__ == "__main__":
-    sys.exit(tried("tests/edge.py", checks, sys.argv[1:]))
+    sys.exit(tried("tests/edge.py", all_checks, sys.argv[1:]))

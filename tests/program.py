@@ -25,6 +25,7 @@ sys.path.insert(0, str(ROOT / "bench"))
 import run as bench
 import storms
 import worlds
+from tally import enough
 
 SECONDS = 60
 USAGE = b"usage: ntlpc COMMAND [WORDS]\n"
@@ -678,27 +679,59 @@ def check_count(count):
         raise Wrong(f"{count} were made")
 
 
+# The groups of checks, and how many each makes: who adds one changes the number.
+GROUPS = {
+    examples: 70,
+    words: 31,
+    storms_as_replayed: 7,
+    ends_of_input: 6,
+    inputs_that_fail: 16,
+    outputs_that_fail: 20,
+    conversations: 5,
+    limits: 11,
+    growth: 19,
+    large_worlds: WORLDS + 1,
+}
+
+
+def fail_where(found):
+    """Fails where something was found wrong."""
+    if found:
+        raise Wrong(found[0])
+
+
+def checks(groups):
+    """All checks of the groups, and that each makes as many as there are."""
+    for group, least in groups.items():
+        count = 0
+        for check in group():
+            count += 1
+            yield check
+        found = enough(group.__name__, count, least)
+        yield found[0], lambda _: fail_where(found[1])
+
+
+def tried(program, groups):
+    """Makes the checks of the groups, and answers the status."""
+    passed = failed = 0
+    for name, check in checks(groups):
+        try:
+            check(program)
+            passed += 1
+        except LeftOut as why:
+            print(f"left out: {name}: {why}", flush=True)
+        except Wrong as why:
+            failed += 1
+            print(f"FAILED: {name}: {why}", flush=True)
+    print(f"{passed} passed, {failed} failed")
+    return 1 if failed else 0
+
+
 def main(command):
     if not command or not shutil.which(command[0]):
         print("usage: tests/program.py PROGRAM [WORDS..]", file=sys.stderr)
         return 64
-    program = Program(command)
-    passed = failed = 0
-    for group in (
-        examples, words, storms_as_replayed, ends_of_input, inputs_that_fail, outputs_that_fail, conversations, limits,
-        growth, large_worlds,
-    ):
-        for name, check in group():
-            try:
-                check(program)
-                passed += 1
-            except LeftOut as why:
-                print(f"left out: {name}: {why}", flush=True)
-            except Wrong as why:
-                failed += 1
-                print(f"FAILED: {name}: {why}", flush=True)
-    print(f"{passed} passed, {failed} failed")
-    return 1 if failed else 0
+    return tried(Program(command), GROUPS)
 
 
 if __name__ == "__main__":

@@ -34,7 +34,7 @@ sys.dont_write_bytecode = True
 import program as tried
 import worlds
 from program import Ended, Program, Wrong, brief
-from tally import tally
+from tally import counted, tally
 
 ROOT = pathlib.Path(__file__).resolve().parent.parent
 sys.path.insert(0, str(ROOT / "conformance"))
@@ -307,10 +307,14 @@ def statuses(program):
         yield "the disk is full", of(lines, 4, b"", sink=sink)
 
 
+# The groups of checks, and how many each makes at least: who adds one changes the number.
+GROUPS = {examples: 1 + 3 * STATES_COUNT, all_scripts: 2_100, many_rows: 15, conversation: 1, statuses: 13}
+
+
 def checks(program):
     """All checks: each with its name and what it found wrong."""
-    for group in examples, all_scripts, many_rows, conversation, statuses:
-        yield from group(program)
+    for group, least in GROUPS.items():
+        yield from counted(group.__name__, group(program), least)
 
 
 def main(command):

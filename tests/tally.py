@@ -1,4 +1,18 @@
-"""How the tests here end: what they found wrong, and their closing line."""
+"""How the tests here end: what they found wrong, how many checks they made, and their closing line."""
+
+
+def enough(name, count, least):
+    """The check that a group made as many checks as there are, so that what is no longer tried is seen."""
+    return f"{name}: {least} checks at least", [] if count >= least else [f"{count} were made"]
+
+
+def counted(name, checks, least):
+    """The checks of a group, and that it made as many as there are."""
+    count = 0
+    for check in checks:
+        count += 1
+        yield check
+    yield enough(name, count, least)
 
 
 def tally(checks):
