@@ -32,10 +32,15 @@ def text_of(crate, folder, ending):
 def profile():
     """The limits by their names, and the numbers of the statuses, 8 capital hexadecimal digits, by theirs."""
     text = text_of("lpc_base", "specs", "antt")
-    limits = re.findall(r"^  pub \w+ : (\w+) ≡ (0x[0-9A-F_]+|[\d_]+(?: \* [\d_]+)*)$", text, re.M)
     statuses = re.findall(r"^  pub \w+ : (\w+)\.0 ≡ 0x([0-9A-F_]+)$", text, re.M)
-    numbers = {name: math.prod(int(factor, 0) for factor in it.split(" * ")) for name, it in limits}
-    return numbers, {name: it.replace("_", "") for name, it in statuses}
+    return numbers_of("lpc_base"), {name: it.replace("_", "") for name, it in statuses}
+
+
+def numbers_of(crate):
+    """The numbers behind the names of a crate's profile."""
+    text = text_of(crate, "specs", "antt")
+    limits = re.findall(r"^  pub \w+ : (\w+) ≡ (0x[0-9A-F_]+|[\d_]+(?: \* [\d_]+)*)$", text, re.M)
+    return {name: math.prod(int(factor, 0) for factor in it.split(" * ")) for name, it in limits}
 
 
 def bodies(crate):

@@ -7,9 +7,12 @@
   the companion tools have the same names.
 - The refusals of each call and directive stand there in the order of its definition's tests, and so do those that
   several calls share.
+- The answers about servers in docs/RESIDENT.md stand in the order of their definitions.
 - Each limit that the pages name is that of the profile, and docs/SERVICES.md names no number that isn't one.
 - The worked tables of README.md, docs/CONNECTIONS.md, docs/EXCEPTIONS.md, docs/SECURITY.md and docs/VIEWS.md have the
   lines of the scripts and transcripts in examples/.
+- Each entry that the pages of walks through an example show as code is told in a transcript of examples/.
+- docs/STORM.md draws rounds, and shows their lines, as tests/storms.py makes them.
 - docs/STATES.md shows all that some lines of its example tell, in their order, and has each key that the definitions
   print, and no other.
 - Each function, clause and law that docs/PROOFS.md names as carrying a claim stands in that crate, and each clause of
@@ -28,6 +31,7 @@ import sys
 sys.dont_write_bytecode = True
 import definitions
 import pages
+import storms
 from tally import tally
 
 sys.path.insert(0, str(pages.ROOT / "tools"))
@@ -46,6 +50,17 @@ WORKED_ROWS = {
     "docs/SECURITY.md": 45,
     "docs/VIEWS.md": 22,
 }
+# An entry of a transcript, how many of them these pages show as code, and one that is told not to come about.
+ENTRY = re.compile(r"\d+ (?:-|[*~]?\d+) (?:busy|nothread|(?:\w+ )?(?:[0-9a-f]{8}|wait)\b.*)")
+QUOTED = {
+    "CLOSING.md": 2,
+    "CONNECTIONS.md": 28,
+    "ENDINGS.md": 4,
+    "EXCEPTIONS.md": 72,
+    "SECURITY.md": 44,
+    "VIEWS.md": 21,
+}
+UNMADE = ("26 ~36 died c0000094",)
 # What docs/STATES.md shows of its example, and how many keys the rows have.
 STATED = "exercises/07-a-connection"
 STATED_ROWS, KEY_COUNT = 23, 66
@@ -140,6 +155,13 @@ def refusals():
             yield check("call", name, [it for row in rows for it in refusals_in(row[0], shared)], calls[name])
     for name in UNREFUSED:
         yield check("call", name, [], calls[name])
+    text = (pages.DOCS / "RESIDENT.md").read_text(encoding="utf-8")
+    rows = next(rows for _, head, rows in tables(text) if head == ["Line", "Answer"])
+    yield pinned("lines about servers", len(rows), len(definitions.RESIDENT_LINES))
+    for word, cell in ((CODE.findall(row[0])[0].split()[0], row[1]) for row in rows):
+        found = [it.upper() for it in CODE.findall(cell) if STATUS.fullmatch(it.upper()) and it != "00000000"]
+        wanted = model.of(definitions.RESIDENT_LINES[word])
+        yield f"RESIDENT.md: {word}", [] if found == wanted else [f"the page has {found}, the definition {wanted}"]
     yield pinned("calls", read["call"], CALL_COUNT)
     yield pinned("calls of the definitions", len(calls), CALL_COUNT)
     yield pinned("directives", read["directive"], DIRECTIVE_COUNT)
@@ -148,7 +170,7 @@ def refusals():
 
 def sentences():
     """What the pages say of limits: of each page the sentences, with the numbers of the profile in them."""
-    limit, _ = definitions.profile()
+    limit, status = definitions.profile()
     message, header, handles = limit["MESSAGE_LIMIT"], limit["HEADER_SIZE"], limit["HANDLE_LIMIT"]
     names = definitions.text_of("lpc_names", "specs", "antt")
     path = int(re.search(r"^is_too_long path = nat_lt (\d+) ", names, re.M)[1])
@@ -159,6 +181,8 @@ def sentences():
     lowest, apart, end = (limit[it] for it in ("LOWEST_USER_ADDRESS", "ALLOCATION_GRANULARITY", "USER_ADDRESS_END"))
     sections = f"{limit['SECTION_LIMIT'] // 2**20} MiB"
     line, lines = limit["LINE_LIMIT"], limit["LINES_LIMIT"]
+    words = definitions.text_of("lpc_model", "specs", "antt")
+    highest = re.search(r"^is_id n = nat_le 1 n && nat_le n (\d+)$", words, re.M)[1]
     data = message - header
     services = [
         f"C000002F: its MessageSize is above {message} |",
@@ -214,6 +238,7 @@ def sentences():
         f"| 9 | the line has a byte {line + 1:,} | |",
         f"| 10 | a line {lines + 1:,}: a byte of it,",
         f"| decimal: {message} |",
+        f"| PID, TID | a Number from 1 to {highest};",
         f"the bytes that were read, {memory} at most |",
     ]
     faults = [
@@ -230,11 +255,42 @@ def sentences():
         f"{sections} of a section and of all sections that a process made, {views} views of a process, {memory} bytes "
         f"of one read or write of memory or of request data,",
         f"a view's offset is a multiple of {page},",
-        f"a read or a write is of 1 to {memory} bytes,",
+        f"a read or a write is of 1 to {memory} bytes, all in one view, else {status['INVALID_PARAMETER']} or "
+        f"{status['ACCESS_VIOLATION']} |",
+        f"isn't there is refused with {status['REPLY_MESSAGE_MISMATCH']}, or with {status['INVALID_CID']} where",
+        f"is answered as if it were missing, {status['OBJECT_PATH_NOT_FOUND']} |",
+        f"are {status['INVALID_PARAMETER']}, bytes that no one view of the client holds {status['ACCESS_VIOLATION']};",
         f"a closed port counts among the {ports} |",
         f"A message's limit is {message} bytes for each port.",
     ]
-    return {"SERVICES.md": services, "SCRIPTS.md": scripts, "FAULTS.md": faults, "PROFILE.md": profile}
+    resident = sentences_on_residents()
+    return {
+        "SERVICES.md": services, "SCRIPTS.md": scripts, "FAULTS.md": faults, "PROFILE.md": profile,
+        "RESIDENT.md": resident,
+    }
+
+
+def sentences_on_residents():
+    """What docs/RESIDENT.md says of limits."""
+    limit = definitions.numbers_of("lpc_subsys")
+    words = definitions.text_of("lpc_model", "specs", "antt")
+    text, texts, console = limit["TEXT_LIMIT"], limit["ATOM_LIMIT"], f"{limit['CONSOLE_LIMIT']:,}"
+    written, read, level = limit["WRITE_LIMIT"], limit["READ_LIMIT"], limit["LEVEL_LIMIT"]
+    first, stand = limit["FIRST_ATOM"], re.search(r"^CONNECTION_LIMIT = (\d+)$", words, re.M)[1]
+    return [
+        f"where {stand} of its connections stand, the same with `refuse` |",
+        f"It keeps at most {texts} texts of {text} bytes and a console of {console} bytes for each client.",
+        f"| 1 | a text of 1 to {text} bytes | its atom: 0x{first:04X} for the first text, 0x{first + 1:04X} for the "
+        f"second one, the same for the same text | C0000044: a new text, where the client has {texts} |",
+        f"| 3 | a text of 0 to {written} bytes, which is put into the console | how many bytes stand in the console "
+        f"then | C0000044: they would be more than {console} |",
+        f"the length isn't from 1 to {console}, or the view ends before; then C0000044 as with 3 |",
+        f"| 5 | a place in the console, and a count from 0 to {read} |",
+        f"| C000000D: the count is above {read}, or",
+        f"| 6 | a level up to {level} | nothing | C000000D: the level is above {level} |",
+        f"the last one that was set, {limit['FIRST_LEVEL']} at first |",
+        f"To give more than {written} bytes at once,",
+    ]
 
 
 def limits():
@@ -291,6 +347,47 @@ def worked():
         yield pinned(f"worked tables in {page}", len(found), len(examples))
         for rows, (name, first, last) in zip(found, examples):
             yield f"{page}: {name}, lines {first} to {last}", list(worked_table(rows, name, first, last))
+
+
+def quoted():
+    """The entries that pages show as code, in their tables and in their prose, against the transcripts of examples/."""
+    files = pages.EXAMPLES.rglob("*.transcript")
+    known = {line for it in files for line in it.read_text(encoding="utf-8").splitlines()}
+    for page, count in QUOTED.items():
+        text = re.sub(r"^```.*?^```", "", (pages.DOCS / page).read_text(encoding="utf-8"), flags=re.M | re.S)
+        shown = [it for it in CODE.findall(text) if ENTRY.fullmatch(it)]
+        yield pinned(f"entries in {page}", len(shown), count)
+        others = [it for it in shown if not any(map(shortened(it).fullmatch, known)) and it not in UNMADE]
+        yield f"the entries in {page}", [f"no example tells {it}" for it in others]
+
+
+def stormy():
+    """The rules and lines of docs/STORM.md, against the storms that tests/storms.py makes."""
+    page = (pages.DOCS / "STORM.md").read_text(encoding="utf-8")
+    rows = next(rows for _, head, rows in tables(page) if head == ["Type", "Lines"])
+    draws = f"({storms.FACTOR} x + {storms.SUMMAND}) mod 2^32."
+    yield "STORM.md: how a round draws", [] if draws in page else [f"it doesn't say {draws}"]
+    made = storm_lines()
+    told = {int(kind): CODE.findall(row[1]) for row in rows for kind in row[0].split(",")}
+    # The last type begins as those in front of it do.
+    told[3] = made[1][:2] + told.get(3, [])
+    yield "STORM.md: the lines of a round", [] if told == made else [f"it shows {told}, wanted are {made}"]
+
+
+def storm_lines():
+    """The lines of a round by its type, with letters for what differs: of storms of one round."""
+    made, seed = {}, 0
+    while len(made) < 4:
+        drawn = (seed * storms.FACTOR + storms.SUMMAND) % 2**32
+        client, kind = 1 + drawn // 65_536 % 8, drawn // 16_777_216 % 4
+        client_id = f"r:{100 + client}.{200 + client}."
+        letters = {f"{client_id}2:": "r:P.T.M:", f"{client_id}3:": "r:P.T.M':", f"{drawn:08x}": "X"}
+        letters |= {f"{200 + client} Nt": "T Nt", f"NtReplyPort {4 + 4 * client} ": "NtReplyPort h "}
+        lines = list(storms.rounds(1, seed))
+        for found, letter in letters.items():
+            lines = [it.replace(found, letter) for it in lines]
+        made[kind], seed = lines, seed + 1
+    return made
 
 
 def stated():
@@ -470,7 +567,7 @@ def names_in_code():
 
 def checks():
     """All checks: each with its name and what it found wrong."""
-    for group in (status_names, refusals, limits, worked, stated, proofs, wrong_bodies, names_in_code):
+    for group in (status_names, refusals, limits, worked, quoted, stormy, stated, proofs, wrong_bodies, names_in_code):
         yield from group()
 
 
