@@ -10,14 +10,17 @@
   says, and no more.
 - The scripts that stand in examples/ are worked in the specs, text for text.
 - The scripts and transcripts of the exercises stand in examples/exercises/, and their diagrams are those that the
-  companion tool draws.
+  companion tool draws. The fields of views have in the example what docs/VIEWS.md says.
 - With PROGRAM, each script of docs/FAULTS.md stops at its last line with the kind of its section, or prints the
   transcript that stands behind it, the commands of docs/CHECK_YOUR_OWN.md print what the page shows, and the code of
-  docs/CONVERSATION.md holds the conversation that it is for; the C code is left out where there is no C compiler.
+  docs/CONVERSATION.md holds the conversation that it is for; the C code is left out where there is no C compiler. The
+  lists of docs/SECURITY.md let the client in or not as told there, as many hold the ports of docs/CLOSING.md, and the
+  storms of docs/STORM.md print their lines.
 
 Each check that fails has a line, and the last line is `N passed, M failed`. The exit status is 0 where all passed, 1
 where not, and 64 where PROGRAM can't be run.
 """
+import json
 import os
 import pathlib
 import re
@@ -44,7 +47,18 @@ ESCAPE = re.compile(rb"\\(?:x([0-9A-Fa-f]{2})|(.))")
 ESCAPED = {b"t": b"\t", b"r": b"\r", b"n": b"\n", b"\\": b"\\"}
 # How many checks these groups make, so that what is no longer read is seen. Who adds an example line, an example, an
 # exercise or a script of docs/FAULTS.md changes the number.
-COUNTS = {"examples_of_services": 152, "worked_examples": 24, "exercises": 12, "faults": 70}
+COUNTS = {
+    "version": 2,
+    "manual": 3,
+    "examples_of_services": 152,
+    "worked_examples": 24,
+    "exercises": 12,
+    "fields_of_views": 6,
+    "faults": 70,
+    "access_lists": 6,
+    "pointers": 3,
+    "storm_lines": 2,
+}
 LINKS_AT_LEAST = 200
 
 
@@ -225,6 +239,58 @@ def drawn(script, transcript):
     return subprocess.run(command, stdout=subprocess.PIPE, check=True).stdout.decode()
 
 
+def rows_of(page, *head):
+    """The rows of the table of a page whose head begins so, each with its cells."""
+    lines = (DOCS / page).read_text(encoding="utf-8").split("| " + " | ".join(head) + " |")[1].split("\n\n")[0]
+    return [[it.strip() for it in line.strip("|").split(" | ")] for line in lines.splitlines()[2:]]
+
+
+def fields_of_views():
+    """The table of docs/VIEWS.md on whose base is which field, against the transcript of its example."""
+    transcript = (EXAMPLES / "a-connection-with-views.transcript").read_text(encoding="utf-8")
+    entries = {
+        "the connect's wait": r"^\d+ \d+ NtConnectPort wait.*",
+        "the accept": r"^\d+ \d+ NtAcceptConnectPort 0{8}.*",
+        "the connect's wake": r"^\d+ \*\d+ NtConnectPort 0{8}.*",
+    }
+    for names, entry, _, _, here in rows_of("VIEWS.md", "Field", "In the entry of"):
+        told = re.search(entries[entry], transcript, re.M)[0].split()
+        wanted = [f"{name.strip('`')}={it}" for name, it in zip(names.split(", "), here.strip(" |").split(", "))]
+        missing = [f"{it} isn't in {' '.join(told)}" for it in wanted if it not in told]
+        yield f"VIEWS.md: {names} of {entry}", missing
+
+
+def access_lists(command):
+    """The lists of docs/SECURITY.md, each asked by a connect."""
+    for shown, answer, *_ in rows_of("SECURITY.md", "List"):
+        script = (
+            "token client S-1-5-21-9 S-1-1-0\nboot 20 24\nboot 32 36 client\n"
+            f"24 NtCreatePort \\P {shown.strip('`')}\n36 NtConnectPort \\P - - -\n"
+        ).replace(" none\n", "\n")
+        wanted = f"5 36 NtConnectPort {'wait id=1' if answer == 'goes on' else answer.lower()}"
+        printed = replayed(command, script.encode())[0].splitlines()
+        yield f"SECURITY.md: {shown}", [] if wanted in printed else [f"it is told {printed[-2:]}"]
+
+
+def pointers(command):
+    """How many hold each port in the table of docs/CLOSING.md, against the rows in front of the line that closes one."""
+    script = b"".join((EXAMPLES / "closing-client.script").read_bytes().splitlines(True)[:20])
+    ran = subprocess.run([*command, "states"], input=script, capture_output=True, timeout=60)
+    rows = [json.loads(it) for it in ran.stdout.splitlines() if it.startswith(b"{")]
+    stand = {it["kind"]: it["pointers"] for it in rows if it.get("kind") in ("connection", "server", "client")}
+    for port, *_, count in rows_of("CLOSING.md", "Port", "Held by"):
+        found = stand.get(port.split()[0])
+        yield f"CLOSING.md: who holds the {port}", [] if str(found) == count.strip(" |") else [f"{found} do"]
+
+
+def storm_lines(command):
+    """The lines of the storms of docs/STORM.md."""
+    for words, line in ((it[0].strip("`"), it[1].strip("`| ")) for it in rows_of("STORM.md", "Words", "Line")):
+        ran = subprocess.run([*command, *words.split()], stdout=subprocess.PIPE, timeout=60, text=True)
+        good = (ran.stdout, ran.returncode) == (f"{line}\n", 0)
+        yield f"STORM.md: {words}", [] if good else [f"it prints {ran.stdout}"]
+
+
 def unquoted(text):
     """The text that a string of the specs stands for."""
     return re.sub(r"\\(.)", lambda found: "\n" if found[1] == "n" else found[1], text)
@@ -339,9 +405,9 @@ def counted(group, *given):
 
 def checks(command):
     """All checks: each with its name and what it found wrong."""
-    for group in (links, version, manual, examples_of_services, worked_examples, exercises):
+    for group in (links, version, manual, examples_of_services, worked_examples, exercises, fields_of_views):
         yield from counted(group)
-    for group in (faults, terminals, conversations) if command else ():
+    for group in (faults, terminals, conversations, access_lists, pointers, storm_lines) if command else ():
         yield from counted(group, command)
 
 
