@@ -19,6 +19,8 @@ TOOLS = pathlib.Path(__file__).resolve().parent.parent / "tools"
 sys.path.insert(0, str(TOOLS))
 from ntlpc_tool import program
 
+# How many tests there are, those that are left out too: who adds one changes the number.
+TESTS = 433
 # How the reason ends for which a test is left out where a command of another package is missing.
 NOT_INSTALLED = "isn't installed"
 
@@ -49,6 +51,9 @@ def main(words):
     tests = unittest.defaultTestLoader.discover(str(TOOLS / "tests"))
     result = unittest.TextTestRunner(stream=sys.stdout, verbosity=0, resultclass=Result).run(tests)
     failed = result.failed() + sum(not why.endswith(NOT_INSTALLED) for _, why in result.skipped)
+    if result.testsRun < TESTS:
+        failed += 1
+        print(f"FAILED: {result.testsRun} tests were run, at least {TESTS} are wanted")
     for why in sorted({why for _, why in result.skipped}):
         print(f"left out: {why}")
     print(f"{result.passed} passed, {failed} failed")
