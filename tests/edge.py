@@ -11,6 +11,7 @@
   own. So where a pipe gives a byte at a time, each write is what one line of the script tells, or the last line.
 - Over a file what lines tell is kept back, so one write is made for each 65,536 bytes; what is kept back at the end is
   written then, however the replay ended.
+- Where the system doesn't tell what the input is, nothing is kept back, as over a pipe.
 - A disk that gets full has taken as many bytes as it has room for, also inside what one line tells.
 - Input and output that give or take few bytes at a time change nothing. An input that gives none is at its end, and an
   output that takes none has failed.
@@ -39,7 +40,7 @@ PIECES, USAGE, STORM = 7, b"usage: ntlpc COMMAND [WORDS]\n", ("storm", "2", "0")
 STORM_BEGINS = b"storm lines=58 entries=67 objects=0 replies=1 mismatches=1 sum="
 ERRORS = {it: getattr(errno, it) for it in ("EIO", "EAGAIN", "ENOSPC", "EBADF", "EPIPE", "EINTR")}
 # How many checks there are of a program that is right: who adds one, or alters an example, changes the number.
-CHECKS = 1_940
+CHECKS = 1_970
 # The most that is read at once, and the most that is kept back where the input is a file.
 PIECE, MOST_KEPT = 4_096, 65_536
 # An input that is a pipe and gives a byte at a time.
@@ -162,6 +163,12 @@ def writes_by_line(program, it):
     """Each write fails in turn, of a pipe that gives a byte at a time: what a line tells is written before more is
     read."""
     yield from writes(program, it, it.pieces(), **BYTE_BY_BYTE)
+
+
+def writes_of_unknown(program, it):
+    """Each write fails in turn, of a file that gives a byte at a time, of which the system doesn't tell what it is."""
+    for error in errno.ENOENT, errno.EACCES:
+        yield from writes(program, it, it.pieces(), READ_PIECE=1, FAIL_STAT=error)
 
 
 def writes_by_block(program, it):
@@ -308,6 +315,7 @@ def checks(program):
     for it in smallest, faulty:
         yield from writes_by_line(program, it)
         yield from writes_by_block(program, it)
+    yield from writes_of_unknown(program, smallest)
     yield from writes_in_parts(program, smallest, 5)
     for piped in False, True:
         yield from writes_of_all(program, smallest, piped=piped)

@@ -7,6 +7,7 @@
  *   FAIL_ERROR      the error of a read or write that fails; EIO where it is missing
  *   READ_PIECE, WRITE_PIECE  how many bytes a read gives or a write takes at most
  *   WRITE_ROOM      how many bytes the output takes in all, as a disk that gets full
+ *   FAIL_STAT       the error of each question what a file is; none where it is missing or 0
  *
  * The names behind `malloc` are those of the GNU C library. */
 #define _GNU_SOURCE
@@ -16,6 +17,7 @@
 #include <stdint.h>
 #include <stdlib.h>
 #include <sys/mman.h>
+#include <sys/stat.h>
 #include <sys/syscall.h>
 #include <sys/uio.h>
 #include <unistd.h>
@@ -29,7 +31,7 @@ extern void *__libc_memalign(size_t, size_t);
 
 static uint64_t nowhere[KINDS];
 static uint64_t *counts = nowhere;
-static uint64_t failing[KINDS], error_number = EIO, fails_on, room = UINT64_MAX;
+static uint64_t failing[KINDS], error_number = EIO, fails_on, stat_error, room = UINT64_MAX;
 static uint64_t piece[KINDS] = {UINT64_MAX, UINT64_MAX, UINT64_MAX};
 
 static uint64_t number(const char *name, uint64_t otherwise) {
@@ -54,6 +56,7 @@ __attribute__((constructor)) static void begin(void) {
     piece[READ] = number("READ_PIECE", UINT64_MAX);
     piece[WRITE] = number("WRITE_PIECE", UINT64_MAX);
     room = number("WRITE_ROOM", UINT64_MAX);
+    stat_error = number("FAIL_STAT", 0);
 }
 
 /* Counts a call, and tells whether it is to fail. */
@@ -102,6 +105,12 @@ static ssize_t failed(uint64_t error) {
 
 static size_t least(size_t one, uint64_t other) {
     return one < other ? one : (size_t)other;
+}
+
+int statx(int folder, const char *path, int flags, unsigned mask, struct statx *into) {
+    if (stat_error)
+        return (int)failed(stat_error);
+    return (int)syscall(SYS_statx, folder, path, flags, mask, into);
 }
 
 ssize_t read(int file, void *into, size_t size) {
