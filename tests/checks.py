@@ -565,8 +565,8 @@ def grown(check, cost):
 
 
 def growths():
-    """What tests/program.py says of growth, over costs that are made up: by the lines, by their square, by the lines and
-    the rows that stand, which are made by the first lines of a script."""
+    """What tests/program.py says of growth, over costs that are made up: by the lines, by their square, by the lines
+    and the rows that stand, which are made by the first lines of a script."""
     script, rows = program.bench.requests, program.bench.processes
     standing = next(rows(1))
     ways = {
@@ -616,7 +616,7 @@ GROUPS = {
 
 
 def checks():
-    """All checks: each with its name and what finds out what is wrong; and that each group makes as many as there are."""
+    """All checks: each with its name and what finds out what is wrong; and that each group makes as many."""
     for group, least in GROUPS.items():
         count = 0
         for check in group():

@@ -273,7 +273,7 @@ def access_lists(command):
 
 
 def pointers(command):
-    """How many hold each port in the table of docs/CLOSING.md, against the rows in front of the line that closes one."""
+    """How many hold each port in the table of docs/CLOSING.md, against the rows in front of the line that closes."""
     script = b"".join((EXAMPLES / "closing-client.script").read_bytes().splitlines(True)[:20])
     ran = subprocess.run([*command, "states"], input=script, capture_output=True, timeout=60)
     rows = [json.loads(it) for it in ran.stdout.splitlines() if it.startswith(b"{")]
