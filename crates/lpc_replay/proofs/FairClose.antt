@@ -1,20 +1,22 @@
 -- What NtClose tells is right: connects end by the closing of the port that they are to, or of an end of their
 -- connection.
-use Rattle.std.proofs.Common.{All, Bool, List, [], arith, false, inl, refl, suc, true, ℕ, ◌++◌, ◌∷◌, ◌≡◌}
+use Rattle.std.proofs.Common.{All, Bool, List, [], arith, false, inl, refl, suc, true, ℕ, ◌++◌, ◌∙◌, ◌∷◌, ◌≡◌, ◌≤◌}
 use Rattle.std.specs.List.{AllByRecursion}
 use Rattle.std.specs.Prelude.{Contains, Ok, Some, ◌&&◌, ◌||◌}
 use Rattle.std.proofs.lemmas.List.Elements.{All-contains_itself}
-use Rattle.lpc_base.specs.Rows.{when}
-use Rattle.lpc_base.specs.declared.status.TheConstants.{PORT_CONNECTION_REFUSED}
-use Rattle.lpc_model.specs.Basics.{DropsHandle}
+use Rattle.lpc_base.specs.Rows.{count, when}
+use Rattle.lpc_base.specs.declared.status.TheConstants.{INVALID_HANDLE, PORT_CONNECTION_REFUSED}
+use Rattle.lpc_model.specs.Basics.{DropsHandle, basic}
 use Rattle.lpc_model.specs.Close.{close_handle, close_port, is_accepted_across, is_across, is_last, is_offered_to, nt_close}
+use Rattle.lpc_model.specs.Closings.{shuts}
 use Rattle.lpc_model.specs.Fields.{info}
 use Rattle.lpc_base.specs.declared.birth.Birth.{Birth}
-use Rattle.lpc_model.specs.Found.{is_accepted, is_connect, is_made_on, is_offered, live_thread, same_birth}
+use Rattle.lpc_model.specs.Found.{handle_at, is_accepted, is_connect, is_made_on, is_offered, is_table, live_thread, same_birth}
 use Rattle.lpc_model.specs.Lines.{ScriptLine, close, run}
 use Rattle.lpc_model.specs.Tests.{own_handle}
 use Rattle.lpc_model.specs.World.{HandleRow, ThreadRow, WaitRow, World}
-use Rattle.lpc_model.proofs.Calls.Holding.{Holds, bind_holds}
+use Rattle.lpc_model.proofs.Calls.Holding.{Holds, bind_holds, found_ok}
+use Rattle.lpc_model.proofs.Sound.Close.{found-value, last-shuts}
 use Rattle.lpc_replay.specs.Connects.{IsAnsweredBy, IsClosedBy}
 use Rattle.lpc_replay.proofs.Fair.{AreFair, HasItsCall, HaveTheirCalls, IsFair, connect_wakes}
 use Rattle.lpc_replay.proofs.FairClosing.{HasRefusal, Knows, port_on}
@@ -53,7 +55,7 @@ connect_ends w b x is = parts (is_offered x) (same_birth x.queue b) (is_accepted
     parts o s a m is = grind arith
 
 module _ (w : World) (tid : ℕ) (by : ThreadRow) (handle : ℕ) (r : HandleRow) (live : live_thread w tid ≡ Some by)
-    (names : own_handle w by handle ≡ Ok r) (last : is_last r w ≡ true) where
+    (names : own_handle w by handle ≡ Ok r) (last : shuts w (basic w (DropsHandle by.process r.value)) r ≡ true) where
   connect_right : (x : WaitRow) → IsKnown w x → (is_offered_to r.object.birth x || is_accepted_across r.object.birth w x) ≡ true → HasRefusal w (run tid (close handle)) x
   connect_right x k is =
       let closed : IsClosedBy w tid handle x.thread PORT_CONNECTION_REFUSED (info [] ∷ []) = record {
@@ -77,14 +79,17 @@ module _ (w : World) (tid : ℕ) (by : ThreadRow) (handle : ℕ) (r : HandleRow)
       (λ x k is. connect_right x k (grind (arith, is)))
       (λ x k is. connect_right x k (grind (arith, is))) w (knows_first w h)
 
-handle_fair : (w : World) (tid : ℕ) (by : ThreadRow) (handle : ℕ) (r : HandleRow) → live_thread w tid ≡ Some by → own_handle w by handle ≡ Ok r → HaveTheirCalls w → AreFair w (run tid (close handle)) (close_handle by.process r w)
-handle_fair w tid by handle r live names h = at (is_last r w) refl
+handle_fair : (w : World) (tid : ℕ) (by : ThreadRow) (handle : ℕ) (r : HandleRow) → count (is_table by.process) w.handles ≤ 1 → live_thread w tid ≡ Some by → own_handle w by handle ≡ Ok r → HaveTheirCalls w → AreFair w (run tid (close handle)) (close_handle by.process r w)
+handle_fair w tid by handle r one live names h = at (is_last r w) refl
   where
+    shuts_with : shuts w (basic w (DropsHandle by.process r.value)) r ≡ is_last r w
+    shuts_with = last-shuts w by.process r one (found-value w by.process handle r (found_ok (handle_at w by.process handle) INVALID_HANDLE r names))
+
     at : (last : Bool) → is_last r w ≡ last → AreFair w (run tid (close handle)) (when last (close_port r.object.birth w) ++ DropsHandle by.process r.value ∷ [])
-    at true last = all_append (IsFair w (run tid (close handle))) (close_port r.object.birth w) (DropsHandle by.process r.value ∷ []) (port_fair w tid by handle r live names last h) (tt, tt)
+    at true last = all_append (IsFair w (run tid (close handle))) (close_port r.object.birth w) (DropsHandle by.process r.value ∷ []) (port_fair w tid by handle r live names (shuts_with ∙ last) h) (tt, tt)
     at false last = (tt, tt)
 
-pub close_fair : (w : World) (tid : ℕ) (by : ThreadRow) (handle : ℕ) → live_thread w tid ≡ Some by → HaveTheirCalls w → Holds (AreFair w (run tid (close handle))) (nt_close w by handle)
+pub close_fair : (w : World) (tid : ℕ) (by : ThreadRow) (handle : ℕ) → count (is_table by.process) w.handles ≤ 1 → live_thread w tid ≡ Some by → HaveTheirCalls w → Holds (AreFair w (run tid (close handle))) (nt_close w by handle)
 unfolding nt_close
-close_fair w tid by handle live h =
-    bind_holds (own_handle w by handle) _ (AreFair w (run tid (close handle))) (λ r at. ((tt, tt), handle_fair w tid by handle r live at h))
+close_fair w tid by handle one live h =
+    bind_holds (own_handle w by handle) _ (AreFair w (run tid (close handle))) (λ r at. ((tt, tt), handle_fair w tid by handle r one live at h))

@@ -12,11 +12,12 @@ use Rattle.lpc_model.specs.declared.entry.Entry.TheVariants.{Answer, Wakes}
 use Rattle.lpc_model.specs.declared.entry.Field.{Field}
 use Rattle.lpc_model.specs.declared.line.ProcArg.{ProcArg}
 use Rattle.lpc_model.specs.World.{HandleRow, ProcessRow, ThreadRow, WaitRow, World}
-use Rattle.lpc_model.specs.Basics.{world_after}
+use Rattle.lpc_model.specs.Basics.{DropsHandle, basic, world_after}
 use Rattle.lpc_model.specs.Found.{free_handle, has_handle_to, is_open, is_table, is_thread, live_thread, lives_in}
 use Rattle.lpc_model.specs.Fields.{completion_fields, info}
 use Rattle.lpc_model.specs.Lines.{ScriptCall, ScriptLine, accept_connect_port, close, complete_connect_port, run, terminate_process, terminate_thread}
-use Rattle.lpc_model.specs.Close.{is_accepted_across, is_last, is_offered_to}
+use Rattle.lpc_model.specs.Close.{is_accepted_across, is_offered_to}
+use Rattle.lpc_model.specs.Closings.{shuts}
 use Rattle.lpc_model.specs.Tests.{own_handle}
 use Rattle.lpc_model.specs.Connect.{Completable, ConnectAnswer, acceptance_of, answer_test, complete_test}
 use Rattle.lpc_model.specs.Targets.{process_target, thread_target}
@@ -48,16 +49,16 @@ pub record IsRefusedBy (w : World) (by : ℕ) (bytes : List ℕ) (tid : ℕ) (st
   pub refuses : status ≡ PORT_CONNECTION_REFUSED
   pub shows : fields ≡ info found.message.body ∷ []
 
--- A closing wakes the thread: the call's handle is the last one of a port. The thread's connect isn't accepted and is
--- to that port, or it is accepted and its connection isn't completed, and the port is an end of it. The thread is told
--- no data.
+-- A closing wakes the thread: the call's handle is the last one of a port, which is open before that handle goes, and
+-- isn't behind it. The thread's connect isn't accepted and is to that port, or it is accepted and its connection isn't
+-- completed, and the port is an end of it. The thread is told no data.
 pub record IsClosedBy (w : World) (by handle tid : ℕ) (status : Status) (fields : List Field) : Type 0 where
   pub caller : ThreadRow
   pub row : HandleRow
   pub wait : WaitRow
   pub calls : live_thread w by ≡ Some caller
   pub names : own_handle w caller handle ≡ Ok row
-  pub last : is_last row w ≡ true
+  pub last : shuts w (basic w (DropsHandle caller.process row.value)) row ≡ true
   pub waits : Contains w.waits wait
   pub ends : (is_offered_to row.object.birth wait || is_accepted_across row.object.birth w wait) ≡ true
   pub its_wait : wait.thread ≡ tid
