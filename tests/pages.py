@@ -11,6 +11,9 @@
 - The scripts that stand in examples/ are worked in the specs, text for text.
 - The scripts and transcripts of the exercises stand in examples/exercises/, and their diagrams are those that the
   companion tool draws. The fields of views have in the example what docs/VIEWS.md says.
+- The steps of docs/CLOSING.md and docs/ENDINGS.md are those of docs/SERVICES.md, and what docs/ENDINGS.md tells of
+  waits is that of its example. The tables of processes have those of their examples, with their threads and tokens.
+- The messages that pages draw, and the one whose bytes docs/CONNECTIONS.md tells, are those of their examples.
 - With PROGRAM, each script of docs/FAULTS.md stops at its last line with the kind of its section, or prints the
   transcript that stands behind it, the commands of docs/CHECK_YOUR_OWN.md print what the page shows, and the code of
   docs/CONVERSATION.md holds the conversation that it is for; the C code is left out where there is no C compiler. The
@@ -34,9 +37,15 @@ from failing import compiler
 from tally import tally
 
 ROOT = pathlib.Path(__file__).resolve().parent.parent
+sys.path.insert(0, str(ROOT / "tools"))
+from ntlpc_tool import message
+from ntlpc_tool.pages import tables
+
 DOCS = ROOT / "docs"
 PAGES = [*sorted(ROOT.glob("*.md")), *sorted(DOCS.glob("*.md"))]
 EXAMPLES = ROOT / "examples"
+CODE = re.compile(r"`([^`]*)`")
+STATUS = re.compile(r"\b[0-9A-F]{8}\b")
 LINK = re.compile(r"\[[^\]]*\]\(([^)\s]+)\)")
 DEFINED = re.compile(r"\[([^\]]+)\]: (\S+)")
 EXAMPLE = re.compile(r"\| `(\d+) ([^`]*)`.* \[([\w-]+)\] \| (.*) \|")
@@ -45,6 +54,23 @@ ELSEWHERE = re.compile(r"[a-z]+:", re.I)
 COMMAND = re.compile(r"^\$ (.*)\n((?:(?!\$ ).*\n)*)", re.M)
 ESCAPE = re.compile(rb"\\(?:x([0-9A-Fa-f]{2})|(.))")
 ESCAPED = {b"t": b"\t", b"r": b"\r", b"n": b"\n", b"\\": b"\\"}
+# A message that is drawn: its type, its client and identifier, and its context, or the chance of an event. The examples
+# of the pages that have some, and how many.
+DRAWN = re.compile(r"(\d), (\d+\.\d+\.\d+), (chance|context) (\d+)")
+DRAWN_MESSAGES = {"EXCEPTIONS.md": ("a-debugger-and-its-child", 3), "ENDINGS.md": ("clients-that-die", 2)}
+# The examples of the tables of processes, and how a line makes a process: by which thread, and with which token.
+PROCESSES = {
+    "CONNECTIONS.md": "connect-and-ask",
+    "EXCEPTIONS.md": "a-debugger-that-ends",
+    "SECURITY.md": "a-server-that-acts-for-its-client",
+}
+MADE = re.compile(r"(?:boot|(\d+) NtCreateProcess) (\d+) (\d+)(?: (\w+))?")
+# An entry of a call: its line, its mark, its thread, its call and its status, or that it waits, with an identifier.
+CALLED = re.compile(r"(\d+) ([*~]?)(\d+) (\w+) (wait|[0-9a-f]{8})(?: id=(\d+))?")
+# What docs/ENDINGS.md calls the waits of what was sent.
+SENT = {"a request": "NtRequestWaitReplyPort", "a connect": "NtConnectPort"}
+# The steps of these pages: the part of docs/SERVICES.md that has them, and how many.
+STEPS = {"CLOSING.md": ("Closing a port", 7), "ENDINGS.md": ("Threads and processes that end", 4)}
 # How many checks these groups make, so that what is no longer read is seen. Who adds an example line, an example, an
 # exercise or a script of docs/FAULTS.md changes the number.
 COUNTS = {
@@ -54,6 +80,9 @@ COUNTS = {
     "worked_examples": 24,
     "exercises": 12,
     "fields_of_views": 6,
+    "processes": 15,
+    "endings": 8,
+    "drawings": 11,
     "faults": 70,
     "access_lists": 6,
     "pointers": 3,
@@ -245,6 +274,20 @@ def rows_of(page, *head):
     return [[it.strip() for it in line.strip("|").split(" | ")] for line in lines.splitlines()[2:]]
 
 
+def said(wanted):
+    """The checks that pages have these sentences."""
+    for page, told in wanted.items():
+        text = " ".join((DOCS / page).read_text(encoding="utf-8").split())
+        for sentence in told:
+            yield f"{page}: {sentence}", [] if sentence in text else ["the page doesn't say so"]
+
+
+def table_of(page, *head):
+    """The rows of the table of a page whose head begins so."""
+    text = (DOCS / page).read_text(encoding="utf-8")
+    return next(rows for _, found, rows in tables(text) if found[: len(head)] == list(head))
+
+
 def fields_of_views():
     """The table of docs/VIEWS.md on whose base is which field, against the transcript of its example."""
     transcript = (EXAMPLES / "a-connection-with-views.transcript").read_text(encoding="utf-8")
@@ -258,6 +301,122 @@ def fields_of_views():
         wanted = [f"{name.strip('`')}={it}" for name, it in zip(names.split(", "), here.strip(" |").split(", "))]
         missing = [f"{it} isn't in {' '.join(told)}" for it in wanted if it not in told]
         yield f"VIEWS.md: {names} of {entry}", missing
+
+
+def example(name):
+    """The lines of the script and of the transcript of an example."""
+    files = (EXAMPLES / f"{name}.{it}" for it in ("script", "transcript"))
+    return [it.read_text(encoding="utf-8").splitlines() for it in files]
+
+
+def debuggers(script, transcript):
+    """The process that each process of an example has as its debugger: its maker, where that sets its debug port."""
+    made = [MADE.fullmatch(it) for it in script]
+    process_of = {it[3]: it[2] for it in made if it}
+    for line, it in enumerate(made, 1):
+        if it and it[1]:
+            (handle,) = (re.search(r" h=(\d+)", entry)[1] for entry in transcript if entry.startswith(f"{line} "))
+            if any(other.startswith(f"{it[1]} NtSetInformationProcess {handle} 7 ") for other in script):
+                yield it[2], process_of[it[1]]
+
+
+def processes():
+    """The tables of processes: of each its first thread, and its token or its debugger where the page has that."""
+    for page, name in PROCESSES.items():
+        script, transcript = example(name)
+        users = dict(words.split()[1:3] for words in script if words.startswith("token "))
+        made = {it[2]: it.groups() for it in map(MADE.fullmatch, script) if it}
+        debugged, rows = dict(debuggers(script, transcript)), table_of(page, "Process", "Thread")
+        told = sorted(re.match(r"\d+", row[0])[0] for row in rows)
+        yield f"{page}: the processes", [] if told == sorted(made) else [f"{told}, wanted are {sorted(made)}"]
+        for process, thread, *others in rows:
+            number = re.match(r"\d+", process)[0]
+            _, _, first, token = made.get(number, (None,) * 4)
+            pairs = re.findall(r"(\d+) \((0x\w+)\)", process + thread)
+            wrong = [f"{digits} isn't {it}" for it, digits in pairs if int(digits, 16) != int(it)]
+            wrong += [f"its thread is {first}"] * (re.match(r"\d+", thread)[0] != first)
+            if page == "SECURITY.md" and token:
+                wrong += [f"its token is {token}"] * (CODE.findall(others[0]) != [token, users[token]])
+            if page == "EXCEPTIONS.md":
+                debugger = debugged.get(number, "nobody")
+                wrong += [f"its debugger is {debugger}"] * (others[-1] != debugger)
+            yield f"{page}: process {process}", wrong
+
+
+def died_waiting(name):
+    """Of each thread that dies in a wait in an example: its line, itself, its call, and what became of what it sent."""
+    (script, transcript), waiting, state = example(name), {}, {}
+    for entry in filter(None, map(CALLED.match, transcript)):
+        line, mark, thread, call, told, identifier = entry.groups()
+        if mark == "~" and thread in waiting:
+            yield int(line), thread, waiting[thread][0], state[thread, waiting[thread][1]]
+        if mark:
+            waiting.pop(thread, None)
+        elif told == "wait":
+            waiting[thread], state[thread, identifier] = (call, identifier), "queued"
+        shown = re.search(r" msg=(\w+)$", entry.string)
+        if shown:
+            it = message.Message.read(bytes.fromhex(shown[1]))
+            state[str(it.thread), str(it.message_id)] = "received"
+        accepted = re.search(r" r:\d+\.(\d+)\.(\d+):\w* accept ", script[int(line) - 1])
+        if accepted and told == "00000000":
+            state[accepted.groups()] = "accepted"
+
+
+def endings():
+    """What docs/ENDINGS.md tells of waits, against its example, and the steps there and in docs/CLOSING.md, against
+    docs/SERVICES.md."""
+    died, transcript = list(died_waiting("clients-that-die")), example("clients-that-die")[1]
+    told, wait = {}, ""
+    for first, state, left, lines in table_of("ENDINGS.md", "The thread waits in", "State"):
+        wait, numbers = first or wait, re.findall(r"^\d+|(?<=, )\d+", lines)
+        if wait in SENT and numbers:
+            told[SENT[wait], state] = int(numbers[0])
+            entries = [it for it in transcript if it.split()[0] in numbers]
+            missing = [it for it in STATUS.findall(left) if not any(it.lower() in entry for entry in entries)]
+            yield f"ENDINGS.md: {wait}, {state}", [f"none of its lines tells {it}" for it in missing]
+    wanted = {(call, state): line for line, _, call, state in died if call in SENT.values()}
+    yield "ENDINGS.md: what becomes of a wait", [] if told == wanted else [f"it tells {told}, wanted are {wanted}"]
+    _, thread, _, state = died[0]
+    other = {"queued": "received", "received": "queued"}[state]
+    yield from said({"ENDINGS.md": [
+        f"| waits | {thread} waits in a request, which was {state} | the wait goes without a wake. Had the request "
+        f"still been {other}, it would leave the queue |",
+    ]})
+    services = (DOCS / "SERVICES.md").read_text(encoding="utf-8")
+    for page, (part, count) in STEPS.items():
+        rows = next(rows for heading, head, rows in tables(services) if (heading, head[0]) == (part, "Step"))
+        wanted = re.findall(r"^\d+\. (.*)$", "\n".join(row[0] for row in rows), re.M)[:count]
+        told = [row[0] for row in table_of(page, "Step")]
+        yield f"the steps of {page}", [] if told == wanted else [f"it tells {told}, wanted are {wanted}"]
+
+
+def messages_of(name):
+    """What the messages that an example shows tell, as pages draw them: each with its context, of an event also with
+    its chance."""
+    for context, digits in re.findall(r" ctx=(\w+) msg=(\w+)$", "\n".join(example(name)[1]), re.M):
+        it = message.Message.read(bytes.fromhex(digits))
+        front = str(it.type), f"{it.process}.{it.thread}.{it.message_id}"
+        yield *front, "context", str(int(context, 16))
+        if it.raised():
+            yield *front, "chance", str(it.raised()[1])
+
+
+def drawings():
+    """The messages that pages draw, in their order, and the bytes of one in docs/CONNECTIONS.md, against examples."""
+    for page, (name, count) in DRAWN_MESSAGES.items():
+        told = [found for block in blocks_of(DOCS / page) for found in DRAWN.findall(block.text)]
+        wanted = [it for it in messages_of(name) if it in told]
+        good = told == wanted and len(told) == count
+        yield f"the {count} messages that {page} draws", [] if good else [f"{told}, the example has {wanted}"]
+    rows = table_of("CONNECTIONS.md", "Bytes", "Field")
+    (entry,) = (it for it in example("connect-and-ask")[1] if it.startswith("16 "))
+    digits = "".join(part for row in rows for part in CODE.findall(row[0]))
+    yield "CONNECTIONS.md: the bytes", [] if entry.endswith(f" msg={digits}") else [f"{digits}, wanted are {entry}"]
+    for parts, field, value in rows:
+        wanted = [int.from_bytes(bytes.fromhex(it), "little") for it in CODE.findall(parts)]
+        told = [int(it) for it in re.findall(r"\d+", value.partition(";")[0])]
+        yield f"CONNECTIONS.md: {field}", [] if told in ([], wanted) else [f"it is told as {told}, it is {wanted}"]
 
 
 def access_lists(command):
@@ -406,6 +565,8 @@ def counted(group, *given):
 def checks(command):
     """All checks: each with its name and what it found wrong."""
     for group in (links, version, manual, examples_of_services, worked_examples, exercises, fields_of_views):
+        yield from counted(group)
+    for group in (processes, endings, drawings):
         yield from counted(group)
     for group in (faults, terminals, conversations, access_lists, pointers, storm_lines) if command else ():
         yield from counted(group, command)
