@@ -1,5 +1,5 @@
 """What the definitions and contracts below crates/ say, as far as tests hold pages against it: limits, statuses, the
-refusals of each service in their order, and the names of clauses."""
+refusals of each service in their order, types, faults, levels and chances, and the names of clauses."""
 import math
 import pathlib
 import re
@@ -87,6 +87,75 @@ class Refusals:
         """The numbers of all statuses that a definition of the model names, and those of the name space's faults."""
         words = set(re.findall(r"\w+", "\n".join(text for _, text in self.bodies.values())))
         return {self.statuses[it] for it in words & set(self.statuses)} | set(self.faults.values())
+
+
+def message_types():
+    """The numbers of the types of messages by their names, `PORT_CLOSED`, and the names of those that the model has, in
+    the order of their numbers."""
+    numbers = numbers_of("lpc_message")
+    words = set(re.findall(r"\w+", "\n".join(text for _, text in bodies("lpc_model").values())))
+    return numbers, sorted(words & set(numbers), key=numbers.get)
+
+
+def fault_kinds():
+    """The numbers of the kinds of faults by their names, `Long`."""
+    found = re.findall(r"^kind_number fault\.(\w+) = (\d+)$", text_of("lpc_model", "specs", "antt"), re.M)
+    return {name: int(number) for name, number in found}
+
+
+class Levels:
+    """The levels at which a server may act as its client, by their names, and what the definitions make of them."""
+
+    def __init__(self):
+        found = re.findall(r"^pub const (\w+): Level = (\d+);$", text_of("lpc_tokens", "src", "rt"), re.M)
+        self.numbers = {name: int(number) for name, number in found}
+        self.words, self.statuses = text_of("lpc_model", "specs", "antt"), profile()[1]
+        tokens = text_of("lpc_tokens", "specs", "antt")
+        own = re.search(r"^counts_as token = unwrap_or token\.level (\w+)$", tokens, re.M)
+        self.of_processes, self.most = self.numbers[own[1]], self._named(r"nat_lt (\w+) level\) fault")[0]
+        # As which level one can't be known, and below which one connects nowhere, with what is answered.
+        self.unknown, self.unknown_status = self._named(r"own\.level == (\w+)\) (\w+)$")
+        self.connecting, self.connecting_status = self._named(r"nat_lt \(counts_as .*\) (\w+)\) (\w+)$")
+        default = re.search(r"^default_quality = record { level = (\w+); tracking = (\w+) }$", self.words, re.M)
+        self.default, self.tracking = self.numbers[default[1]], default[2].lower()
+
+    def _named(self, pattern):
+        """The level that a definition names, and the status where it names one."""
+        level, *status = re.search(pattern, self.words, re.M).groups()
+        return self.numbers[level], *(self.statuses[it] for it in status)
+
+
+class Chances:
+    """The chances of an exception: their order, and of each its port and what its event shows."""
+
+    def __init__(self):
+        self.bodies, self.types = bodies("lpc_model"), numbers_of("lpc_message")
+        start = re.search(r"\((from_\w+) ", self.bodies["raise_exception"][1])[1]
+        # In between the word of the frame handlers, `Handled`.
+        self.order = self._from(start)
+        behind = re.findall(r"^behind_chance w pid handled (\w+) = (\w+)", self.bodies["behind_chance"][1], re.M)
+        self.behind = {chance: self._from(name) for chance, name in behind}
+
+    def _from(self, name):
+        """What comes from a definition on, until nothing handles the exception."""
+        if name not in self.bodies:
+            return []
+        pattern = r"(?:hearing_at w pid|if handled then) (\w+)\W+(?:else )?(\w+)"
+        first, then = re.search(pattern, self.bodies[name][1]).groups()
+        return [first, *self._from(then)]
+
+    def _case(self, name, chance):
+        """What a definition by cases gives for a chance."""
+        cases = dict(re.findall(r"^  \| (\w+) ↦ ([\w.]+)$", self.bodies[name][1], re.M))
+        return cases.get(chance, cases["_"])
+
+    def port(self, chance):
+        """The port that is asked, as `debug port`."""
+        return self._case("event_port", chance).removeprefix("p.").replace("_", " ")
+
+    def event(self, chance):
+        """The type of the event, and the number of the chance in it."""
+        return self.types[self._case("event_kind", chance)], int(self._case("chance_number", chance))
 
 
 def once(found):

@@ -9,9 +9,13 @@
   several calls share.
 - The answers about servers in docs/RESIDENT.md stand in the order of their definitions.
 - Each limit that the pages name is that of the profile, and docs/SERVICES.md names no number that isn't one.
+- The kinds of faults and the types of messages have in the pages, and the types in the tools, the numbers of the
+  definitions. So have the levels at which a server acts, with the one that goes without saying.
+- The chances of an exception stand in docs/EXCEPTIONS.md and docs/SERVICES.md as the definitions have them: their
+  order, their ports, and what their events show.
 - The worked tables of README.md, docs/CONNECTIONS.md, docs/EXCEPTIONS.md, docs/SECURITY.md and docs/VIEWS.md have the
   lines of the scripts and transcripts in examples/.
-- Each entry that the pages of walks through an example show as code is told in a transcript of examples/.
+- Each entry that the pages of walks through an example show as code, or draw, is told in a transcript of examples/.
 - docs/STORM.md draws rounds, and shows their lines, as tests/storms.py makes them.
 - docs/STATES.md shows all that some lines of its example tell, in their order, and has each key that the definitions
   print, and no other.
@@ -25,6 +29,7 @@
 How many rows each of these reads is pinned here, so that a table that isn't read is seen. Each check that fails has a
 line, and the last line is `N passed, M failed`. The exit status is 0 where all passed, 1 where not.
 """
+import itertools
 import re
 import sys
 
@@ -32,15 +37,14 @@ sys.dont_write_bytecode = True
 import definitions
 import pages
 import storms
+from pages import CODE, STATUS, said, table_of
 from tally import tally
 
 sys.path.insert(0, str(pages.ROOT / "tools"))
-from ntlpc_tool import statuses
+from ntlpc_tool import message, statuses
 from ntlpc_tool.pages import tables
 
 SERVICES = (pages.DOCS / "SERVICES.md").read_text(encoding="utf-8")
-STATUS = re.compile(r"\b[0-9A-F]{8}\b")
-CODE = re.compile(r"`([^`]*)`")
 # How many there are: who adds one changes the number.
 STATUS_COUNT, SHARED_COUNT, CALL_COUNT, DIRECTIVE_COUNT, LIMIT_COUNT = 31, 5, 31, 7, 9
 WORKED_ROWS = {
@@ -61,6 +65,12 @@ QUOTED = {
     "VIEWS.md": 21,
 }
 UNMADE = ("26 ~36 died c0000094",)
+# An entry behind the lines of a drawing, of which that may show no more than its call, and how many these pages have.
+DRAWN_ENTRY = re.compile(rf"(?:^| )({ENTRY.pattern}|\d+ [*~]?\d+ \w+ \.\.)$")
+DRAWN_ENTRIES = {"ENDINGS.md": 8, "EXCEPTIONS.md": 9}
+# Who hears of an exception at a port, and what a port may have.
+HEARS = {"debug port": "the debugger", "exception port": "the server"}
+WAYS = ("has a way", "has none")
 # What docs/STATES.md shows of its example, and how many keys the rows have.
 STATED = "exercises/07-a-connection"
 STATED_ROWS, KEY_COUNT = 23, 66
@@ -295,10 +305,7 @@ def sentences_on_residents():
 
 def limits():
     """The sentences on limits; and that no further number stands in the prose of SERVICES.md that may be one."""
-    for page, wanted in sentences().items():
-        text = " ".join((pages.DOCS / page).read_text(encoding="utf-8").split())
-        for sentence in wanted:
-            yield f"{page}: {sentence}", [] if sentence in text else ["the page doesn't say so"]
+    yield from said(sentences())
     rows = next(rows for heading, _, rows in tables(SERVICES) if heading == "Limits")
     yield pinned("rows of limits", len(rows), LIMIT_COUNT)
     prose = (line for line in pages.prose_of(pages.DOCS / "SERVICES.md") if not re.match(r"\| `\d", line))
@@ -309,6 +316,184 @@ def limits():
     # The number of a message's type, in the table of what the machine writes over.
     others = [it for it in re.findall(r"\b\d{2,}", " ".join(text)) if it != "10"]
     yield "SERVICES.md has no further limit", [] if len(others) == known else [f"{len(others)} numbers, not {known}"]
+
+
+def listed(words):
+    """Words in a row, the last one behind an `and`."""
+    *front, last = map(str, words)
+    return f"{', '.join(front)} and {last}"
+
+
+def fault_kinds():
+    """The numbers of the kinds of faults: the order in which a line's are looked for, and what `stop` prints."""
+    kind, lines = definitions.fault_kinds(), definitions.profile()[0]["LINES_LIMIT"]
+    numbers = [str(it) for it in sorted(kind.values())]
+    parts = ", ".join(str(kind[it]) for it in ("Word", "Number", "Hex", "Message", "Sid"))
+    scripts = [
+        f"1. the line's number (kind {kind['Lines']}), then its length ({kind['Long']}); both",
+        f"2. all its bytes ({kind['Byte']}),",
+        f"a thread's number that is out of form or range ({kind['Number']}), or a word that is no directive "
+        f"({kind['Word']});",
+        f"4. for a call, its name: missing ({kind['Count']}) or none ({kind['Call']});",
+        f"5. the count of words ({kind['Count']});",
+        f"of each its form, then its parts from left to right ({parts}).",
+        f"has the fault of its second entry, kind {kind['Word']}.",
+    ]
+    ends = [f"prints `stop 1 {kind['Long']}`.", f"prints `stop {lines + 1} {kind['Lines']}`."]
+    profile = [f"a call among them is a faulty line of kind {kind['Call']}."]
+    yield from said({"SCRIPTS.md": scripts, "FAULTS.md": ends, "PROFILE.md": profile})
+    headings = re.findall(r"^## Kind (\d+): ", (pages.DOCS / "FAULTS.md").read_text(encoding="utf-8"), re.M)
+    for page, told in ("SCRIPTS.md", [row[0] for row in table_of("SCRIPTS.md", "Kind")]), ("FAULTS.md", headings):
+        yield f"the kinds of faults in {page}", [] if told == numbers else [f"it has {told}, wanted are {numbers}"]
+
+
+def message_types():
+    """The numbers of the types of messages, and which of them are made."""
+    number, made = definitions.message_types()
+    names = {number[it]: it.lower().replace("_", " ") for it in number}
+    # No message that is sent has type 0.
+    first, *_, last = unmade = [it for it in sorted(names) if it and it not in map(number.get, made)]
+    told = ", ".join(f"{number[it]} {names[number[it]]}" for it in made)
+    end, death, event, debugged = (number[it] for it in ("PORT_CLOSED", "CLIENT_DIED", "EXCEPTION", "DEBUG_EVENT"))
+    connect, request = number["CONNECTION_REQUEST"], number["REQUEST"]
+    yield from said({
+        "SCRIPTS.md": [
+            f"type: {told} |",
+            f"Of the message types {first} to {last} two are never made, {listed(unmade)}; {end} and {death} tell",
+            f"and {event} and {debugged} that a thread raised an exception.",
+        ],
+        "PROFILE.md": [
+            f"LPC_TYPE, {min(names)} to {max(names)} | types {listed(map(number.get, made))} are made |",
+            f"Message types {listed(unmade)}. ",
+        ],
+        "SERVICES.md": [
+            f"| that is sent (datagram, request) | {number['DATAGRAM']}, {request} |",
+            f"| a reply, as the waiting thread gets it | {number['REPLY']} |",
+            f"| a connection request, made by the machine | {connect} |",
+            f"| a client port's end, made by the machine | {end} |",
+            f"| a thread's end, made by the machine | {death} |",
+            f"| an event, made by the machine | {debugged} on a debug port, {event} on an exception port |",
+            f"| type | {debugged} on the debug port, {event} on the exception port |",
+        ],
+        "RESIDENT.md": [
+            f"a connection request (type {connect}) |",
+            f"a port is closed (type {end}),",
+            f"a request (type {request}) |",
+        ],
+    })
+    for heading, word in ("Port closed", "PORT_CLOSED"), ("Client died", "CLIENT_DIED"):
+        (row,) = (row for part, _, rows in tables(SERVICES) if part == heading for row in rows if row[0] == "type")
+        yield f"SERVICES.md, {heading}: the type", [] if row[1] == str(number[word]) else [f"it is {number[word]}"]
+    yield "the message types of the tools", [] if message.TYPES == names else [f"{message.TYPES}, wanted are {names}"]
+
+
+def levels():
+    """The levels at which a server may act as its client, and which one a connect allows that names none."""
+    model = definitions.Levels()
+    names, default = {it: name.lower() for name, it in model.numbers.items()}, f"{model.default}:{model.tracking[0]}"
+    low, refused = [it for it in sorted(names) if it < model.connecting], model.connecting_status
+    yield from said({
+        "SCRIPTS.md": [
+            f"with a Number L from {min(names)} to {model.most}, the level, or `-` for `q:{default}` |",
+            f"acted as a client: {', '.join(f'{it} {name}' for it, name in names.items())} |",
+        ],
+        "SERVICES.md": [f"`-` stands for `q:{default}`."],
+        "SECURITY.md": [
+            f"`-` stands for `q:{default}`.",
+            f"| a token of its own of level {' or '.join(map(str, low))} | any list, or none | {refused} |",
+            f"a process's own token counts as {model.of_processes}.",
+        ],
+        "CONNECTIONS.md": [f"with level {model.default} and {model.tracking} tracking."],
+        "PROFILE.md": [
+            f"the four levels of impersonation, {min(names)} to {max(names)},",
+            f"| `-` for a quality of service is level {model.default} with {model.tracking} tracking |",
+            f"a level below {model.connecting} is {refused} also where there is no list |",
+            f"a process's own token counts as level {model.of_processes} |",
+        ],
+    })
+    wanted = [
+        [
+            str(it), name,
+            f"no, {model.unknown_status}" if it == model.unknown else "yes",
+            f"no, {refused}" if it in low else "yes",
+        ]
+        for it, name in names.items()
+    ]
+    told = table_of("SECURITY.md", "Level", "Name")
+    yield "SECURITY.md: the levels", [] if told == wanted else [f"it tells {told}, wanted are {wanted}"]
+
+
+def raised(model, ports, handled):
+    """What a raise does where these ports have a way, in the words of docs/EXCEPTIONS.md."""
+    for chance in model.order:
+        if chance == "Handled":
+            if handled:
+                return "00000000 at once"
+        elif model.port(chance) in ports:
+            return "waits for {}: type {}, chance {}".format(HEARS[model.port(chance)], *model.event(chance))
+    return "the process ends with CODE, without an answer"
+
+
+def raises(model):
+    """What is wrong with the table of docs/EXCEPTIONS.md on what a raise does."""
+    seen = []
+    for debug, exception, *told in table_of("EXCEPTIONS.md", "The debug port", "The exception port"):
+        for way in WAYS if exception == "whatever it is" else (exception,):
+            ports = [it for it, has in zip(HEARS, (debug, way)) if has == WAYS[0]]
+            handled, unhandled = (raised(model, ports, it) for it in (True, False))
+            wanted = [handled, "the same" if handled == unhandled else unhandled]
+            seen.append((debug, way))
+            if told != wanted:
+                yield f"where one {debug} and the other {way} it tells {told}, wanted are {wanted}"
+    if seen != list(itertools.product(WAYS, WAYS)):
+        yield f"it tells of {seen}"
+
+
+def going_on(model, chance):
+    """What follows an event that isn't handled, as a row of docs/EXCEPTIONS.md."""
+    ways = [
+        "the {} has a way: type {}, chance {}".format(model.port(it), *model.event(it))
+        for it in model.behind[chance] if it != "Handled"
+    ]
+    first, *others = [*ways, "the process is doomed"]
+    handled = "the thread wakes with 00000000" if "Handled" in model.behind[chance] else "doesn't come about"
+    event = "type {}, chance {}".format(*model.event(chance))
+    return [event, handled, ". ".join([first, *(it.capitalize() for it in others)])]
+
+
+def asked(model):
+    """The rows of the table of chances in docs/SERVICES.md."""
+    ports = []
+    for chance in model.order:
+        if chance == "Handled":
+            yield ["", "the frame handlers", "by the word of the line"]
+            continue
+        port, (kind, number) = model.port(chance), model.event(chance)
+        ordinal = "" if any(it[1] == number for it in ports) else ("first", "second")[number - 1]
+        again = " again" if any(it[0] == port for it in ports) else ""
+        ports.append((port, number))
+        yield [ordinal, f"the {port}{again}", f"by an event of type {kind} with chance {number}"]
+    yield ["", "nobody any more", "the process ends with the code of the exception"]
+
+
+def chances():
+    """The chances of an exception, in the tables of docs/EXCEPTIONS.md and docs/SERVICES.md."""
+    model, status = definitions.Chances(), definitions.profile()[1]["DBG_CONTINUE"]
+    yield "EXCEPTIONS.md: what a raise does", list(raises(model))
+    on_ports = [it for it in model.order if it != "Handled"]
+    for page, head, wanted in (
+        ("EXCEPTIONS.md", "The event that isn't handled", [going_on(model, it) for it in on_ports]),
+        ("SERVICES.md", "Chance", list(asked(model))),
+    ):
+        told = table_of(page, head)
+        yield f"{page}: {head}", [] if told == wanted else [f"it tells {told}, wanted are {wanted}"]
+    order = ", ".join("frame handlers" if it == "Handled" else model.port(it) for it in model.order)
+    data = bytes.fromhex(status)[::-1].hex()
+    yield from said({
+        "PROFILE.md": [f"the order of the chances of an exception: {order}; the status"],
+        "EXCEPTIONS.md": [f"| a fitting reply that begins with {data} | is continued | wakes with {status} |"],
+        "WAITS.md": [f"whose data begin with {data}, at whichever chance | {status} |"],
+    })
 
 
 def shortened(text):
@@ -359,6 +544,12 @@ def quoted():
         yield pinned(f"entries in {page}", len(shown), count)
         others = [it for it in shown if not any(map(shortened(it).fullmatch, known)) and it not in UNMADE]
         yield f"the entries in {page}", [f"no example tells {it}" for it in others]
+    for page, count in DRAWN_ENTRIES.items():
+        lines = [line for block in pages.blocks_of(pages.DOCS / page) for line in block.text.splitlines()]
+        shown = [found[1] for found in map(DRAWN_ENTRY.search, lines) if found]
+        yield pinned(f"entries in the drawings of {page}", len(shown), count)
+        others = [it for it in shown if not any(map(shortened(it).fullmatch, known))]
+        yield f"the entries in the drawings of {page}", [f"no example tells {it}" for it in others]
 
 
 def stormy():
@@ -567,7 +758,8 @@ def names_in_code():
 
 def checks():
     """All checks: each with its name and what it found wrong."""
-    for group in (status_names, refusals, limits, worked, quoted, stormy, stated, proofs, wrong_bodies, names_in_code):
+    words = status_names, refusals, limits, fault_kinds, message_types, levels, chances
+    for group in (*words, worked, quoted, stormy, stated, proofs, wrong_bodies, names_in_code):
         yield from group()
 
 
