@@ -1,5 +1,5 @@
 // How many handles, or views, count for each object.
-ghost use Rattle.std.specs.Prelude.{◌≡◌, ◌<◌, [], if◌then◌else◌, false, true, ℕ, IfNone, IfSome};
+ghost use Rattle.std.specs.Prelude.{◌≡◌, ◌<◌, [], if◌then◌else◌, false, true, IfNone, IfSome};
 ghost use Rattle.lpc_homes.specs.Counts.{Gains, Loses, count_in};
 ghost use Rattle.lpc_homes.specs.Parts.{is_object};
 ghost use Rattle.lpc_homes.specs.declared.object.Object.{Object};

@@ -40,6 +40,8 @@ impl ObjectCounts {
     pub fn new(alloc: Global) -> ObjectCounts
         ensures handles { let handles = result.handles in handles.entries ≡ [] }
         ensures views { let views = result.views in views.entries ≡ [] }
+        ensures whole_handles { let handles = result.handles in handles.whole ≡ true }
+        ensures whole_views { let views = result.views in views.whole ≡ true }
     {
         ObjectCounts {
             handles: Counts::new(alloc),
@@ -144,6 +146,8 @@ impl ObjectCounts {
             IfSome result (λ n. handles.whole ≡ true) }
         ensures count { let handles = self.now.handles in
             IfSome result (λ n. n ≡ count_in handles.entries object) }
+        ensures unfinished { let handles = self.now.handles in
+            IfNone result (handles.whole ≡ false) }
     {
         self.handles.of(object)
     }
@@ -154,6 +158,8 @@ impl ObjectCounts {
             IfSome result (λ n. views.whole ≡ true) }
         ensures count { let views = self.now.views in
             IfSome result (λ n. n ≡ count_in views.entries object) }
+        ensures unfinished { let views = self.now.views in
+            IfNone result (views.whole ≡ false) }
     {
         self.views.of(object)
     }
@@ -205,7 +211,7 @@ impl ObjectCounts {
     }
 }
 
-/// The object is a section or a token, and no handle names it and no view shows it.
+/// The object is a section or a token, and as far as the counts tell no handle names it and no view shows it.
 fn is_unheld(handles: &Counts, views: &ViewCounts, object: Object) -> bool
     ensures { let handled = handles.now in let viewed = views.now in
         handled.whole ≡ true → viewed.whole ≡ true →

@@ -55,7 +55,8 @@ impl Model for Parts {
       room = min (vec_capacity s.parts - vec_len s.parts) s.places.room;
     } };
 
-    ghost invariant = { λ s. AreAllCounted s.parts.items (numbers s.places.entries) s.counts.handles s.counts.views };
+    ghost invariant = { λ s.
+        AreAllCounted s.parts.items (numbers s.places.entries) s.counts.handles s.counts.views };
 }
 
 // Written out, so that a proof about what holds the parts lets them go in one step, and not map by map.

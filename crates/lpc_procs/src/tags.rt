@@ -1,4 +1,4 @@
-// Numbers by which names are told apart, and counts of them.
+// The tags of names of ports, and counts of them.
 ghost use Rattle.std.specs.Prelude.{◌≡◌, [], option_to_list, true};
 ghost use Rattle.lpc_procs.specs.Tags as tags;
 ghost use Rattle.lpc_procs.specs.Tags.{Retags};

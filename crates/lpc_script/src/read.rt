@@ -688,7 +688,7 @@ fn is_printable(text: &[u8]) -> bool
     ensures { result ≡ list_all grammar.is_printable text.now }
 {
     let mut printable = true;
-    // It looks at each byte, since many can be looked at at once then.
+    // No byte ends it early, so that the compiler can look at many at once.
     for byte in text {
         printable &= *byte >= b' ' && *byte <= b'~';
     }
