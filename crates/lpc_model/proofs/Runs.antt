@@ -20,6 +20,8 @@ use Rattle.lpc_model.proofs.Standing.Lines.{names_none, names_step}
 use Rattle.lpc_model.proofs.Queues.Open.{queues_none, queues_step}
 use Rattle.lpc_model.proofs.Closings.Creators.{keeps_step}
 use Rattle.lpc_model.proofs.Closings.ToldLines.{closings_told}
+use Rattle.lpc_model.specs.KeptPorts.{KeepsPorts, RunKeepsPorts, StepsKeepPorts}
+use Rattle.lpc_model.proofs.KeptPorts.Kept.{ports_kept}
 use Rattle.lpc_model.proofs.Queues.Emptied.{line_empties}
 use Rattle.lpc_model.proofs.Queues.Withdrawn.{line_withdraws}
 use Rattle.lpc_model.specs.Leaving.{EmptiesWithHandles, RunEmptiesWithHandles, RunWithdrawsWithWaits, WithdrawsWithWaits}
@@ -185,6 +187,12 @@ untold_run bytes = trace-keeps HasSingleClosings (λ w t. t.single_closings) no_
 
 pub keeps_run : (bytes : List ℕ) → RunKeepsConnects bytes
 keeps_run bytes = trace-keeps KeepsConnects (λ w t. t.creators) no_rows (said_in bytes) lawful_none
+
+pub ports_step : StepsKeepPorts
+ports_step w line t = let shut = t.single_closings in ports_kept w line (record { sound = t.sound; shut = shut.connects }) t.linked (lawful-readied w line t)
+
+pub ports_run : (bytes : List ℕ) → RunKeepsPorts bytes
+ports_run bytes = along-keeps (λ w line. KeepsPorts w (step w line).world) ports_step no_rows (said_in bytes) lawful_none
 
 pub closings_told_run : (bytes : List ℕ) → RunTellsClosings bytes
 closings_told_run bytes = along-keeps ClosingsAreTold (λ w line t. let shut = t.single_closings in closings_told w line t.sound shut.connects (lawful-readied w line t)) no_rows (said_in bytes) lawful_none

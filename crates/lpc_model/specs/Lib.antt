@@ -54,6 +54,7 @@ pub mod Clients
 pub mod SingleClosings
 pub mod Lawful
 pub mod AtRest
+pub mod KeptPorts
 pub mod Transcript
 pub mod Worked
 pub mod WorkedConnections

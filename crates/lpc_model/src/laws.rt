@@ -6,6 +6,7 @@ ghost use Rattle.lpc_model.specs.Linked.{IsLinked, RunHoldsRows};
 ghost use Rattle.lpc_model.specs.Standing.{NamesWhatStands, RunNamesWhatStands};
 ghost use Rattle.lpc_model.specs.OpenQueues.{HasOpenQueues, RunKeepsQueuesOpen};
 ghost use Rattle.lpc_model.specs.Closings.{RunTellsClosings};
+ghost use Rattle.lpc_model.specs.KeptPorts.{RunKeepsPorts, StepsKeepPorts};
 ghost use Rattle.lpc_model.specs.Clients.{RefusesUnservedAlone, RunHasAllowingClients, RunHasClientEnds, RunRefusesUnservedAlone};
 ghost use Rattle.lpc_model.specs.Creators.{RunKeepsConnects};
 ghost use Rattle.lpc_model.specs.Deaths.{RunHasLivingRegistrations, RunHasSingleRegistrations, RunTellsDeaths};
@@ -107,6 +108,20 @@ pub fn law_closings_are_told()
     ensures single_closings_first { HasSingleClosings no_rows }
     ensures single_closings_steps { StepsKeepSingleClosings }
     ensures single_closings_runs { (script : List ℕ) → RunHasSingleClosings script }
+{}
+
+/// In every script a port stays what it is as long as it stands.
+///
+/// What stands under a birth before a line and behind it has one kind, the same connection port, the
+/// same security and the same connect that made it, or none; and where it was completed, it is so
+/// still. Its context and its other end are given once, in the line in which the connect that made it
+/// is accepted: where no connect waits on it for that before the line, or one still does behind it,
+/// the context is the same, and another end is the one that it had. On a port that stands no connect
+/// begins to wait for that. Two ports that are each other's other end are so behind the line too,
+/// where both are open then.
+pub fn law_ports_keep_what_they_are()
+    ensures steps { StepsKeepPorts }
+    ensures runs { (script : List ℕ) → RunKeepsPorts script }
 {}
 
 /// In every script the messages that tell of threads' ends are, line by line, those of the ports

@@ -21,8 +21,8 @@ pub use fields::{
 pub use laws::{
     law_closings_are_told, law_completion_refuses_cut_pairs, law_connected_ports_reach_each_other,
     law_death, law_held_objects, law_impersonation_refuses_unserved, law_lawful_worlds, law_limits,
-    law_messages_are_accounted_for, law_open_queues, law_queues_keep_their_order, law_sound_waits,
-    law_views,
+    law_messages_are_accounted_for, law_open_queues, law_ports_keep_what_they_are,
+    law_queues_keep_their_order, law_sound_waits, law_views,
 };
 pub use line::{Call, Kind, Line, ProcArg, ViewWord};
 pub use message::{Body, Message};
