@@ -5,8 +5,11 @@ use Rattle.std.specs.Prelude.{◌≡◌, ℕ, ◌+◌, ◌++◌, ◌&&◌, ◌||
 use Rattle.std.specs.Str.{bytes_eq}
 use Rattle.lpc_base.specs.Rows.{count, which}
 use Rattle.lpc_base.specs.declared.status.Status.{Status}
+use Rattle.lpc_base.specs.declared.status.TheConstants.{SUCCESS}
 use Rattle.lpc_message.specs.Layout.{header_of}
 use Rattle.lpc_message.specs.declared.kind.TheConstants.{CLIENT_DIED, PORT_CLOSED}
+use Rattle.lpc_model.specs.declared.entry.CallName.{CallName}
+use Rattle.lpc_model.specs.declared.entry.CallName.TheVariants.{NtListenPort, NtReplyWaitReceivePort}
 use Rattle.lpc_model.specs.declared.entry.Entry.{Entry}
 use Rattle.lpc_model.specs.declared.entry.Entry.TheVariants.{Answer, Wakes}
 use Rattle.lpc_model.specs.declared.entry.Field.{Field}
@@ -45,16 +48,10 @@ abbrev pub standing : Receipt → World → ℕ
 standing r w = count (has_receipt r) w.messages
 
 -- Receives
--- the two fields of a receive show the context and the bytes, and the one of a listen those of a connection request
+-- a field shows a context, or the bytes of a message
 abbrev pub shows_context : ℕ → Field → Bool
 shows_context context f = elim f.value [
   | Hex n ↦ n == context
-  | _ ↦ false
-]
-
-abbrev pub shows_bytes : List ℕ → Field → Bool
-shows_bytes bytes f = elim f.value [
-  | Bytes b ↦ bytes_eq b.items bytes
   | _ ↦ false
 ]
 
@@ -64,10 +61,26 @@ is_message f = elim f.name [
   | _ ↦ false
 ]
 
-abbrev pub shows_receipt : Receipt → List Field → Bool
-shows_receipt r (bytes ∷ []) = connects r && (is_message bytes && shows_bytes r.bytes bytes)
-shows_receipt r (context ∷ bytes ∷ []) = (shows_context r.context context || connects r) && shows_bytes r.bytes bytes
-shows_receipt r fields = false
+abbrev pub has_bytes : List ℕ → Field → Bool
+has_bytes bytes f = elim f.value [
+  | Bytes b ↦ bytes_eq b.items bytes
+  | _ ↦ false
+]
+
+abbrev pub shows_bytes : List ℕ → Field → Bool
+shows_bytes bytes f = is_message f && has_bytes bytes f
+
+-- the two fields of a receive show the context and the bytes, and the one of a listen those of a connection request; no
+-- other call shows what was received
+abbrev pub shows_message : Receipt → CallName → List Field → Bool
+shows_message r NtReplyWaitReceivePort (context ∷ bytes ∷ []) =
+    (shows_context r.context context || connects r) && shows_bytes r.bytes bytes
+shows_message r NtListenPort (bytes ∷ []) = connects r && shows_bytes r.bytes bytes
+shows_message r call fields = false
+
+-- a call that ends with success shows so
+abbrev pub shows_receipt : Receipt → CallName → Status → List Field → Bool
+shows_receipt r call status fields = (status.0 == SUCCESS.0) && shows_message r call fields
 
 -- the queue on which a thread waits
 abbrev pub waited_on : World → ℕ → Option Birth
@@ -91,13 +104,15 @@ received_on w line = None
 -- an entry shows such a message as received from the queue: that on which its thread waited before the line, or that of
 -- the port that the line's receive names
 abbrev pub is_received : Receipt → World → ScriptLine → Entry → Bool
-is_received r w line (Wakes tid call status fields) = is_the r.queue (waited_on w tid) && shows_receipt r fields
-is_received r w line (Answer tid call status fields) = is_the r.queue (received_on w line) && shows_receipt r fields
+is_received r w line (Wakes tid call status fields) =
+    is_the r.queue (waited_on w tid) && shows_receipt r call status fields
+is_received r w line (Answer tid call status fields) =
+    is_the r.queue (received_on w line) && shows_receipt r call status fields
 is_received r w line entry = false
 
 -- an entry of a line's settling shows so: the queue is that on which its thread waited when it began to settle
 abbrev pub is_woken : Receipt → World → Entry → Bool
-is_woken r v (Wakes tid call status fields) = is_the r.queue (waited_on v tid) && shows_receipt r fields
+is_woken r v (Wakes tid call status fields) = is_the r.queue (waited_on v tid) && shows_receipt r call status fields
 is_woken r v entry = false
 
 -- how many entries of a line show so, those of its own steps and those of its settling

@@ -41,6 +41,7 @@ pub mod Linked
 pub mod Standing
 pub mod SoundViews
 pub mod OpenQueues
+pub mod OwnCalls
 pub mod Limits
 pub mod Connected
 pub mod Queues

@@ -9,6 +9,8 @@ use Rattle.lpc_base.specs.Rows.{count, every, which, without}
 use Rattle.lpc_base.specs.declared.birth.Birth.{Birth}
 use Rattle.lpc_base.proofs.RowWords.{count-append}
 use Rattle.lpc_message.specs.declared.kind.TheConstants.{CONNECTION_REQUEST}
+use Rattle.lpc_model.specs.declared.entry.CallName.{CallName}
+use Rattle.lpc_model.specs.declared.entry.CallName.TheVariants.{NtListenPort, NtReplyWaitReceivePort}
 use Rattle.lpc_model.specs.declared.entry.Entry.{Entry}
 use Rattle.lpc_model.specs.declared.entry.Entry.TheVariants as entry
 use Rattle.lpc_model.specs.declared.entry.Field.{Field}
@@ -21,9 +23,7 @@ use Rattle.lpc_model.specs.Basics.{Basic, Empties, Enters, Frees, Takes, TakesCo
 use Rattle.lpc_model.specs.Lines.{ScriptLine}
 use Rattle.lpc_model.proofs.Closings.Told.{posts-append}
 use Rattle.lpc_model.proofs.Steps.InTurn.{after-append}
-use Rattle.lpc_model.specs.Accounts.{Receipt, connects, is_message, shows_receipt, is_received, has_receipt, loses, lost, standing, shows_context}
-use Rattle.lpc_model.specs.declared.entry.Value.{Value}
-use Rattle.lpc_model.specs.declared.entry.Value.TheVariants.{Bytes}
+use Rattle.lpc_model.specs.Accounts.{Receipt, connects, has_bytes, is_message, shows_message, is_received, has_receipt, loses, lost, standing, shows_context}
 
 -- Connection requests
 -- a connection request shows that it is one
@@ -43,27 +43,23 @@ count-parts p test (x ∷ xs) = at (test x) refl (count-parts p test xs)
     at true is rest = grind (arith, is, rest)
     at false other rest = grind (arith, other, rest)
 
--- two fields of which the second has bytes, as a receipt has them, or one that has a connection request, as a listen shows it
-abbrev pub has_bytes : Field → Bool
-has_bytes f = elim f.value [
-  | Bytes b ↦ true
-  | _ ↦ false
-]
+-- a receive shows two fields of which the second is a message, and a listen shows a message alone
+abbrev pub is_receiving : CallName → Bool
+is_receiving NtReplyWaitReceivePort = true
+is_receiving call = false
 
-abbrev pub has_request : Field → Bool
-has_request f = elim f.value [
-  | Bytes b ↦ is_message f && is_connection_request (message_of b.items)
-  | _ ↦ false
-]
+abbrev pub is_listening : CallName → Bool
+is_listening NtListenPort = true
+is_listening call = false
 
-abbrev pub shows_message : List Field → Bool
-shows_message (a ∷ []) = has_request a
-shows_message (a ∷ b ∷ []) = has_bytes b
-shows_message fields = false
+abbrev pub may_show : CallName → List Field → Bool
+may_show call (a ∷ []) = is_message a && is_listening call
+may_show call (a ∷ b ∷ []) = is_message b && is_receiving call
+may_show call fields = false
 
 abbrev pub tells_message : Entry → Bool
-tells_message (entry.Answer who call status fields) = shows_message fields
-tells_message (entry.Wakes who call status fields) = shows_message fields
+tells_message (entry.Answer who call status fields) = may_show call fields
+tells_message (entry.Wakes who call status fields) = may_show call fields
 tells_message e = false
 
 -- a step takes no message from a queue as a receive does, and tells of none
@@ -71,26 +67,24 @@ abbrev pub is_level : Basic → Bool
 is_level (Takes queue) = false
 is_level (TakesConnect queue) = false
 is_level (Tells e) = not (tells_message e)
-is_level (Wakes who call status fields) = not (shows_message fields)
+is_level (Wakes who call status fields) = not (may_show call fields)
 is_level b = true
 
-unshown : (s : Receipt) (fields : List Field) → not (shows_message fields) ≡ true → shows_receipt s fields ≡ false
-unshown s [] is = refl
-unshown s (a ∷ []) is = of a.value is
+unshown : (s : Receipt) (call : CallName) (fields : List Field) → not (may_show call fields) ≡ true → shows_message s call fields ≡ false
+unshown s NtListenPort [] is = refl
+unshown s NtListenPort (a ∷ []) is = alone (is_message a) (connects s) (has_bytes s.bytes a) is
   where
-    parts : (k m c e : Bool) → (c ≡ true → e ≡ k) → not (m && e) ≡ true → (k && (m && c)) ≡ false
-    parts k m true e same off = let here = same refl in grind (arith, here, off)
-    parts k m false e same off = grind arith
-
-    of : (v : Value) → not (elim v [ Bytes b ↦ (is_message a && is_connection_request (message_of b.items)) | _ ↦ false ]) ≡ true → (connects s && (is_message a && (elim v [ Bytes b ↦ bytes_eq b.items s.bytes | _ ↦ false ]))) ≡ false
-    of (Bytes b) is = parts (connects s) (is_message a) (bytes_eq b.items s.bytes) (is_connection_request (message_of b.items)) (λ same. ap (λ (bytes : List ℕ). is_connection_request (message_of bytes)) (bytes-same b.items s.bytes same)) is
-    of b is = grind arith
-unshown s (a ∷ b ∷ []) is = of (shows_context s.context a || connects s) b.value is
+    alone : (m k c : Bool) → not (m && true) ≡ true → (k && (m && c)) ≡ false
+    alone m k c is = grind arith
+unshown s NtListenPort (a ∷ b ∷ fields) is = refl
+unshown s NtReplyWaitReceivePort [] is = refl
+unshown s NtReplyWaitReceivePort (a ∷ []) is = refl
+unshown s NtReplyWaitReceivePort (a ∷ b ∷ []) is = behind (is_message b) (shows_context s.context a || connects s) (has_bytes s.bytes b) is
   where
-    of : (c : Bool) (v : Value) → not (elim v [ Bytes b ↦ true | _ ↦ false ]) ≡ true → (c && elim v [ Bytes b ↦ bytes_eq b.items s.bytes | _ ↦ false ]) ≡ false
-    of c (Bytes b) is = absurd (cc)
-    of c b is = grind arith
-unshown s (a ∷ b ∷ c ∷ fields) is = refl
+    behind : (m x c : Bool) → not (m && true) ≡ true → (x && (m && c)) ≡ false
+    behind m x c is = grind arith
+unshown s NtReplyWaitReceivePort (a ∷ b ∷ c ∷ fields) is = refl
+unshown s call fields is = refl
 
 freed-messages : (w : World) (k : ObjectKind) (b : Birth) → (freed w k b).messages ≡ w.messages
 freed-messages w kind.Port b = refl
@@ -111,8 +105,8 @@ module _ (s : Receipt) (w : World) (line : ScriptLine) where
   AreBalanced v bs = standing s v + posted_by bs ≡ standing s (world_after v bs) + (received (entries_of bs) + lost s v bs)
 
   unread : (e : Entry) → not (tells_message e) ≡ true → is_received s w line e ≡ false
-  unread (entry.Answer who call status fields) is = and_right _ _ (unshown s fields is)
-  unread (entry.Wakes who call status fields) is = and_right _ _ (unshown s fields is)
+  unread (entry.Answer who call status fields) is = and_right _ _ (and_right _ _ (unshown s call fields is))
+  unread (entry.Wakes who call status fields) is = and_right _ _ (and_right _ _ (unshown s call fields is))
   unread e is = refl
 
   pub none-read : (e : Entry) → not (tells_message e) ≡ true → received (e ∷ []) ≡ 0

@@ -9,6 +9,8 @@ use Rattle.lpc_base.proofs.Births.{birth-same, birth-self, births-apart}
 use Rattle.lpc_base.proofs.Bools.{first-true, second-true}
 use Rattle.lpc_base.specs.declared.birth.Birth.{Birth}
 use Rattle.lpc_base.specs.declared.status.TheConstants.{SUCCESS}
+use Rattle.lpc_model.specs.declared.entry.CallName.{CallName}
+use Rattle.lpc_model.specs.declared.entry.CallName.TheVariants.{NtListenPort, NtReplyWaitReceivePort}
 use Rattle.lpc_model.specs.declared.entry.Entry.TheVariants as entry
 use Rattle.lpc_model.specs.declared.entry.ObjectKind.{ObjectKind}
 use Rattle.lpc_model.specs.declared.entry.ObjectKind.TheVariants as kind
@@ -20,6 +22,7 @@ use Rattle.lpc_model.specs.Found.{is_listen, is_open, is_own_of, is_queued, is_q
 use Rattle.lpc_model.specs.Basics.{Accepts, Awaits, Basic, Dies, Empties, Enters, Frees, Receives, Takes, TakesConnect, Wakes, Withdraws, accepted, basic, freed, received, world_after, Leaves}
 use Rattle.lpc_model.specs.Entering.{enter, given_steps, received_steps, shown, takes, woken}
 use Rattle.lpc_model.specs.Tests.{is_client}
+use Rattle.lpc_model.specs.OwnCalls.{HasOwnCalls, is_kind_of, waits_in_call}
 use Rattle.lpc_model.specs.SoundWaits.{IsSoundWorld, has_come, is_joined, is_sound_wait, waiter_of}
 use Rattle.lpc_model.specs.Lines.{ScriptLine}
 use Rattle.lpc_model.proofs.Steps.Rows.{without_first-push}
@@ -29,11 +32,14 @@ use Rattle.lpc_model.specs.Accounts.{Receipt, connects, shows_receipt, is_receiv
 use Rattle.lpc_model.proofs.Account.Balance.{AreBalanced, bytes-same, connecting-shown, is_level, level-balanced}
 
 -- in a world behind some steps of a line: no message stands on the queue on which a receive waits, and no connection request on
--- that on which a listen does, and its thread waited there before the line
+-- that on which a listen does, and its thread waited there before the line, in the call of its kind
+abbrev pub waited_so : World → WaitRow → Bool
+waited_so w x = is_the x.queue (waited_on w x.thread) && waits_in_call x
+
 abbrev pub is_dry : World → World → WaitRow → Bool
 is_dry w v x =
     not (is_receive x || is_listen x)
-    || ((not (is_receive x && has (is_queued x.queue) v.messages) && not (is_listen x && has (is_queued_connect x.queue) v.messages)) && is_the x.queue (waited_on w x.thread))
+    || ((not (is_receive x && has (is_queued x.queue) v.messages) && not (is_listen x && has (is_queued_connect x.queue) v.messages)) && waited_so w x)
 
 abbrev pub HasDryQueues : World → World → Type 0
 HasDryQueues w v = every (is_dry w v) v.waits ≡ true
@@ -46,7 +52,7 @@ is_soft b = true
 
 less-dry : (w v u : World) (x : WaitRow) → (is_receive x ≡ true → has (is_queued x.queue) v.messages ≡ false → has (is_queued x.queue) u.messages ≡ false)
     → (is_listen x ≡ true → has (is_queued_connect x.queue) v.messages ≡ false → has (is_queued_connect x.queue) u.messages ≡ false) → is_dry w v x ≡ true → is_dry w u x ≡ true
-less-dry w v u x = parts (is_receive x) (is_listen x) (has (is_queued x.queue) v.messages) (has (is_queued x.queue) u.messages) (has (is_queued_connect x.queue) v.messages) (has (is_queued_connect x.queue) u.messages) (is_the x.queue (waited_on w x.thread))
+less-dry w v u x = parts (is_receive x) (is_listen x) (has (is_queued x.queue) v.messages) (has (is_queued x.queue) u.messages) (has (is_queued_connect x.queue) v.messages) (has (is_queued_connect x.queue) u.messages) (waited_so w x)
   where
     parts : (r l a b c d e : Bool) → (r ≡ true → a ≡ false → b ≡ false) → (l ≡ true → c ≡ false → d ≡ false) → (not (r || l) || ((not (r && a) && not (l && c)) && e)) ≡ true → (not (r || l) || ((not (r && b) && not (l && d)) && e)) ≡ true
     parts false false a b c d e one two is = refl
@@ -152,12 +158,17 @@ module _ (s : Receipt) (w : World) (line : ScriptLine) where
   enter-none v m none dry = record { balanced = level-balanced s w line v (Enters m ∷ []) refl; dry = kept-dry v m none dry }
 
   -- a receive takes it
-  pub seen-as : (o : Option Birth) (m : MessageRow) → is_the m.queue o ≡ true → (is_the s.queue o && shows_receipt s (receipt m)) ≡ has_receipt s m
+  pub seen-as : (o : Option Birth) (m : MessageRow) → is_the m.queue o ≡ true → (is_the s.queue o && shows_receipt s NtReplyWaitReceivePort SUCCESS (receipt m)) ≡ has_receipt s m
   seen-as None m is = absurd (cc)
   seen-as (Some q) m is = let same : m.queue ≡ q = birth-same m.queue q is in rw (sym same) refl
 
-  enter-receive : (v : World) (m : MessageRow) (x : WaitRow) → has (is_queued m.queue) v.messages ≡ false → is_the m.queue (waited_on w x.thread) ≡ true → HasDryQueues w v → IsEntered v (Enters m ∷ Takes m.queue ∷ received_steps m ++ woken SUCCESS (receipt m) x ∷ [])
-  enter-receive v m x none its dry =
+  -- in its call
+  seen-by : (call : CallName) (o : Option Birth) (m : MessageRow) → is_kind_of call Receive ≡ true → is_the m.queue o ≡ true → (is_the s.queue o && shows_receipt s call SUCCESS (receipt m)) ≡ has_receipt s m
+  seen-by NtReplyWaitReceivePort o m own is = seen-as o m is
+  seen-by call o m own is = absurd (cc)
+
+  enter-receive : (v : World) (m : MessageRow) (x : WaitRow) → has (is_queued m.queue) v.messages ≡ false → is_the m.queue (waited_on w x.thread) ≡ true → is_kind_of x.call Receive ≡ true → HasDryQueues w v → IsEntered v (Enters m ∷ Takes m.queue ∷ received_steps m ++ woken SUCCESS (receipt m) x ∷ [])
+  enter-receive v m x none its own dry =
       let u = basic (basic v (Enters m)) (Takes m.queue) in
       let rest = received_steps m ++ woken SUCCESS (receipt m) x ∷ [] in
       let all : without_first (is_queued m.queue) (v.messages ++ m ∷ []) ≡ v.messages = without_first-push (is_queued m.queue) v.messages m none (birth-self m.queue) in
@@ -167,15 +178,15 @@ module _ (s : Receipt) (w : World) (line : ScriptLine) where
       }
     where
       -- it stands, and is shown then
-      shown-once : (n : ℕ) → (is_the s.queue (waited_on w x.thread) && shows_receipt s (receipt m)) ≡ has_receipt s m → n + count (has_receipt s) (m ∷ []) ≡ n + (count (is_received s w line) (entry.Wakes x.thread x.call SUCCESS (receipt m) ∷ []) + 0)
+      shown-once : (n : ℕ) → (is_the s.queue (waited_on w x.thread) && shows_receipt s x.call SUCCESS (receipt m)) ≡ has_receipt s m → n + count (has_receipt s) (m ∷ []) ≡ n + (count (is_received s w line) (entry.Wakes x.thread x.call SUCCESS (receipt m) ∷ []) + 0)
       shown-once n same = one-each (has_receipt s) (is_received s w line) m (entry.Wakes x.thread x.call SUCCESS (receipt m)) same n
 
       at : (a : Bool) → without_first (is_queued m.queue) (v.messages ++ m ∷ []) ≡ v.messages → AreBalanced s w line v (Enters m ∷ Takes m.queue ∷ when a (Receives m.message.header.client.thread m.queue ∷ []) ++ woken SUCCESS (receipt m) x ∷ [])
-      at true all = rw all (shown-once (standing s v) (seen-as (waited_on w x.thread) m its))
-      at false all = rw all (shown-once (standing s v) (seen-as (waited_on w x.thread) m its))
+      at true all = rw all (shown-once (standing s v) (seen-by x.call (waited_on w x.thread) m own its))
+      at false all = rw all (shown-once (standing s v) (seen-by x.call (waited_on w x.thread) m own its))
 
   -- a listen takes it
-  pub listened-as : (o : Option Birth) (m : MessageRow) → is_connection_request m.message ≡ true → is_the m.queue o ≡ true → (is_the s.queue o && shows_receipt s (msg m.message ∷ [])) ≡ has_receipt s m
+  pub listened-as : (o : Option Birth) (m : MessageRow) → is_connection_request m.message ≡ true → is_the m.queue o ≡ true → (is_the s.queue o && shows_receipt s NtListenPort SUCCESS (msg m.message ∷ [])) ≡ has_receipt s m
   listened-as None m is its = absurd (cc)
   listened-as (Some q) m is its = let same : m.queue ≡ q = birth-same m.queue q its in rw (sym same) (parts (same_birth s.queue m.queue) (m.context == s.context) (connects s) (bytes_eq (bytes_of m.message) s.bytes) asking)
     where
@@ -186,9 +197,13 @@ module _ (s : Receipt) (w : World) (line : ScriptLine) where
       parts a x k true shows = let is = shows refl in grind (arith, is)
       parts a x k false shows = grind arith
 
-  enter-listen : (v : World) (m : MessageRow) (x : WaitRow) → is_connection_request m.message ≡ true → has (is_queued_connect m.queue) v.messages ≡ false → is_the m.queue (waited_on w x.thread) ≡ true → HasDryQueues w v
+  listened-by : (call : CallName) (o : Option Birth) (m : MessageRow) → is_kind_of call Listen ≡ true → is_connection_request m.message ≡ true → is_the m.queue o ≡ true → (is_the s.queue o && shows_receipt s call SUCCESS (msg m.message ∷ [])) ≡ has_receipt s m
+  listened-by NtListenPort o m own is its = listened-as o m is its
+  listened-by call o m own is its = absurd (cc)
+
+  enter-listen : (v : World) (m : MessageRow) (x : WaitRow) → is_connection_request m.message ≡ true → has (is_queued_connect m.queue) v.messages ≡ false → is_the m.queue (waited_on w x.thread) ≡ true → is_kind_of x.call Listen ≡ true → HasDryQueues w v
       → IsEntered v (Enters m ∷ TakesConnect m.queue ∷ received_steps m ++ woken SUCCESS (msg m.message ∷ []) x ∷ [])
-  enter-listen v m x connects none its dry =
+  enter-listen v m x connects none its own dry =
       let u = basic (basic v (Enters m)) (TakesConnect m.queue) in
       let rest = received_steps m ++ woken SUCCESS (msg m.message ∷ []) x ∷ [] in
       let all : without_first (is_queued_connect m.queue) (v.messages ++ m ∷ []) ≡ v.messages = without_first-push (is_queued_connect m.queue) v.messages m none (and_from (same_birth m.queue m.queue) (is_connection_request m.message) (birth-self m.queue) connects) in
@@ -197,12 +212,12 @@ module _ (s : Receipt) (w : World) (line : ScriptLine) where
         dry = dry-all w u rest (every-append is_soft (received_steps m) _ (soft-receipt m) refl) (fewer-dry w v (without_first (is_queued_connect m.queue) (v.messages ++ m ∷ [])) (λ q off. rw all off) (λ q off. rw all off) dry);
       }
     where
-      shown-once : (n : ℕ) → (is_the s.queue (waited_on w x.thread) && shows_receipt s (msg m.message ∷ [])) ≡ has_receipt s m → n + count (has_receipt s) (m ∷ []) ≡ n + (count (is_received s w line) (entry.Wakes x.thread x.call SUCCESS (msg m.message ∷ []) ∷ []) + 0)
+      shown-once : (n : ℕ) → (is_the s.queue (waited_on w x.thread) && shows_receipt s x.call SUCCESS (msg m.message ∷ [])) ≡ has_receipt s m → n + count (has_receipt s) (m ∷ []) ≡ n + (count (is_received s w line) (entry.Wakes x.thread x.call SUCCESS (msg m.message ∷ []) ∷ []) + 0)
       shown-once n same = one-each (has_receipt s) (is_received s w line) m (entry.Wakes x.thread x.call SUCCESS (msg m.message ∷ [])) same n
 
       at : (a : Bool) → without_first (is_queued_connect m.queue) (v.messages ++ m ∷ []) ≡ v.messages → AreBalanced s w line v (Enters m ∷ TakesConnect m.queue ∷ when a (Receives m.message.header.client.thread m.queue ∷ []) ++ woken SUCCESS (msg m.message ∷ []) x ∷ [])
-      at true all = rw all (shown-once (standing s v) (listened-as (waited_on w x.thread) m connects its))
-      at false all = rw all (shown-once (standing s v) (listened-as (waited_on w x.thread) m connects its))
+      at true all = rw all (shown-once (standing s v) (listened-by x.call (waited_on w x.thread) m own connects its))
+      at false all = rw all (shown-once (standing s v) (listened-by x.call (waited_on w x.thread) m own connects its))
 
   -- one that waits there does, which has waited longest
   enter-given : (v : World) (m : MessageRow) (x : WaitRow) → takes m x ≡ true → is_dry w v x ≡ true → HasDryQueues w v → IsEntered v (Enters m ∷ given_steps x m ++ woken SUCCESS (shown x m) x ∷ [])
@@ -211,30 +226,39 @@ module _ (s : Receipt) (w : World) (line : ScriptLine) where
       (λ x r is one dry. absurd (cc))
       (λ x is one dry.
       let same : x.queue ≡ m.queue = birth-same x.queue m.queue is in
-      enter-receive v m (record x { kind = Receive })
-      (subst (λ q. has (is_queued q) v.messages ≡ false) same (off-part (has (is_queued x.queue) v.messages) (is_the x.queue (waited_on w x.thread)) one))
-      (subst (λ q. is_the q (waited_on w x.thread) ≡ true) same (second-part (has (is_queued x.queue) v.messages) (is_the x.queue (waited_on w x.thread)) one)) dry)
+      let none = off-part (has (is_queued x.queue) v.messages) (is_the x.queue (waited_on w x.thread)) (is_kind_of x.call Receive) one in
+      let its = second-part (has (is_queued x.queue) v.messages) (is_the x.queue (waited_on w x.thread)) (is_kind_of x.call Receive) one in
+      let own = third-part (has (is_queued x.queue) v.messages) (is_the x.queue (waited_on w x.thread)) (is_kind_of x.call Receive) one in
+      enter-receive v m (record x { kind = Receive }) (subst (λ q. has (is_queued q) v.messages ≡ false) same none) (subst (λ q. is_the q (waited_on w x.thread) ≡ true) same its) own dry)
       (λ x is one dry.
-      let its = second-true (is_connection_request m.message) (same_birth x.queue m.queue) is in
-      let same : x.queue ≡ m.queue = birth-same x.queue m.queue its in
+      let asks = second-true (is_connection_request m.message) (same_birth x.queue m.queue) is in
+      let same : x.queue ≡ m.queue = birth-same x.queue m.queue asks in
+      let none = first-off (has (is_queued_connect x.queue) v.messages) (is_the x.queue (waited_on w x.thread)) (is_kind_of x.call Listen) one in
+      let its = last-part (has (is_queued_connect x.queue) v.messages) (is_the x.queue (waited_on w x.thread)) (is_kind_of x.call Listen) one in
+      let own = own-part (has (is_queued_connect x.queue) v.messages) (is_the x.queue (waited_on w x.thread)) (is_kind_of x.call Listen) one in
       enter-listen v m (record x { kind = Listen }) (first-true (is_connection_request m.message) (same_birth x.queue m.queue) is)
-      (subst (λ q. has (is_queued_connect q) v.messages ≡ false) same (first-off (has (is_queued_connect x.queue) v.messages) (is_the x.queue (waited_on w x.thread)) one))
-      (subst (λ q. is_the q (waited_on w x.thread) ≡ true) same (last-part (has (is_queued_connect x.queue) v.messages) (is_the x.queue (waited_on w x.thread)) one)) dry)
+      (subst (λ q. has (is_queued_connect q) v.messages ≡ false) same none) (subst (λ q. is_the q (waited_on w x.thread) ≡ true) same its) own dry)
       (λ x r offer is one dry. absurd (cc))
       (λ x r reply is one dry. absurd (cc))
       (λ x r is one dry. absurd (cc))
     where
-      off-part : (a b : Bool) → ((not a && true) && b) ≡ true → a ≡ false
-      off-part a b is = grind arith
+      off-part : (a b c : Bool) → ((not a && true) && (b && c)) ≡ true → a ≡ false
+      off-part a b c is = grind arith
 
-      second-part : (a b : Bool) → ((not a && true) && b) ≡ true → b ≡ true
-      second-part a b is = grind arith
+      second-part : (a b c : Bool) → ((not a && true) && (b && c)) ≡ true → b ≡ true
+      second-part a b c is = grind arith
 
-      first-off : (a b : Bool) → (not a && b) ≡ true → a ≡ false
-      first-off a b is = grind arith
+      third-part : (a b c : Bool) → ((not a && true) && (b && c)) ≡ true → c ≡ true
+      third-part a b c is = grind arith
 
-      last-part : (a b : Bool) → (not a && b) ≡ true → b ≡ true
-      last-part a b is = grind arith
+      first-off : (a b c : Bool) → (not a && (b && c)) ≡ true → a ≡ false
+      first-off a b c is = grind arith
+
+      last-part : (a b c : Bool) → (not a && (b && c)) ≡ true → b ≡ true
+      last-part a b c is = grind arith
+
+      own-part : (a b c : Bool) → (not a && (b && c)) ≡ true → c ≡ true
+      own-part a b c is = grind arith
 
   pub entered : (v : World) (m : MessageRow) → HasDryQueues w v → IsEntered v (enter m v)
   entered v m dry = at (first (takes m) v.waits) refl
@@ -268,9 +292,9 @@ own-wait all front (x ∷ xs) once same =
     counts-first : (p : WaitRow → Bool) (x : WaitRow) (xs : List WaitRow) → p x ≡ true → 1 ≤ count p (x ∷ xs)
     counts-first p x xs is = grind (arith, is)
 
-dry-sound : (w : World) (x : WaitRow) → is_sound_wait w x ≡ true → is_the x.queue (waited_on w x.thread) ≡ true → is_dry w w x ≡ true
+dry-sound : (w : World) (x : WaitRow) → is_sound_wait w x ≡ true → waited_so w x ≡ true → is_dry w w x ≡ true
 dry-sound w =
-    by_kind (λ x. is_sound_wait w x ≡ true → is_the x.queue (waited_on w x.thread) ≡ true → is_dry w w x ≡ true)
+    by_kind (λ x. is_sound_wait w x ≡ true → waited_so w x ≡ true → is_dry w w x ≡ true)
     (λ x m is own. refl)
     (λ x is own. receives x (come-part (is_client w (waiter_of x)) (is_open w x.port) (is_open w x.queue) (has_come w (record x { kind = Receive })) (passes (port_row w x.port) is_joined) is) own)
     (λ x is own. listens x (listen-part (is_client w (waiter_of x)) (is_open w x.port) (is_open w x.queue) (has_come w (record x { kind = Listen })) is) own) (λ x m offer is own. refl) (λ x m reply is own. refl) (λ x m is own. refl)
@@ -287,18 +311,20 @@ dry-sound w =
     last : (a b : Bool) → a ≡ false → b ≡ true → (not a && b) ≡ true
     last a b one two = grind arith
 
-    receives : (x : WaitRow) → has_come w (record x { kind = Receive }) ≡ false → is_the x.queue (waited_on w x.thread) ≡ true → is_dry w w (record x { kind = Receive }) ≡ true
-    receives x none own = both (has (is_queued x.queue) w.messages) (is_the x.queue (waited_on w x.thread)) (has_none-more (λ m. same_birth x.queue m.queue) (is_queued x.queue) (λ m off. births-apart x.queue m.queue off) w.messages none) own
+    receives : (x : WaitRow) → has_come w (record x { kind = Receive }) ≡ false → waited_so w (record x { kind = Receive }) ≡ true → is_dry w w (record x { kind = Receive }) ≡ true
+    receives x none own = both (has (is_queued x.queue) w.messages) (waited_so w (record x { kind = Receive })) (has_none-more (λ m. same_birth x.queue m.queue) (is_queued x.queue) (λ m off. births-apart x.queue m.queue off) w.messages none) own
 
     request-off : (a b c : Bool) → (c && a) ≡ false → (a ≡ false → b ≡ false) → (b && c) ≡ false
     request-off true b false off same = grind arith
     request-off true b true off same = absurd (cc)
     request-off false b c off same = let none = same refl in grind (arith, none)
 
-    listens : (x : WaitRow) → has_come w (record x { kind = Listen }) ≡ false → is_the x.queue (waited_on w x.thread) ≡ true → is_dry w w (record x { kind = Listen }) ≡ true
+    listens : (x : WaitRow) → has_come w (record x { kind = Listen }) ≡ false → waited_so w (record x { kind = Listen }) ≡ true → is_dry w w (record x { kind = Listen }) ≡ true
     listens x none own =
-        last (has (is_queued_connect x.queue) w.messages) (is_the x.queue (waited_on w x.thread))
+        last (has (is_queued_connect x.queue) w.messages) (waited_so w (record x { kind = Listen }))
         (has_none-more (λ m. is_connection_request m.message && same_birth x.queue m.queue) (is_queued_connect x.queue) (λ m off. request-off (same_birth x.queue m.queue) (same_birth m.queue x.queue) (is_connection_request m.message) off (λ other. births-apart x.queue m.queue other)) w.messages none) own
 
-pub dry-first : (w : World) → IsSoundWorld w → HasDryQueues w w
-dry-first w s = every-both (is_sound_wait w) (λ x. is_the x.queue (waited_on w x.thread)) (is_dry w w) (dry-sound w) w.waits s.waits (own-wait w.waits [] w.waits s.once refl)
+pub dry-first : (w : World) → IsSoundWorld w → HasOwnCalls w → HasDryQueues w w
+dry-first w s own =
+    let waited = every-both (λ x. is_the x.queue (waited_on w x.thread)) waits_in_call (waited_so w) (λ x one two. and_from _ _ one two) w.waits (own-wait w.waits [] w.waits s.once refl) own in
+    every-both (is_sound_wait w) (waited_so w) (is_dry w w) (dry-sound w) w.waits s.waits waited

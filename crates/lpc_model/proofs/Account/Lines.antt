@@ -3,55 +3,56 @@ use Rattle.std.proofs.Common.{◌≡◌, ℕ, ◌+◌, List, [], ◌∷◌, ◌+
 use Rattle.std.proofs.lemmas.Bool.{and_from}
 use Rattle.lpc_base.specs.Rows.{count, every, first, when, without_first}
 use Rattle.lpc_base.proofs.RowWords.{count-append, first-passes, every-append}
+use Rattle.lpc_base.proofs.RowMaps.{every-first}
 use Rattle.lpc_base.proofs.Births.{birth-same, birth-self}
 use Rattle.lpc_base.specs.declared.birth.Birth.{Birth}
 use Rattle.lpc_base.specs.declared.status.Status.{Status}
-use Rattle.lpc_base.specs.declared.status.TheConstants.{SUCCESS}
+use Rattle.lpc_base.specs.declared.status.TheConstants.{REPLY_MESSAGE_MISMATCH, SUCCESS}
 use Rattle.lpc_message.specs.declared.kind.TheConstants.{DATAGRAM, REQUEST}
 use Rattle.lpc_model.specs.declared.entry.CallName.{CallName}
-use Rattle.lpc_model.specs.declared.entry.CallName.TheVariants.{NtClose, NtListenPort, NtReplyWaitReceivePort, NtReplyPort}
+use Rattle.lpc_model.specs.declared.entry.CallName.TheVariants.{NtAcceptConnectPort, NtClose, NtListenPort, NtReplyWaitReceivePort, NtReplyPort}
 use Rattle.lpc_model.specs.declared.entry.Entry.{Entry}
 use Rattle.lpc_model.specs.declared.entry.Entry.TheVariants as entry
-use Rattle.lpc_model.specs.declared.entry.Field.{Field}
 use Rattle.lpc_model.specs.declared.message.Message.{Message}
-use Rattle.lpc_model.specs.World.{HandleRow, MessageRow, PortRow, ThreadRow, TokenRow, World, ViewRow, ProcessRow, Raised, WaitRow}
-use Rattle.lpc_model.specs.Accounts.{Receipt, is_received, has_receipt, received_on, standing, is_woken, lost, receipts}
+use Rattle.lpc_model.specs.World.{HandleRow, MessageRow, PortRow, ThreadRow, World, ViewRow, ProcessRow, Raised, WaitRow, Event, Request}
+use Rattle.lpc_model.specs.Accounts.{Receipt, is_message, is_received, has_receipt, received_on, standing, is_woken, lost, receipts}
 use Rattle.lpc_model.specs.Basics.{Basic, Receives, Takes, TakesConnect, Tells, Wakes, world_after, Marks, Dooms, Frees, Leaves, doing, entries_of, first_code, posts_of}
 use Rattle.lpc_model.specs.Close.{close_handle, close_steps}
 use Rattle.lpc_model.specs.Connect.{client_port, connection_request, connect_start, accept_steps, accept_start, shared_fields, allow_steps, connect_steps, create_steps, guard_steps, listen_steps, named_steps}
 use Rattle.lpc_model.specs.Death.{end_threads, code_status}
 use Rattle.lpc_model.specs.Entering.{enter, row_of, woken}
-use Rattle.lpc_model.specs.Fields as fields
 use Rattle.lpc_model.specs.Fields.{msg, receipt}
-use Rattle.lpc_model.specs.Impersonation.{TOKEN_GROUPS, TOKEN_IMPERSONATION_LEVEL, TOKEN_USER, level_told, told_of}
-use Rattle.lpc_model.specs.Found.{is_queued, is_queued_connect, free_handle, live_threads, same_birth}
+use Rattle.lpc_model.specs.Found.{fits, fitted, is_asking, is_queued, is_queued_connect, free_handle, live_threads, same_birth}
 use Rattle.lpc_model.specs.Lines.{ScriptLine, listen_port, reply_wait_receive_port, run, connect_port, boot}
 use Rattle.lpc_model.specs.Machine.{bare_steps, steps, own_steps, step}
-use Rattle.lpc_model.specs.Message.{as_reply, asks, bytes_of, is_connection_request, message_of}
+use Rattle.lpc_model.specs.Message.{asks, is_connection_request}
 use Rattle.lpc_model.specs.Request.{datagram_start, given_reply, receive_steps, receive_test, reply_test, request_start, sent_by, reply_steps}
-use Rattle.lpc_model.specs.SoundWaits.{IsSoundWorld}
+use Rattle.lpc_model.specs.OwnCalls.{HasOwnCalls, is_kind_of, waits_in_call}
+use Rattle.lpc_model.specs.SoundWaits.{HasShutConnects, IsSoundWorld}
 use Rattle.lpc_model.specs.Sweep.{sweep}
 use Rattle.lpc_model.proofs.Account.Steps.{ArePlain, end_balances, handle_balances, plain-level, sent_balances, sweep-plain, Balances, enter_balances, plain_balances, then_balances}
 use Rattle.lpc_model.proofs.Calls.Acts.{tested-queue}
-use Rattle.lpc_model.proofs.Account.Balance.{AreBalanced, has_request, shows_message, both-balanced, is_level, level-balanced, none-read, tells_message, entries-both, lost-both}
+use Rattle.lpc_model.proofs.Account.OwnCalls.{calls_line}
+use Rattle.lpc_model.proofs.Account.Balance.{AreBalanced, is_listening, may_show, both-balanced, is_level, level-balanced, none-read, tells_message, entries-both, lost-both}
 use Rattle.lpc_model.proofs.Account.DryQueues.{count-one, dry-first, listened-as, one-each, seen-as, IsEntered}
 use Rattle.lpc_model.proofs.Steps.Ending.{answered_end}
-use Rattle.lpc_model.proofs.Calls.Holding.{Holds, bind_holds, holds_ok}
-use Rattle.lpc_model.proofs.Calls.Lines.{AnyWorld, IsCalled, LineLaw, line-does, shows_status}
+use Rattle.lpc_model.proofs.Calls.Holding.{Holds, bind_holds, found_holds, holds_ok}
+use Rattle.lpc_model.proofs.Calls.Lines.{IsCalled, LineLaw, line-does, shows_status}
 use Rattle.lpc_model.proofs.Calls.Outcomes.{Outcomes}
 use Rattle.lpc_model.proofs.Sound.Drops.{count-first, one_if}
 use Rattle.lpc_model.specs.Offers.{mapped, shared_steps}
 use Rattle.lpc_model.proofs.Calls.Sharing.{mapped-pass, shared-pass, guard-pass}
-use Rattle.lpc_model.specs.Tests.{next_birth, client_of}
+use Rattle.lpc_model.specs.Tests.{next_birth, client_of, client_test}
 use Rattle.lpc_model.proofs.Calls.Raising.{set-passes, on-holds}
-use Rattle.lpc_model.proofs.Sound.Reply.{reply-cases}
+use Rattle.lpc_model.proofs.Sound.Reply.{fits-asking, reply-cases}
+use Rattle.lpc_model.proofs.Sound.Worlds.{by_kind}
 use Rattle.lpc_model.specs.Raise.{event_begun, event_message, raise_told, set_port_steps, Handled, Heard, Next, Unhandled, behind_chance, go_on, goes_on}
 use Rattle.lpc_model.proofs.Closings.Told.{posts-append}
 use Rattle.lpc_model.proofs.Settling.Settled.{IsReady}
 use Rattle.lpc_model.proofs.Steps.InTurn.{after-append}
 use Rattle.lpc_model.proofs.Steps.Sweep.{sweep_every}
 use Rattle.lpc_model.specs.Settle.{turns, and_then_on, doomed_processes, end_doomed, least, most_turns, settle, turn, turn_by}
-use Rattle.std.specs.Prelude.{◌&&◌, ◌==◌, if◌then◌else◌, option_map}
+use Rattle.std.specs.Prelude.{◌&&◌, option_map}
 use Rattle.lpc_base.proofs.Bools.{first-true, second-true}
 
 -- an entry that shows a status alone tells of no receipt
@@ -61,30 +62,30 @@ status-level (entry.Answer who call status []) is = refl
 status-level (entry.Answer who call status (f ∷ fields)) is = absurd (cc)
 status-level e is = refl
 
--- a reply isn't a connection request
-reply-shown : (m : Message) → is_connection_request (message_of (bytes_of (as_reply m))) ≡ false
-unfolding bytes_of
-reply-shown m = refl
+-- a reply wakes a thread that didn't listen
+asked-call : (call : CallName) (m : Message) → is_kind_of call (Request m) ≡ true → is_listening call ≡ false
+asked-call NtListenPort m is = absurd (cc)
+asked-call call m is = refl
 
--- what is told of a token is none
-told-level : (t : TokenRow) (class : ℕ) (field : Field) → told_of t class ≡ Some field → not (has_request field) ≡ true
-told-level t class field told = user_at (class == TOKEN_USER) told
-  where
-    level_at : (o : Option ℕ) → level_told o ≡ Some field → not (has_request field) ≡ true
-    level_at None is = absurd (cc)
-    level_at (Some n) is = let same : fields.level n ≡ field = cc in subst (λ f. not (has_request f) ≡ true) same refl
+raised-call : (call : CallName) (r : Raised) → is_kind_of call (Event r) ≡ true → is_listening call ≡ false
+raised-call NtListenPort r is = absurd (cc)
+raised-call call r is = refl
 
-    class_at : (c : Bool) → (if c then level_told t.level else None) ≡ Some field → not (has_request field) ≡ true
-    class_at true is = level_at t.level is
-    class_at false is = absurd (cc)
+asking-call : (x : WaitRow) → is_asking x ≡ true → waits_in_call x ≡ true → is_listening x.call ≡ false
+asking-call =
+    by_kind (λ x. is_asking x ≡ true → waits_in_call x ≡ true → is_listening x.call ≡ false)
+    (λ x m is own. asked-call x.call m own) (λ x is own. absurd (cc)) (λ x is own. absurd (cc)) (λ x m offer is own. absurd (cc)) (λ x m a is own. absurd (cc)) (λ x r is own. raised-call x.call r own)
 
-    groups_at : (c : Bool) → (if c then Some (fields.groups t.token) else (if class == TOKEN_IMPERSONATION_LEVEL then level_told t.level else None)) ≡ Some field → not (has_request field) ≡ true
-    groups_at true is = let same : fields.groups t.token ≡ field = cc in subst (λ f. not (has_request f) ≡ true) same refl
-    groups_at false is = class_at (class == TOKEN_IMPERSONATION_LEVEL) is
+answered-call : (w : World) (port : PortRow) (m : Message) → HasOwnCalls w → Holds (λ (x : WaitRow). is_listening x.call ≡ false) (reply_test w port m)
+answered-call w port m own =
+    let P : WaitRow → Type 0 = λ x. is_listening x.call ≡ false in
+    bind_holds (client_test w m.header.client) _ P (λ _ _.
+    found_holds P (fitted w port.birth m) REPLY_MESSAGE_MISMATCH (λ x at.
+    asking-call x (fits-asking w port.birth m x (first-passes (fits w port.birth m) w.waits x at)) (every-first waits_in_call (fits w port.birth m) w.waits x own at)))
 
-    user_at : (c : Bool) → (if c then Some (fields.user t.token) else (if class == TOKEN_GROUPS then Some (fields.groups t.token) else (if class == TOKEN_IMPERSONATION_LEVEL then level_told t.level else None))) ≡ Some field → not (has_request field) ≡ true
-    user_at true is = let same : fields.user t.token ≡ field = cc in subst (λ f. not (has_request f) ≡ true) same refl
-    user_at false is = groups_at (class == TOKEN_GROUPS) is
+-- what is told of a token is no message
+told-level : (b : Bool) → not (b && false) ≡ true
+told-level b = grind arith
 
 module _ (s : Receipt) where
   abbrev Balanced : ScriptLine → World → List Basic → Type 0
@@ -97,20 +98,22 @@ module _ (s : Receipt) where
   level : (w : World) (line : ScriptLine) (bs : List Basic) → every is_level bs ≡ true → IsBalanced line w bs
   level w line bs all = record { sum = level-balanced s w line w bs all }
 
-  sent : (w : World) (line : ScriptLine) (m : MessageRow) (start : List Basic) → ArePlain start → IsSoundWorld w → IsBalanced line w (start ++ enter m (world_after w start))
-  sent w line m start plain sound = record { sum = sent_balances s w line m start plain (dry-first w sound) }
+  sent : (w : World) (line : ScriptLine) (m : MessageRow) (start : List Basic) → ArePlain start → IsSoundWorld w → HasOwnCalls w → IsBalanced line w (start ++ enter m (world_after w start))
+  sent w line m start plain sound own = record { sum = sent_balances s w line m start plain (dry-first w sound own) }
 
   -- A receive takes what it shows
   -- what a reply does before: nothing, a wake, or a mark
   abbrev are_replies : List Basic → Bool
   are_replies [] = true
-  are_replies (Wakes who call status fields ∷ []) = not (shows_message fields)
+  are_replies (Wakes who call status fields ∷ []) = not (may_show call fields)
   are_replies (Marks who ∷ []) = true
   are_replies bs = false
 
-  given-replies : (w : World) (port : PortRow) (o : Option Message) → Holds (λ bs. are_replies bs ≡ true) (given_reply w port o)
-  given-replies w port None = refl
-  given-replies w port (Some m) = bind_holds (reply_test w port m) _ (λ bs. are_replies bs ≡ true) (λ x _. reply-cases (λ b. are_replies (b ∷ []) ≡ true) x m (rw (reply-shown m) refl) refl (λ _. refl))
+  given-replies : (w : World) (port : PortRow) (o : Option Message) → HasOwnCalls w → Holds (λ bs. are_replies bs ≡ true) (given_reply w port o)
+  given-replies w port None own = refl
+  given-replies w port (Some m) own = bind_holds (reply_test w port m) _ (λ bs. are_replies bs ≡ true) (λ x fits.
+      let off = holds_ok (λ (x : WaitRow). is_listening x.call ≡ false) (reply_test w port m) x (answered-call w port m own) fits in
+      reply-cases (λ b. are_replies (b ∷ []) ≡ true) x m (rw off refl) refl (λ _. refl))
 
   module _ (w : World) (line : ScriptLine) (by : ThreadRow) (port : PortRow) (queue : Birth) (m : MessageRow) (found : first (is_queued queue) w.messages ≡ Some m) (from : received_on w line ≡ Some queue) where
     abbrev answer : Entry
@@ -201,15 +204,15 @@ module _ (s : Receipt) where
       let told = Tells (entry.Answer by.number name SUCCESS []) ∷ [] in
       record { sum = both-balanced s w line w told bs (level-balanced s w line w told refl) sum }
 
-  closed-balanced : (w : World) (line : ScriptLine) (by : ThreadRow) (r : HandleRow) → IsSoundWorld w → IsBalanced line w (close_steps by r w)
-  closed-balanced w line by r sound = let closed = handle_balances s w line by.process r w (dry-first w sound) in answered w line by NtClose (close_handle by.process r w) closed.balanced
+  closed-balanced : (w : World) (line : ScriptLine) (by : ThreadRow) (r : HandleRow) → IsSoundWorld w → HasOwnCalls w → IsBalanced line w (close_steps by r w)
+  closed-balanced w line by r sound own = let closed = handle_balances s w line by.process r w (dry-first w sound own) in answered w line by NtClose (close_handle by.process r w) closed.balanced
 
-  ended-balanced : (w : World) (line : ScriptLine) (by : ThreadRow) (name : CallName) (own : Bool) (pid : ℕ) (code : Status) (ts : List ThreadRow) → IsSoundWorld w → IsBalanced line w (answered_end by name own pid code ts w)
-  ended-balanced w line by name true pid code ts sound = let ends = end_balances s w line pid code ts w (dry-first w sound) in record { sum = ends.balanced }
-  ended-balanced w line by name false pid code ts sound = let ends = end_balances s w line pid code ts w (dry-first w sound) in answered w line by name (end_threads pid code ts w) ends.balanced
+  ended-balanced : (w : World) (line : ScriptLine) (by : ThreadRow) (name : CallName) (own : Bool) (pid : ℕ) (code : Status) (ts : List ThreadRow) → IsSoundWorld w → HasOwnCalls w → IsBalanced line w (answered_end by name own pid code ts w)
+  ended-balanced w line by name true pid code ts sound calls = let ends = end_balances s w line pid code ts w (dry-first w sound calls) in record { sum = ends.balanced }
+  ended-balanced w line by name false pid code ts sound calls = let ends = end_balances s w line pid code ts w (dry-first w sound calls) in answered w line by name (end_threads pid code ts w) ends.balanced
 
-  -- an accept tells no two fields of which the second has bytes
-  shared-level : (value : ℕ) (own theirs across : Option ViewRow) → not (shows_message (shared_fields value (record { own = own; theirs = theirs; across = across }))) ≡ true
+  -- an accept shows no message
+  shared-level : (value : ℕ) (own theirs across : Option ViewRow) → not (may_show NtAcceptConnectPort (shared_fields value (record { own = own; theirs = theirs; across = across }))) ≡ true
   shared-level value None None None = refl
   shared-level value None None (Some c) = refl
   shared-level value None (Some b) None = refl
@@ -220,7 +223,7 @@ module _ (s : Receipt) where
   shared-level value (Some a) (Some b) (Some c) = refl
 
   -- The calls
-  calls-balanced : (by : ThreadRow) (w : World) → IsCalled AnyWorld w by → Outcomes w by (λ call. IsBalanced (run by.number call) w)
+  calls-balanced : (by : ThreadRow) (w : World) → IsCalled HasOwnCalls w by → Outcomes w by (λ call. IsBalanced (run by.number call) w)
   calls-balanced by w called = let is = called in record {
     creates = λ dacl. level w _ _ refl;
     founds = λ name dacl path free. level w _ _ (every-append is_level (create_steps by (named_steps (next_birth by) path) (free_handle w by.process)) (guard_steps (next_birth by) (Some name) dacl) refl (guard-pass is_level (λ _ _. refl) (next_birth by) dacl));
@@ -230,7 +233,7 @@ module _ (s : Receipt) where
         let start = connect_start by connection offer own m in
         let row = row_of connection (client_port by connection) m in
         let bs = start ++ enter row (world_after w start) in
-        let one = sent w line row start refl is.sound in
+        let one = sent w line row start refl is.sound is.known in
         let maps = mapped by.process own in
         let both = both-balanced s w line w bs maps one.sum (level-balanced s w line (world_after w bs) maps (mapped-pass is_level by.process (λ _. refl) own)) in
         let all = connect_steps by connection offer own m w in
@@ -243,17 +246,19 @@ module _ (s : Receipt) where
     accepts = λ context bytes view offer a views c. level w _ (accept_steps by context (free_handle w by.process) a views)
         (every-append is_level (accept_start by context (free_handle w by.process) a views) (shared_steps by a.wait views) (and_from _ _ (shared-level (free_handle w by.process) views.own views.theirs views.across) refl) (shared-pass is_level by a.wait (λ _. refl) (λ _. refl) views));
     completes = λ handle c at. level w _ _ refl;
-    sends = λ handle bytes t at. sent w _ (row_of t.queue t.port (sent_by by DATAGRAM t.message)) (datagram_start by) refl is.sound;
-    asks = λ handle bytes t at. let m = sent_by by REQUEST t.message in sent w _ (row_of t.queue t.port m) (request_start by t.port.birth t.queue m) refl is.sound;
-    replies = λ handle bytes port m x at read fits. level w _ (reply_steps by x m) (reply-cases (λ b. every is_level (Tells (entry.Answer by.number NtReplyPort SUCCESS []) ∷ b ∷ []) ≡ true) x m (rw (reply-shown m) refl) refl (λ _. refl));
+    sends = λ handle bytes t at. sent w _ (row_of t.queue t.port (sent_by by DATAGRAM t.message)) (datagram_start by) refl is.sound is.known;
+    asks = λ handle bytes t at. let m = sent_by by REQUEST t.message in sent w _ (row_of t.queue t.port m) (request_start by t.port.birth t.queue m) refl is.sound is.known;
+    replies = λ handle bytes port m x at read fits.
+        let off = holds_ok (λ (x : WaitRow). is_listening x.call ≡ false) (reply_test w port m) x (answered-call w port m is.known) fits in
+        level w _ (reply_steps by x m) (reply-cases (λ b. every is_level (Tells (entry.Answer by.number NtReplyPort SUCCESS []) ∷ b ∷ []) ≡ true) x m (rw off refl) refl (λ _. refl));
     receives = λ handle bytes o port queue replied m r at.
         let line = run by.number (reply_wait_receive_port handle bytes) in
         let from : received_on w line ≡ Some queue = rw (is.can.lives, r.port_found) (holds_ok _ (receive_test w port) queue (tested-queue w port) r.queue_found) in
-        record { sum = taken-balanced w line by port queue m at from replied (holds_ok _ (given_reply w port o) replied (given-replies w port o) r.reply_made) };
-    awaits_message = λ handle bytes o port queue replied r at. waits-balanced w _ by port queue replied (holds_ok _ (given_reply w port o) replied (given-replies w port o) r.reply_made);
+        record { sum = taken-balanced w line by port queue m at from replied (holds_ok _ (given_reply w port o) replied (given-replies w port o is.known) r.reply_made) };
+    awaits_message = λ handle bytes o port queue replied r at. waits-balanced w _ by port queue replied (holds_ok _ (given_reply w port o) replied (given-replies w port o is.known) r.reply_made);
     registers = λ handle port at new few. level w _ _ refl;
     repeats = λ handle port at known. level w _ _ refl;
-    closes = λ handle r at. closed-balanced w _ by r is.sound;
+    closes = λ handle r at. closed-balanced w _ by r is.sound is.known;
     duplicates = λ handle access r at. level w _ _ refl;
     queries = λ handle r at. level w _ _ refl;
     spawns = λ pid tid new unused. level w _ _ refl;
@@ -269,16 +274,16 @@ module _ (s : Receipt) where
     reverts = λ class. level w _ _ refl;
     opens_own = λ own at. level w _ _ refl;
     opens_primary = level w _ _ refl;
-    asks_token = λ handle class t field at told. level w _ _ (and_from _ true (told-level t class field told) refl);
+    asks_token = λ handle class t field at told. level w _ _ (and_from _ true (told-level (is_message field)) refl);
     sets = λ target class handle pid port at found live. level w _ (set_port_steps by class pid port.birth) (set-passes (λ bs. every is_level bs ≡ true) by class pid port.birth refl refl);
     handles = λ code handled. level w _ _ refl;
-    hears = λ code handled h is. sent w _ (row_of h.queue h.port (event_message (client_of by) by.next_identifier code h.chance)) (raise_told by ∷ event_begun by code handled h) refl (let c = called in c.sound);
+    hears = λ code handled h heard. sent w _ (row_of h.queue h.port (event_message (client_of by) by.next_identifier code h.chance)) (raise_told by ∷ event_begun by code handled h) refl is.sound is.known;
     fails = λ code handled. level w _ _ refl;
-    ends = λ call name own pid code ts doomed. ended-balanced w _ by name own pid code ts is.sound;
+    ends = λ call name own pid code ts doomed. ended-balanced w _ by name own pid code ts is.sound is.known;
   }
 
   -- The lines
-  balanced-lines : LineLaw AnyWorld IsBalanced
+  balanced-lines : LineLaw HasOwnCalls IsBalanced
   balanced-lines = record {
     tells = λ line w e is. level w line _ (and_from _ true (status-level e is) refl);
     calls = calls-balanced;
@@ -339,9 +344,9 @@ module _ (s : Receipt) where
             dry = rw (after-append u bs (turns n z)) two.dry;
           }
 
-  settled-balanced : (v : World) → IsSoundWorld v → Balanced no_receive v (settle v)
+  settled-balanced : (v : World) → IsSoundWorld v → HasOwnCalls v → Balanced no_receive v (settle v)
   unfolding settle
-  settled-balanced v sound = let all = turns-balance v (most_turns v) v (dry-first v sound) in all.balanced
+  settled-balanced v sound own = let all = turns-balance v (most_turns v) v (dry-first v sound own) in all.balanced
 
   -- steps one behind the other, of which the later are counted in a world of their own
   joined-balanced : (w : World) (xs ys : List Basic) (m n : ℕ) → standing s w + count (has_receipt s) (posts_of xs) ≡ standing s (world_after w xs) + (m + lost s w xs) → standing s (world_after w xs) + count (has_receipt s) (posts_of ys) ≡ standing s (world_after (world_after w xs) ys) + (n + lost s (world_after w xs) ys)
@@ -366,17 +371,17 @@ module _ (s : Receipt) where
   woken-count v [] = refl
   woken-count v (e ∷ es) = grind (arith, woken-same v e, woken-count v es)
 
-  pub line-balanced : (w : World) (line : ScriptLine) → IsSoundWorld w → IsReady (world_after w (own_steps line w)) → standing s w + count (has_receipt s) (posts_of (steps line w)) ≡ standing s (step w line).world + (receipts s w line + lost s w (steps line w))
+  pub line-balanced : (w : World) (line : ScriptLine) → IsSoundWorld w → HasShutConnects w → HasOwnCalls w → IsReady (world_after w (own_steps line w)) → standing s w + count (has_receipt s) (posts_of (steps line w)) ≡ standing s (step w line).world + (receipts s w line + lost s w (steps line w))
   unfolding bare_steps
-  line-balanced w line sound ready =
+  line-balanced w line sound shut calls ready =
       let own = own_steps line w in
       let v = world_after w own in
       let set = settle v in
       let u = world_after v set in
       let bare = own ++ set in
       let swept = sweep (world_after w bare) in
-      let one = line-does AnyWorld IsBalanced balanced-lines w sound tt line in
-      let two = settled-balanced v ready.safe.sound in
+      let one = line-does HasOwnCalls IsBalanced balanced-lines w sound calls line in
+      let two = settled-balanced v ready.safe.sound (calls_line w line sound shut calls) in
       let same : world_after w bare ≡ u = after-append w own set in
       let three : Balanced no_receive v (set ++ swept) = both-balanced s v no_receive v set swept two (level-balanced s v no_receive u swept (plain-level swept (sweep-plain (world_after w bare)))) in
       let parts = entries-both s v no_receive set swept in

@@ -51,6 +51,7 @@ use Rattle.lpc_model.proofs.Calls.Raising.{IsHeard, heard-routed}
 use Rattle.lpc_model.proofs.Sound.Reply.{reply-cases}
 use Rattle.lpc_model.specs.Refusal.{found_or, refuse_if}
 use Rattle.lpc_model.specs.Request.{Sendable, datagram_send_test, datagram_steps, datagram_test, given_reply, is_spent, receive_steps, receive_test, receive_wait, reply_test, request_steps, request_wait, send_test, sent_by}
+use Rattle.lpc_model.specs.OwnCalls.{waits_in_call}
 use Rattle.lpc_model.specs.SoundWaits.{IsSoundWorld, can_stay_sound}
 use Rattle.lpc_model.specs.Standing.{has_near_queue, port_stands, is_near, names_object, stands_as, section_stands}
 use Rattle.lpc_model.specs.Targets.{LIFE_ACCESS}
@@ -72,11 +73,12 @@ pub record IsPost (w : World) (m : MessageRow) : Type 0 where
   pub opens : is_open w m.queue ≡ true
   pub other : not (is_closed_post m) ≡ true
 
--- a wait begins on a port that stands, near its queue, which is open
+-- a wait begins on a port that stands, near its queue, which is open, in the call of its kind
 pub record IsBegun (w : World) (x : WaitRow) : Type 0 where
   pub near : has_near_queue w x ≡ true
   pub opens : is_open w x.queue ≡ true
   pub begins : not (is_accepted x) ≡ true
+  pub in_call : waits_in_call x ≡ true
 
 -- handles name what stands
 abbrev pub HandlesName : World → Type 0
@@ -308,7 +310,7 @@ module _ (by : ThreadRow) (C K : World → Type 0) (P : World → List Basic →
   listening : (w : World) (handle : ℕ) (port : PortRow) → IsListening w by handle port → P w (listen_steps by port.birth None)
   listening w handle port l =
       let u = holds_ok (IsUsable w) (port_test w by handle) port (port-usable w by handle) l.port_found in
-      told-first w _ _ (k.waits w (listen_wait by port.birth) refl (record { near = rw (u.stands, birth-self port.birth) refl; opens = u.opens; begins = refl }))
+      told-first w _ _ (k.waits w (listen_wait by port.birth) refl (record { near = rw (u.stands, birth-self port.birth) refl; opens = u.opens; begins = refl; in_call = refl }))
 
   -- behind the number that its sender draws
   post : (w : World) (s : Sendable) (kind : ℕ) → not (is_closed_post (row_of s.queue s.port (sent_by by kind s.message))) ≡ true → IsSent w s → IsPost (basic w (DrawsIdentifier by.number)) (row_of s.queue s.port (sent_by by kind s.message))
@@ -327,7 +329,7 @@ module _ (by : ThreadRow) (C K : World → Type 0) (P : World → List Basic →
       let m = sent_by by REQUEST s.message in
       let is = holds_ok (IsSent w) (send_test w by handle bytes) s (sent w by handle bytes) at in
       let near : has_near_queue w (request_wait by s.port.birth s.queue m) ≡ true = rw is.usable.stands (way-near w (request_wait by s.port.birth s.queue m) s.port refl is.way) in
-      told-first w _ _ (k.follows w (DrawsIdentifier by.number ∷ []) _ (k.numbers w) (k.asks (basic w (DrawsIdentifier by.number)) (request_wait by s.port.birth s.queue m) (row_of s.queue s.port m) refl (record { near = near; opens = is.opens; begins = refl }) (post w s REQUEST refl is)))
+      told-first w _ _ (k.follows w (DrawsIdentifier by.number ∷ []) _ (k.numbers w) (k.asks (basic w (DrawsIdentifier by.number)) (request_wait by s.port.birth s.queue m) (row_of s.queue s.port m) refl (record { near = near; opens = is.opens; begins = refl; in_call = refl }) (post w s REQUEST refl is)))
 
   -- an event is sent as a request
   pub hearing : (w : World) (code : ℕ) (handled : Bool) (chance : Chance) (h : Hearing) → IsHeard w chance h → P w (send_event by code handled h w)
@@ -336,7 +338,7 @@ module _ (by : ThreadRow) (C K : World → Type 0) (P : World → List Basic →
       let m = row_of h.queue h.port (event_message (client_of by) by.next_identifier code h.chance) in
       let near : has_near_queue w x ≡ true = rw is.stands (way-near w x h.port refl is.way) in
       let opens = let r = is.route in r.to in
-      k.follows w (DrawsIdentifier by.number ∷ []) _ (k.numbers w) (k.asks (basic w (DrawsIdentifier by.number)) x m refl (record { near = near; opens = opens; begins = refl }) (record { stands = row-stands w h.port.birth h.port is.stands; opens = opens; other = other h.chance }))
+      k.follows w (DrawsIdentifier by.number ∷ []) _ (k.numbers w) (k.asks (basic w (DrawsIdentifier by.number)) x m refl (record { near = near; opens = opens; begins = refl; in_call = refl }) (record { stands = row-stands w h.port.birth h.port is.stands; opens = opens; other = other h.chance }))
     where
       other : (c : Chance) → not (event_kind c == PORT_CLOSED) ≡ true
       other FirstDebug = refl
@@ -378,7 +380,7 @@ module _ (by : ThreadRow) (C K : World → Type 0) (P : World → List Basic →
       let at = holds_ok (λ queue. queue_of w port ≡ Some queue) (receive_test w port) queue (tested-queue w port) r.queue_found in
       let near : has_near_queue w x ≡ true = rw u.stands (queue-near w x port at) in
       let opens : is_open w queue ≡ true = queue-open w queue port at in
-      told-first w _ _ (k.follows w replied (Awaits x ∷ []) is.does (k.waits v x refl (record { near = rw is.ports near; opens = rw is.handles opens; begins = refl })))
+      told-first w _ _ (k.follows w replied (Awaits x ∷ []) is.does (k.waits v x refl (record { near = rw is.ports near; opens = rw is.handles opens; begins = refl; in_call = refl })))
 
   completing : (w : World) (handle : ℕ) (c : Completable) → complete_test w by handle ≡ Ok c → IsSoundWorld w → P w (complete_steps by (free_handle w c.wait.process) c)
   completing w handle c at s = told-first w _ _ (k.completes w c (record {
