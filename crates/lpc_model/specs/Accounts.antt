@@ -1,7 +1,7 @@
 -- Messages are accounted for: each that was posted stands in its queue, was received from it, was withdrawn with the wait of
 -- its thread, or was lost when the queue's port closed. So is each that tells of a
 -- thread's end or of a closed port.
-use Rattle.std.specs.Prelude.{◌≡◌, ℕ, ◌+◌, ◌++◌, ◌&&◌, ◌||◌, ◌==◌, Bool, true, false, List, [], ◌∷◌, Option, None, Some, option_and_then, option_map, Result, Ok, Err}
+use Rattle.std.specs.Prelude.{◌≡◌, ℕ, ◌+◌, ◌++◌, ◌&&◌, ◌==◌, Bool, true, false, List, [], ◌∷◌, Option, None, Some, option_and_then, option_map, Result, Ok, Err}
 use Rattle.std.specs.Str.{bytes_eq}
 use Rattle.lpc_base.specs.Rows.{count, which}
 use Rattle.lpc_base.specs.declared.status.Status.{Status}
@@ -17,7 +17,7 @@ use Rattle.lpc_model.specs.declared.entry.FieldName.TheVariants.{Msg}
 use Rattle.lpc_model.specs.declared.entry.Value.TheVariants.{Bytes, Hex}
 use Rattle.lpc_base.specs.declared.birth.Birth.{Birth}
 use Rattle.lpc_model.specs.World.{MessageRow, PortRow, World, no_rows}
-use Rattle.lpc_model.specs.Message.{bytes_of, is_connection_request, message_of}
+use Rattle.lpc_model.specs.Message.{bytes_of}
 use Rattle.lpc_model.specs.Found.{is_own_of, is_the, live_thread, queue_of, queued_on, same_birth, wait_of}
 use Rattle.lpc_model.specs.Basics.{Basic, Empties, Withdraws, basic, entries_of, world_after}
 use Rattle.lpc_model.specs.Tests.{port_test}
@@ -33,15 +33,9 @@ pub record Receipt : Type 0 where
   pub bytes : List ℕ
 
 -- Messages
--- the bytes are a connection request's
-abbrev pub connects : Receipt → Bool
-connects r = is_connection_request (message_of r.bytes)
-
--- a message stands so in its queue, or is posted so: it has this queue, context and bytes; of a connection request the context
--- isn't compared, since a listen shows none
+-- a message stands in its queue, or is posted so: it has this queue, context and bytes
 abbrev pub has_receipt : Receipt → MessageRow → Bool
-has_receipt r m =
-    same_birth r.queue m.queue && (((m.context == r.context) || connects r) && bytes_eq (bytes_of m.message) r.bytes)
+has_receipt r m = same_birth r.queue m.queue && ((m.context == r.context) && bytes_eq (bytes_of m.message) r.bytes)
 
 -- how many such messages stand
 abbrev pub standing : Receipt → World → ℕ
@@ -70,12 +64,12 @@ has_bytes bytes f = elim f.value [
 abbrev pub shows_bytes : List ℕ → Field → Bool
 shows_bytes bytes f = is_message f && has_bytes bytes f
 
--- the two fields of a receive show the context and the bytes, and the one of a listen those of a connection request; no
+-- the two fields of a receive show the context and the bytes, and the one of a listen the bytes of what has context 0; no
 -- other call shows what was received
 abbrev pub shows_message : Receipt → CallName → List Field → Bool
 shows_message r NtReplyWaitReceivePort (context ∷ bytes ∷ []) =
-    (shows_context r.context context || connects r) && shows_bytes r.bytes bytes
-shows_message r NtListenPort (bytes ∷ []) = connects r && shows_bytes r.bytes bytes
+    shows_context r.context context && shows_bytes r.bytes bytes
+shows_message r NtListenPort (bytes ∷ []) = (r.context == 0) && shows_bytes r.bytes bytes
 shows_message r call fields = false
 
 -- a call that ends with success shows so

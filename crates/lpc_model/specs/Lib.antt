@@ -42,6 +42,7 @@ pub mod Standing
 pub mod SoundViews
 pub mod OpenQueues
 pub mod OwnCalls
+pub mod PlainConnects
 pub mod Limits
 pub mod Connected
 pub mod Queues

@@ -5,6 +5,7 @@ ghost use Rattle.lpc_model.specs.Accounts.{RunAccountsForDeaths, RunAccountsForM
 ghost use Rattle.lpc_model.specs.Linked.{IsLinked, RunHoldsRows};
 ghost use Rattle.lpc_model.specs.Standing.{NamesWhatStands, RunNamesWhatStands};
 ghost use Rattle.lpc_model.specs.OwnCalls.{RunHasOwnCalls};
+ghost use Rattle.lpc_model.specs.PlainConnects.{RunHasPlainConnects};
 ghost use Rattle.lpc_model.specs.OpenQueues.{HasOpenQueues, RunKeepsQueuesOpen};
 ghost use Rattle.lpc_model.specs.Closings.{RunTellsClosings};
 ghost use Rattle.lpc_model.specs.KeptPorts.{RunKeepsPorts, StepsKeepPorts};
@@ -171,18 +172,20 @@ pub fn law_views()
 /// Behind each line, for each queue, context and bytes of a message: as many were posted so far as
 /// stand in the queue, were shown as received from it by a receive or a listen that succeeded, were
 /// withdrawn as the wait of their thread ended or its event was marked, and were lost when the
-/// queue's port closed. So it is with requests, events, datagrams, and what tells of closed ports and
-/// of threads that ended; of a connection request, which a listen shows without a context, the
-/// context isn't compared. Each line empties the queues of the ports that lose their last handles in
-/// it, once for each, and no other: so no message is lost while its port is open. What settling shows
-/// as received was waited for when it began. A line withdraws the message of a thread only where it
-/// wakes or ends that thread, or marks its event. Each thread waits in the call of its wait's kind:
-/// for a message in a receive, for a connection request in a listen.
+/// queue's port closed. So it is with requests, events, connection requests, datagrams, and what tells
+/// of closed ports and of threads that ended. A receive shows the context, and a listen none: what it
+/// shows is received with context 0, and each connection request that is posted, or stands in a
+/// queue, has that. Each line empties the queues of the ports that lose their last handles in it, once
+/// for each, and no other: so no message is lost while its port is open. What settling shows as
+/// received was waited for when it began. A line withdraws the message of a thread only where it
+/// wakes or ends that thread, or marks its event. Each thread that waits does so in the call of its
+/// wait's kind: for a message in a receive, for a connection request in a listen.
 pub fn law_messages_are_accounted_for()
     ensures runs { (script : List ℕ) → RunAccountsForMessages script }
     ensures emptied { (script : List ℕ) → RunEmptiesWithHandles script }
     ensures withdrawn { (script : List ℕ) → RunWithdrawsWithWaits script }
     ensures calls { (script : List ℕ) → RunHasOwnCalls script }
+    ensures contexts { (script : List ℕ) → RunHasPlainConnects script }
 {}
 
 /// Each line keeps all that the calls ask of the world at once.

@@ -1,14 +1,11 @@
 -- Steps in balance: of the messages that stand before them and those that they post, each stands behind them, or is shown as
 -- received, or is lost.
 use Rattle.std.proofs.Common.{◌≡◌, ◌∙◌, ℕ, ◌+◌, List, [], ◌∷◌, ◌++◌, Bool, true, false, not, ap, refl, sym, arith}
-use Rattle.std.specs.Prelude.{◌&&◌, ◌||◌}
-use Rattle.std.proofs.lemmas.Bool.{and_right, eqb-true}
-use Rattle.std.proofs.lemmas.Slice.Eq.{bytes_eq-Decides}
-use Rattle.std.specs.Str.{bytes_eq}
+use Rattle.std.specs.Prelude.{◌&&◌, ◌==◌}
+use Rattle.std.proofs.lemmas.Bool.{and_right}
 use Rattle.lpc_base.specs.Rows.{count, every, which, without}
 use Rattle.lpc_base.specs.declared.birth.Birth.{Birth}
 use Rattle.lpc_base.proofs.RowWords.{count-append}
-use Rattle.lpc_message.specs.declared.kind.TheConstants.{CONNECTION_REQUEST}
 use Rattle.lpc_model.specs.declared.entry.CallName.{CallName}
 use Rattle.lpc_model.specs.declared.entry.CallName.TheVariants.{NtListenPort, NtReplyWaitReceivePort}
 use Rattle.lpc_model.specs.declared.entry.Entry.{Entry}
@@ -16,23 +13,13 @@ use Rattle.lpc_model.specs.declared.entry.Entry.TheVariants as entry
 use Rattle.lpc_model.specs.declared.entry.Field.{Field}
 use Rattle.lpc_model.specs.declared.entry.ObjectKind.{ObjectKind}
 use Rattle.lpc_model.specs.declared.entry.ObjectKind.TheVariants as kind
-use Rattle.lpc_model.specs.World.{MessageRow, World}
-use Rattle.lpc_model.specs.Message.{bytes_of, is_connection_request, message_of}
+use Rattle.lpc_model.specs.World.{World}
 use Rattle.lpc_model.specs.Found.{is_own_of, is_queued}
 use Rattle.lpc_model.specs.Basics.{Basic, Empties, Enters, Frees, Takes, TakesConnect, Tells, Wakes, Withdraws, basic, entries_of, freed, posted, posts_of, told, world_after}
 use Rattle.lpc_model.specs.Lines.{ScriptLine}
 use Rattle.lpc_model.proofs.Closings.Told.{posts-append}
 use Rattle.lpc_model.proofs.Steps.InTurn.{after-append}
-use Rattle.lpc_model.specs.Accounts.{Receipt, connects, has_bytes, is_message, shows_message, is_received, has_receipt, loses, lost, standing, shows_context}
-
--- Connection requests
--- a connection request shows that it is one
-pub connecting-shown : (m : MessageRow) → is_connection_request m.message ≡ true → is_connection_request (message_of (bytes_of m.message)) ≡ true
-unfolding bytes_of
-connecting-shown m is = let k : m.message.header.kind ≡ CONNECTION_REQUEST = eqb-true _ _ is in rw k refl
-
-pub bytes-same : (xs ys : List ℕ) → bytes_eq xs ys ≡ true → xs ≡ ys
-bytes-same xs ys is = let decides = bytes_eq-Decides xs ys in decides.0 is
+use Rattle.lpc_model.specs.Accounts.{Receipt, has_bytes, is_message, shows_message, is_received, has_receipt, loses, lost, standing, shows_context}
 
 -- Counts of rows
 count-parts : {X : Type 0} (p test : X → Bool) (xs : List X) → count p xs ≡ count p (without test xs) + count p (which test xs)
@@ -72,14 +59,14 @@ is_level b = true
 
 unshown : (s : Receipt) (call : CallName) (fields : List Field) → not (may_show call fields) ≡ true → shows_message s call fields ≡ false
 unshown s NtListenPort [] is = refl
-unshown s NtListenPort (a ∷ []) is = alone (is_message a) (connects s) (has_bytes s.bytes a) is
+unshown s NtListenPort (a ∷ []) is = alone (is_message a) (s.context == 0) (has_bytes s.bytes a) is
   where
     alone : (m k c : Bool) → not (m && true) ≡ true → (k && (m && c)) ≡ false
     alone m k c is = grind arith
 unshown s NtListenPort (a ∷ b ∷ fields) is = refl
 unshown s NtReplyWaitReceivePort [] is = refl
 unshown s NtReplyWaitReceivePort (a ∷ []) is = refl
-unshown s NtReplyWaitReceivePort (a ∷ b ∷ []) is = behind (is_message b) (shows_context s.context a || connects s) (has_bytes s.bytes b) is
+unshown s NtReplyWaitReceivePort (a ∷ b ∷ []) is = behind (is_message b) (shows_context s.context a) (has_bytes s.bytes b) is
   where
     behind : (m x c : Bool) → not (m && true) ≡ true → (x && (m && c)) ≡ false
     behind m x c is = grind arith

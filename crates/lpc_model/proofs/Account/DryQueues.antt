@@ -1,6 +1,7 @@
 -- Where a receive waits no message stands, and what enters there it takes: a message that enters a queue is in balance.
 use Rattle.std.proofs.Common.{◌≡◌, ◌∙◌, ℕ, ◌+◌, ◌≤◌, append_assoc, List, [], ◌∷◌, ◌++◌, Bool, true, false, not, Option, Some, None, ap, refl, sym, subst, arith}
-use Rattle.std.proofs.lemmas.Bool.{and_from, eq-eqb, or_left}
+use Rattle.std.proofs.lemmas.Bool.Decides.{nat_tests}
+use Rattle.std.proofs.lemmas.Bool.{and_from, eq-eqb, eqb-true, or_left}
 use Rattle.std.specs.Prelude.{◌&&◌, ◌||◌, ◌==◌, option_map}
 use Rattle.lpc_base.specs.Rows.{count, every, first, given, has, passes, when, without, without_first}
 use Rattle.lpc_base.proofs.RowWords.{count-append, every-append, every-change, every-more, every-push, every-without, first-passes, has_none-more, has_none-push, has_none-without, has_none-without_first, none-counted}
@@ -15,21 +16,21 @@ use Rattle.lpc_model.specs.declared.entry.Entry.TheVariants as entry
 use Rattle.lpc_model.specs.declared.entry.ObjectKind.{ObjectKind}
 use Rattle.lpc_model.specs.declared.entry.ObjectKind.TheVariants as kind
 use Rattle.lpc_model.specs.World.{Acceptance, Listen, MessageRow, Receive, WaitRow, World}
-use Rattle.std.specs.Str.{bytes_eq}
-use Rattle.lpc_model.specs.Message.{asks, bytes_of, is_connection_request, message_of}
+use Rattle.lpc_model.specs.Message.{asks, is_connection_request}
 use Rattle.lpc_model.specs.Fields.{msg, receipt}
 use Rattle.lpc_model.specs.Found.{is_listen, is_open, is_own_of, is_queued, is_queued_connect, is_receive, is_the, port_row, same_birth, waits_as, waits_at}
 use Rattle.lpc_model.specs.Basics.{Accepts, Awaits, Basic, Dies, Empties, Enters, Frees, Receives, Takes, TakesConnect, Wakes, Withdraws, accepted, basic, freed, received, world_after, Leaves}
 use Rattle.lpc_model.specs.Entering.{enter, given_steps, received_steps, shown, takes, woken}
 use Rattle.lpc_model.specs.Tests.{is_client}
 use Rattle.lpc_model.specs.OwnCalls.{HasOwnCalls, is_kind_of, waits_in_call}
+use Rattle.lpc_model.specs.PlainConnects.{is_plain_connect}
 use Rattle.lpc_model.specs.SoundWaits.{IsSoundWorld, has_come, is_joined, is_sound_wait, waiter_of}
 use Rattle.lpc_model.specs.Lines.{ScriptLine}
 use Rattle.lpc_model.proofs.Steps.Rows.{without_first-push}
 use Rattle.lpc_model.proofs.Sound.Drops.{one_if}
 use Rattle.lpc_model.proofs.Sound.Worlds.{by_kind}
-use Rattle.lpc_model.specs.Accounts.{Receipt, connects, shows_receipt, is_received, has_receipt, standing, waited_on}
-use Rattle.lpc_model.proofs.Account.Balance.{AreBalanced, bytes-same, connecting-shown, is_level, level-balanced}
+use Rattle.lpc_model.specs.Accounts.{Receipt, shows_receipt, is_received, has_receipt, standing, waited_on}
+use Rattle.lpc_model.proofs.Account.Balance.{AreBalanced, is_level, level-balanced}
 
 -- in a world behind some steps of a line: no message stands on the queue on which a receive waits, and no connection request on
 -- that on which a listen does, and its thread waited there before the line, in the call of its kind
@@ -186,24 +187,26 @@ module _ (s : Receipt) (w : World) (line : ScriptLine) where
       at false all = rw all (shown-once (standing s v) (seen-by x.call (waited_on w x.thread) m own its))
 
   -- a listen takes it
-  pub listened-as : (o : Option Birth) (m : MessageRow) → is_connection_request m.message ≡ true → is_the m.queue o ≡ true → (is_the s.queue o && shows_receipt s NtListenPort SUCCESS (msg m.message ∷ [])) ≡ has_receipt s m
-  listened-as None m is its = absurd (cc)
-  listened-as (Some q) m is its = let same : m.queue ≡ q = birth-same m.queue q its in rw (sym same) (parts (same_birth s.queue m.queue) (m.context == s.context) (connects s) (bytes_eq (bytes_of m.message) s.bytes) asking)
+  pub listened-as : (o : Option Birth) (m : MessageRow) → is_connection_request m.message ≡ true → is_plain_connect m ≡ true → is_the m.queue o ≡ true → (is_the s.queue o && shows_receipt s NtListenPort SUCCESS (msg m.message ∷ [])) ≡ has_receipt s m
+  listened-as None m is plain its = absurd (cc)
+  listened-as (Some q) m is plain its =
+      let same : m.queue ≡ q = birth-same m.queue q its in
+      let none : m.context ≡ 0 = eqb-true m.context 0 (none-given (is_connection_request m.message) (m.context == 0) is plain) in
+      rw (sym same, none, zero-either s.context) refl
     where
-      asking : bytes_eq (bytes_of m.message) s.bytes ≡ true → connects s ≡ true
-      asking same = subst (λ (bytes : List ℕ). is_connection_request (message_of bytes) ≡ true) (bytes-same (bytes_of m.message) s.bytes same) (connecting-shown m is)
+      none-given : (c z : Bool) → c ≡ true → (not c || z) ≡ true → z ≡ true
+      none-given c z is plain = grind arith
 
-      parts : (a x k c : Bool) → (c ≡ true → k ≡ true) → (a && (k && (true && c))) ≡ (a && ((x || k) && c))
-      parts a x k true shows = let is = shows refl in grind (arith, is)
-      parts a x k false shows = grind arith
+      zero-either : (n : ℕ) → (n == 0) ≡ (0 == n)
+      zero-either n = grind (arith, nat_tests)
 
-  listened-by : (call : CallName) (o : Option Birth) (m : MessageRow) → is_kind_of call Listen ≡ true → is_connection_request m.message ≡ true → is_the m.queue o ≡ true → (is_the s.queue o && shows_receipt s call SUCCESS (msg m.message ∷ [])) ≡ has_receipt s m
-  listened-by NtListenPort o m own is its = listened-as o m is its
-  listened-by call o m own is its = absurd (cc)
+  listened-by : (call : CallName) (o : Option Birth) (m : MessageRow) → is_kind_of call Listen ≡ true → is_connection_request m.message ≡ true → is_plain_connect m ≡ true → is_the m.queue o ≡ true → (is_the s.queue o && shows_receipt s call SUCCESS (msg m.message ∷ [])) ≡ has_receipt s m
+  listened-by NtListenPort o m own is plain its = listened-as o m is plain its
+  listened-by call o m own is plain its = absurd (cc)
 
-  enter-listen : (v : World) (m : MessageRow) (x : WaitRow) → is_connection_request m.message ≡ true → has (is_queued_connect m.queue) v.messages ≡ false → is_the m.queue (waited_on w x.thread) ≡ true → is_kind_of x.call Listen ≡ true → HasDryQueues w v
+  enter-listen : (v : World) (m : MessageRow) (x : WaitRow) → is_connection_request m.message ≡ true → is_plain_connect m ≡ true → has (is_queued_connect m.queue) v.messages ≡ false → is_the m.queue (waited_on w x.thread) ≡ true → is_kind_of x.call Listen ≡ true → HasDryQueues w v
       → IsEntered v (Enters m ∷ TakesConnect m.queue ∷ received_steps m ++ woken SUCCESS (msg m.message ∷ []) x ∷ [])
-  enter-listen v m x connects none its own dry =
+  enter-listen v m x connects plain none its own dry =
       let u = basic (basic v (Enters m)) (TakesConnect m.queue) in
       let rest = received_steps m ++ woken SUCCESS (msg m.message ∷ []) x ∷ [] in
       let all : without_first (is_queued_connect m.queue) (v.messages ++ m ∷ []) ≡ v.messages = without_first-push (is_queued_connect m.queue) v.messages m none (and_from (same_birth m.queue m.queue) (is_connection_request m.message) (birth-self m.queue) connects) in
@@ -216,12 +219,12 @@ module _ (s : Receipt) (w : World) (line : ScriptLine) where
       shown-once n same = one-each (has_receipt s) (is_received s w line) m (entry.Wakes x.thread x.call SUCCESS (msg m.message ∷ [])) same n
 
       at : (a : Bool) → without_first (is_queued_connect m.queue) (v.messages ++ m ∷ []) ≡ v.messages → AreBalanced s w line v (Enters m ∷ TakesConnect m.queue ∷ when a (Receives m.message.header.client.thread m.queue ∷ []) ++ woken SUCCESS (msg m.message ∷ []) x ∷ [])
-      at true all = rw all (shown-once (standing s v) (listened-by x.call (waited_on w x.thread) m own connects its))
-      at false all = rw all (shown-once (standing s v) (listened-by x.call (waited_on w x.thread) m own connects its))
+      at true all = rw all (shown-once (standing s v) (listened-by x.call (waited_on w x.thread) m own connects plain its))
+      at false all = rw all (shown-once (standing s v) (listened-by x.call (waited_on w x.thread) m own connects plain its))
 
   -- one that waits there does, which has waited longest
-  enter-given : (v : World) (m : MessageRow) (x : WaitRow) → takes m x ≡ true → is_dry w v x ≡ true → HasDryQueues w v → IsEntered v (Enters m ∷ given_steps x m ++ woken SUCCESS (shown x m) x ∷ [])
-  enter-given v m =
+  enter-given : (v : World) (m : MessageRow) (x : WaitRow) → is_plain_connect m ≡ true → takes m x ≡ true → is_dry w v x ≡ true → HasDryQueues w v → IsEntered v (Enters m ∷ given_steps x m ++ woken SUCCESS (shown x m) x ∷ [])
+  enter-given v m x plain =
       by_kind (λ x. takes m x ≡ true → is_dry w v x ≡ true → HasDryQueues w v → IsEntered v (Enters m ∷ given_steps x m ++ woken SUCCESS (shown x m) x ∷ []))
       (λ x r is one dry. absurd (cc))
       (λ x is one dry.
@@ -236,11 +239,11 @@ module _ (s : Receipt) (w : World) (line : ScriptLine) where
       let none = first-off (has (is_queued_connect x.queue) v.messages) (is_the x.queue (waited_on w x.thread)) (is_kind_of x.call Listen) one in
       let its = last-part (has (is_queued_connect x.queue) v.messages) (is_the x.queue (waited_on w x.thread)) (is_kind_of x.call Listen) one in
       let own = own-part (has (is_queued_connect x.queue) v.messages) (is_the x.queue (waited_on w x.thread)) (is_kind_of x.call Listen) one in
-      enter-listen v m (record x { kind = Listen }) (first-true (is_connection_request m.message) (same_birth x.queue m.queue) is)
+      enter-listen v m (record x { kind = Listen }) (first-true (is_connection_request m.message) (same_birth x.queue m.queue) is) plain
       (subst (λ q. has (is_queued_connect q) v.messages ≡ false) same none) (subst (λ q. is_the q (waited_on w x.thread) ≡ true) same its) own dry)
       (λ x r offer is one dry. absurd (cc))
       (λ x r reply is one dry. absurd (cc))
-      (λ x r is one dry. absurd (cc))
+      (λ x r is one dry. absurd (cc)) x
     where
       off-part : (a b c : Bool) → ((not a && true) && (b && c)) ≡ true → a ≡ false
       off-part a b c is = grind arith
@@ -260,12 +263,12 @@ module _ (s : Receipt) (w : World) (line : ScriptLine) where
       own-part : (a b c : Bool) → (not a && (b && c)) ≡ true → c ≡ true
       own-part a b c is = grind arith
 
-  pub entered : (v : World) (m : MessageRow) → HasDryQueues w v → IsEntered v (enter m v)
-  entered v m dry = at (first (takes m) v.waits) refl
+  pub entered : (v : World) (m : MessageRow) → is_plain_connect m ≡ true → HasDryQueues w v → IsEntered v (enter m v)
+  entered v m plain dry = at (first (takes m) v.waits) refl
     where
       at : (o : Option WaitRow) → first (takes m) v.waits ≡ o → IsEntered v (Enters m ∷ given o (λ x. given_steps x m ++ woken SUCCESS (shown x m) x ∷ []))
       at None none = enter-none v m none dry
-      at (Some x) found = enter-given v m x (first-passes (takes m) v.waits x found) (every-first (is_dry w v) (takes m) v.waits x dry found) dry
+      at (Some x) found = enter-given v m x plain (first-passes (takes m) v.waits x found) (every-first (is_dry w v) (takes m) v.waits x dry found) dry
 
 -- The world before a line has dry queues
 first-behind : {X : Type 0} (p : X → Bool) (front : List X) (x : X) (xs : List X) → has p front ≡ false → p x ≡ true → first p (front ++ x ∷ xs) ≡ Some x

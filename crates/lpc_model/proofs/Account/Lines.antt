@@ -9,12 +9,13 @@ use Rattle.lpc_base.specs.declared.birth.Birth.{Birth}
 use Rattle.lpc_base.specs.declared.status.Status.{Status}
 use Rattle.lpc_base.specs.declared.status.TheConstants.{REPLY_MESSAGE_MISMATCH, SUCCESS}
 use Rattle.lpc_message.specs.declared.kind.TheConstants.{DATAGRAM, REQUEST}
+use Rattle.lpc_message.specs.declared.message.ClientId.{ClientId}
 use Rattle.lpc_model.specs.declared.entry.CallName.{CallName}
 use Rattle.lpc_model.specs.declared.entry.CallName.TheVariants.{NtAcceptConnectPort, NtClose, NtListenPort, NtReplyWaitReceivePort, NtReplyPort}
 use Rattle.lpc_model.specs.declared.entry.Entry.{Entry}
 use Rattle.lpc_model.specs.declared.entry.Entry.TheVariants as entry
 use Rattle.lpc_model.specs.declared.message.Message.{Message}
-use Rattle.lpc_model.specs.World.{HandleRow, MessageRow, PortRow, ThreadRow, World, ViewRow, ProcessRow, Raised, WaitRow, Event, Request}
+use Rattle.lpc_model.specs.World.{HandleRow, MessageRow, PortRow, ThreadRow, World, ViewRow, ProcessRow, Raised, WaitRow, Chance, Event, FirstDebug, LastDebug, LastException, Request}
 use Rattle.lpc_model.specs.Accounts.{Receipt, is_message, is_received, has_receipt, received_on, standing, is_woken, lost, receipts}
 use Rattle.lpc_model.specs.Basics.{Basic, Receives, Takes, TakesConnect, Tells, Wakes, world_after, Marks, Dooms, Frees, Leaves, doing, entries_of, first_code, posts_of}
 use Rattle.lpc_model.specs.Close.{close_handle, close_steps}
@@ -28,6 +29,7 @@ use Rattle.lpc_model.specs.Machine.{bare_steps, steps, own_steps, step}
 use Rattle.lpc_model.specs.Message.{asks, is_connection_request}
 use Rattle.lpc_model.specs.Request.{datagram_start, given_reply, receive_steps, receive_test, reply_test, request_start, sent_by, reply_steps}
 use Rattle.lpc_model.specs.OwnCalls.{HasOwnCalls, is_kind_of, waits_in_call}
+use Rattle.lpc_model.specs.PlainConnects.{HasPlainConnects, is_plain_connect}
 use Rattle.lpc_model.specs.SoundWaits.{HasShutConnects, IsSoundWorld}
 use Rattle.lpc_model.specs.Sweep.{sweep}
 use Rattle.lpc_model.proofs.Account.Steps.{ArePlain, end_balances, handle_balances, plain-level, sent_balances, sweep-plain, Balances, enter_balances, plain_balances, then_balances}
@@ -46,7 +48,7 @@ use Rattle.lpc_model.specs.Tests.{next_birth, client_of, client_test}
 use Rattle.lpc_model.proofs.Calls.Raising.{set-passes, on-holds}
 use Rattle.lpc_model.proofs.Sound.Reply.{fits-asking, reply-cases}
 use Rattle.lpc_model.proofs.Sound.Worlds.{by_kind}
-use Rattle.lpc_model.specs.Raise.{event_begun, event_message, raise_told, set_port_steps, Handled, Heard, Next, Unhandled, behind_chance, go_on, goes_on}
+use Rattle.lpc_model.specs.Raise.{event_begun, event_message, raise_told, set_port_steps, Handled, Heard, Hearing, Next, Unhandled, behind_chance, go_on, goes_on}
 use Rattle.lpc_model.proofs.Closings.Told.{posts-append}
 use Rattle.lpc_model.proofs.Settling.Settled.{IsReady}
 use Rattle.lpc_model.proofs.Steps.InTurn.{after-append}
@@ -83,6 +85,19 @@ answered-call w port m own =
     found_holds P (fitted w port.birth m) REPLY_MESSAGE_MISMATCH (λ x at.
     asking-call x (fits-asking w port.birth m x (first-passes (fits w port.birth m) w.waits x at)) (every-first waits_in_call (fits w port.birth m) w.waits x own at)))
 
+-- an event is no connection request
+event-plain : (client : ClientId) (identifier code : ℕ) (h : Hearing) → is_plain_connect (row_of h.queue h.port (event_message client identifier code h.chance)) ≡ true
+event-plain client identifier code h = at h.chance
+  where
+    at : (c : Chance) → is_plain_connect (row_of h.queue h.port (event_message client identifier code c)) ≡ true
+    at FirstDebug = refl
+    at LastDebug = refl
+    at LastException = refl
+
+-- waits are those of their calls, and connection requests have no context
+abbrev IsReceivable : World → Type 0
+IsReceivable w = HasOwnCalls w × HasPlainConnects w
+
 -- what is told of a token is no message
 told-level : (b : Bool) → not (b && false) ≡ true
 told-level b = grind arith
@@ -98,8 +113,8 @@ module _ (s : Receipt) where
   level : (w : World) (line : ScriptLine) (bs : List Basic) → every is_level bs ≡ true → IsBalanced line w bs
   level w line bs all = record { sum = level-balanced s w line w bs all }
 
-  sent : (w : World) (line : ScriptLine) (m : MessageRow) (start : List Basic) → ArePlain start → IsSoundWorld w → HasOwnCalls w → IsBalanced line w (start ++ enter m (world_after w start))
-  sent w line m start plain sound own = record { sum = sent_balances s w line m start plain (dry-first w sound own) }
+  sent : (w : World) (line : ScriptLine) (m : MessageRow) (start : List Basic) → is_plain_connect m ≡ true → ArePlain start → IsSoundWorld w → HasOwnCalls w → IsBalanced line w (start ++ enter m (world_after w start))
+  sent w line m start connects plain sound own = record { sum = sent_balances s w line m start connects plain (dry-first w sound own) }
 
   -- A receive takes what it shows
   -- what a reply does before: nothing, a wake, or a mark
@@ -161,7 +176,7 @@ module _ (s : Receipt) where
     taken-balanced (b ∷ bs) is = absurd (cc)
 
   -- A listen takes the connection request that it shows
-  module _ (w : World) (line : ScriptLine) (by : ThreadRow) (queue : Birth) (m : MessageRow) (found : first (is_queued_connect queue) w.messages ≡ Some m) (from : received_on w line ≡ Some queue) where
+  module _ (w : World) (line : ScriptLine) (by : ThreadRow) (queue : Birth) (m : MessageRow) (found : first (is_queued_connect queue) w.messages ≡ Some m) (from : received_on w line ≡ Some queue) (connects : HasPlainConnects w) where
     abbrev shown_alone : Entry
     shown_alone = entry.Answer by.number NtListenPort SUCCESS (msg m.message ∷ [])
 
@@ -172,7 +187,7 @@ module _ (s : Receipt) where
     listen_queue = birth-same m.queue queue (first-true (same_birth m.queue queue) (is_connection_request m.message) is_its)
 
     heard : is_received s w line shown_alone ≡ has_receipt s m
-    heard = listened-as s w line (received_on w line) m (second-true (same_birth m.queue queue) (is_connection_request m.message) is_its) (rw (from, listen_queue) (birth-self queue))
+    heard = listened-as s w line (received_on w line) m (second-true (same_birth m.queue queue) (is_connection_request m.message) is_its) (every-first is_plain_connect (is_queued_connect queue) w.messages m connects found) (rw (from, listen_queue) (birth-self queue))
 
     listened-balanced : Balanced line w (listen_steps by queue (Some m))
     listened-balanced = at (asks m.message)
@@ -223,7 +238,7 @@ module _ (s : Receipt) where
   shared-level value (Some a) (Some b) (Some c) = refl
 
   -- The calls
-  calls-balanced : (by : ThreadRow) (w : World) → IsCalled HasOwnCalls w by → Outcomes w by (λ call. IsBalanced (run by.number call) w)
+  calls-balanced : (by : ThreadRow) (w : World) → IsCalled IsReceivable w by → Outcomes w by (λ call. IsBalanced (run by.number call) w)
   calls-balanced by w called = let is = called in record {
     creates = λ dacl. level w _ _ refl;
     founds = λ name dacl path free. level w _ _ (every-append is_level (create_steps by (named_steps (next_birth by) path) (free_handle w by.process)) (guard_steps (next_birth by) (Some name) dacl) refl (guard-pass is_level (λ _ _. refl) (next_birth by) dacl));
@@ -233,32 +248,32 @@ module _ (s : Receipt) where
         let start = connect_start by connection offer own m in
         let row = row_of connection (client_port by connection) m in
         let bs = start ++ enter row (world_after w start) in
-        let one = sent w line row start refl is.sound is.known in
+        let one = sent w line row start refl refl is.sound is.known.0 in
         let maps = mapped by.process own in
         let both = both-balanced s w line w bs maps one.sum (level-balanced s w line (world_after w bs) maps (mapped-pass is_level by.process (λ _. refl) own)) in
         let all = connect_steps by connection offer own m w in
         record { sum = both-balanced s w line w all (allow_steps w by quality) both (level-balanced s w line (world_after w all) (allow_steps w by quality) refl) };
     listens = λ handle port m l at.
         let line = run by.number (listen_port handle) in
-        record { sum = listened-balanced w line by port.birth m at (rw (is.can.lives, l.port_found) refl) };
+        record { sum = listened-balanced w line by port.birth m at (rw (is.can.lives, l.port_found) refl) is.known.1 };
     awaits_connect = λ handle port l at. level w _ _ refl;
     refuses = λ context bytes view a at. level w _ _ refl;
     accepts = λ context bytes view offer a views c. level w _ (accept_steps by context (free_handle w by.process) a views)
         (every-append is_level (accept_start by context (free_handle w by.process) a views) (shared_steps by a.wait views) (and_from _ _ (shared-level (free_handle w by.process) views.own views.theirs views.across) refl) (shared-pass is_level by a.wait (λ _. refl) (λ _. refl) views));
     completes = λ handle c at. level w _ _ refl;
-    sends = λ handle bytes t at. sent w _ (row_of t.queue t.port (sent_by by DATAGRAM t.message)) (datagram_start by) refl is.sound is.known;
-    asks = λ handle bytes t at. let m = sent_by by REQUEST t.message in sent w _ (row_of t.queue t.port m) (request_start by t.port.birth t.queue m) refl is.sound is.known;
+    sends = λ handle bytes t at. sent w _ (row_of t.queue t.port (sent_by by DATAGRAM t.message)) (datagram_start by) refl refl is.sound is.known.0;
+    asks = λ handle bytes t at. let m = sent_by by REQUEST t.message in sent w _ (row_of t.queue t.port m) (request_start by t.port.birth t.queue m) refl refl is.sound is.known.0;
     replies = λ handle bytes port m x at read fits.
-        let off = holds_ok (λ (x : WaitRow). is_listening x.call ≡ false) (reply_test w port m) x (answered-call w port m is.known) fits in
+        let off = holds_ok (λ (x : WaitRow). is_listening x.call ≡ false) (reply_test w port m) x (answered-call w port m is.known.0) fits in
         level w _ (reply_steps by x m) (reply-cases (λ b. every is_level (Tells (entry.Answer by.number NtReplyPort SUCCESS []) ∷ b ∷ []) ≡ true) x m (rw off refl) refl (λ _. refl));
     receives = λ handle bytes o port queue replied m r at.
         let line = run by.number (reply_wait_receive_port handle bytes) in
         let from : received_on w line ≡ Some queue = rw (is.can.lives, r.port_found) (holds_ok _ (receive_test w port) queue (tested-queue w port) r.queue_found) in
-        record { sum = taken-balanced w line by port queue m at from replied (holds_ok _ (given_reply w port o) replied (given-replies w port o is.known) r.reply_made) };
-    awaits_message = λ handle bytes o port queue replied r at. waits-balanced w _ by port queue replied (holds_ok _ (given_reply w port o) replied (given-replies w port o is.known) r.reply_made);
+        record { sum = taken-balanced w line by port queue m at from replied (holds_ok _ (given_reply w port o) replied (given-replies w port o is.known.0) r.reply_made) };
+    awaits_message = λ handle bytes o port queue replied r at. waits-balanced w _ by port queue replied (holds_ok _ (given_reply w port o) replied (given-replies w port o is.known.0) r.reply_made);
     registers = λ handle port at new few. level w _ _ refl;
     repeats = λ handle port at known. level w _ _ refl;
-    closes = λ handle r at. closed-balanced w _ by r is.sound is.known;
+    closes = λ handle r at. closed-balanced w _ by r is.sound is.known.0;
     duplicates = λ handle access r at. level w _ _ refl;
     queries = λ handle r at. level w _ _ refl;
     spawns = λ pid tid new unused. level w _ _ refl;
@@ -277,13 +292,13 @@ module _ (s : Receipt) where
     asks_token = λ handle class t field at told. level w _ _ (and_from _ true (told-level (is_message field)) refl);
     sets = λ target class handle pid port at found live. level w _ (set_port_steps by class pid port.birth) (set-passes (λ bs. every is_level bs ≡ true) by class pid port.birth refl refl);
     handles = λ code handled. level w _ _ refl;
-    hears = λ code handled h heard. sent w _ (row_of h.queue h.port (event_message (client_of by) by.next_identifier code h.chance)) (raise_told by ∷ event_begun by code handled h) refl is.sound is.known;
+    hears = λ code handled h heard. sent w _ (row_of h.queue h.port (event_message (client_of by) by.next_identifier code h.chance)) (raise_told by ∷ event_begun by code handled h) (event-plain (client_of by) by.next_identifier code h) refl is.sound is.known.0;
     fails = λ code handled. level w _ _ refl;
-    ends = λ call name own pid code ts doomed. ended-balanced w _ by name own pid code ts is.sound is.known;
+    ends = λ call name own pid code ts doomed. ended-balanced w _ by name own pid code ts is.sound is.known.0;
   }
 
   -- The lines
-  balanced-lines : LineLaw HasOwnCalls IsBalanced
+  balanced-lines : LineLaw IsReceivable IsBalanced
   balanced-lines = record {
     tells = λ line w e is. level w line _ (and_from _ true (status-level e is) refl);
     calls = calls-balanced;
@@ -311,7 +326,7 @@ module _ (s : Receipt) where
       at t x r Handled = plain_balances s v no_receive (doing (woken SUCCESS [] x ∷ [])) (λ _. refl) u dry
       at t x r (Heard h) =
           then_balances s v no_receive (doing (Leaves x.thread ∷ event_begun t r.code r.handled h)) (enter (row_of h.queue h.port (event_message (client_of t) t.next_identifier r.code h.chance)))
-          (plain_balances s v no_receive (doing (Leaves x.thread ∷ event_begun t r.code r.handled h)) (λ _. refl)) (enter_balances s v no_receive (row_of h.queue h.port (event_message (client_of t) t.next_identifier r.code h.chance))) u dry
+          (plain_balances s v no_receive (doing (Leaves x.thread ∷ event_begun t r.code r.handled h)) (λ _. refl)) (enter_balances s v no_receive (row_of h.queue h.port (event_message (client_of t) t.next_identifier r.code h.chance)) (event-plain (client_of t) t.next_identifier r.code h)) u dry
       at t x r Unhandled = plain_balances s v no_receive (doing (Leaves x.thread ∷ Dooms x.process r.code ∷ [])) (λ _. refl) u dry
 
   doomed-balances : (v : World) (p : ProcessRow) → Balances s v no_receive (end_doomed p)
@@ -371,16 +386,16 @@ module _ (s : Receipt) where
   woken-count v [] = refl
   woken-count v (e ∷ es) = grind (arith, woken-same v e, woken-count v es)
 
-  pub line-balanced : (w : World) (line : ScriptLine) → IsSoundWorld w → HasShutConnects w → HasOwnCalls w → IsReady (world_after w (own_steps line w)) → standing s w + count (has_receipt s) (posts_of (steps line w)) ≡ standing s (step w line).world + (receipts s w line + lost s w (steps line w))
+  pub line-balanced : (w : World) (line : ScriptLine) → IsSoundWorld w → HasShutConnects w → HasOwnCalls w → HasPlainConnects w → IsReady (world_after w (own_steps line w)) → standing s w + count (has_receipt s) (posts_of (steps line w)) ≡ standing s (step w line).world + (receipts s w line + lost s w (steps line w))
   unfolding bare_steps
-  line-balanced w line sound shut calls ready =
+  line-balanced w line sound shut calls connects ready =
       let own = own_steps line w in
       let v = world_after w own in
       let set = settle v in
       let u = world_after v set in
       let bare = own ++ set in
       let swept = sweep (world_after w bare) in
-      let one = line-does HasOwnCalls IsBalanced balanced-lines w sound calls line in
+      let one = line-does IsReceivable IsBalanced balanced-lines w sound (calls, connects) line in
       let two = settled-balanced v ready.safe.sound (calls_line w line sound shut calls) in
       let same : world_after w bare ≡ u = after-append w own set in
       let three : Balanced no_receive v (set ++ swept) = both-balanced s v no_receive v set swept two (level-balanced s v no_receive u swept (plain-level swept (sweep-plain (world_after w bare)))) in

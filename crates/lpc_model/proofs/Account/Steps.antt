@@ -14,8 +14,10 @@ use Rattle.lpc_model.specs.Entering.{enter}
 use Rattle.lpc_model.specs.Close.{close_handle, close_port, closed_row, cut_pair, drop_name, drop_owned, empty_queue, end_accepted, end_offered, end_receives, end_request, end_requests, is_accepted_across, is_last, is_offered_to, is_queued_request, is_receive_across, is_receiver, is_request_across, is_request_on, post_closed, server_of, closing_post, wake, is_event_across, is_queued_event, mark_event, is_event_on, mark_events}
 use Rattle.lpc_model.specs.Death.{end_client, die, end_process, end_threads, post_death, post_deaths, death_post, close_handles}
 use Rattle.lpc_model.specs.Lines.{ScriptLine}
+use Rattle.lpc_model.specs.PlainConnects.{is_plain_connect}
 use Rattle.lpc_model.specs.Sweep.{sweep}
 use Rattle.lpc_model.proofs.Steps.Closing.{behind}
+use Rattle.lpc_model.proofs.Steps.Ending.{told-facts}
 use Rattle.lpc_model.specs.Accounts.{Receipt}
 use Rattle.lpc_model.proofs.Account.Balance.{AreBalanced, both-balanced, is_level, level-balanced}
 use Rattle.lpc_model.proofs.Account.DryQueues.{HasDryQueues, IsEntered, dry-all, entered, is_soft}
@@ -63,8 +65,8 @@ module _ (s : Receipt) (w : World) (line : ScriptLine) where
   turn_balances f each [] v dry = plain_balances (doing []) (λ v. refl) v dry
   turn_balances f each (x ∷ xs) v dry = then_balances (f x) (in_turn f xs) (each x) (turn_balances f each xs) v dry
 
-  pub enter_balances : (m : MessageRow) → Balances (enter m)
-  enter_balances m v dry = entered s w line v m dry
+  pub enter_balances : (m : MessageRow) → is_plain_connect m ≡ true → Balances (enter m)
+  enter_balances m plain v dry = entered s w line v m plain dry
 
   pub none_balances : (v : World) → HasDryQueues w v → IsEntered s w line v []
   none_balances v dry = plain_balances (doing []) (λ v. refl) v dry
@@ -89,7 +91,7 @@ module _ (s : Receipt) (w : World) (line : ScriptLine) where
     where
       by_creator : (p : PortRow) (queue : Birth) (o : Option Creator) → IsEntered s w line v (given (option_map (closed_row p queue) o) (λ m. enter m v))
       by_creator p queue None = none_balances v dry
-      by_creator p queue (Some by) = enter_balances (closed_row p queue by) v dry
+      by_creator p queue (Some by) = enter_balances (closed_row p queue by) refl v dry
 
       queued : (p : PortRow) (o : Option Birth) → IsEntered s w line v (given (option_and_then (λ queue. option_map (closed_row p queue) p.creator) o) (λ m. enter m v))
       queued p None = none_balances v dry
@@ -131,11 +133,11 @@ module _ (s : Receipt) (w : World) (line : ScriptLine) where
   die_balances code t v dry = then_balances (doing (Dies t.number code ∷ Withdraws t.number ∷ [])) (end_client (wait_of v t.number)) (plain_balances (doing (Dies t.number code ∷ Withdraws t.number ∷ [])) (λ v. refl)) (accepted_balances (wait_of v t.number)) v dry
 
   told_balances : (t : ThreadRow) (b : Birth) → Balances (post_death t b)
-  told_balances t b = then_balances (doing (Unregisters t.number b ∷ [])) (λ w. given (death_post w t b) (λ m. enter m w)) (plain_balances (doing (Unregisters t.number b ∷ [])) (λ v. refl)) (λ v dry. at v dry (death_post v t b))
+  told_balances t b = then_balances (doing (Unregisters t.number b ∷ [])) (λ w. given (death_post w t b) (λ m. enter m w)) (plain_balances (doing (Unregisters t.number b ∷ [])) (λ v. refl)) (λ v dry. at v dry (death_post v t b) refl)
     where
-      at : (v : World) → HasDryQueues w v → (o : Option MessageRow) → IsEntered s w line v (given o (λ m. enter m v))
-      at v dry None = none_balances v dry
-      at v dry (Some m) = enter_balances m v dry
+      at : (v : World) → HasDryQueues w v → (o : Option MessageRow) → death_post v t b ≡ o → IsEntered s w line v (given o (λ m. enter m v))
+      at v dry None none = none_balances v dry
+      at v dry (Some m) some = let told = told-facts t b m v some in enter_balances m told.plain v dry
 
   pub end_balances : (pid : ℕ) (code : Status) (ts : List ThreadRow) → Balances (end_threads pid code ts)
   unfolding end_threads
@@ -146,6 +148,6 @@ module _ (s : Receipt) (w : World) (line : ScriptLine) where
       (then_balances (close_handles pid) (doing (DropsViewsOf pid ∷ [])) (λ u dry. turn_balances (close_handle pid) (handle_balances pid) (handles_of u pid) u dry) (plain_balances (doing (DropsViewsOf pid ∷ [])) (λ v. refl))) v dry)))
 
   -- Messages that are sent
-  pub sent_balances : (m : MessageRow) (start : List Basic) → ArePlain start → HasDryQueues w w → AreBalanced s w line w (start ++ enter m (world_after w start))
-  sent_balances m start plain dry =
-      let all = then_balances (doing start) (enter m) (plain_balances (doing start) (λ v. plain)) (enter_balances m) w dry in all.balanced
+  pub sent_balances : (m : MessageRow) (start : List Basic) → is_plain_connect m ≡ true → ArePlain start → HasDryQueues w w → AreBalanced s w line w (start ++ enter m (world_after w start))
+  sent_balances m start connects plain dry =
+      let all = then_balances (doing start) (enter m) (plain_balances (doing start) (λ v. plain)) (enter_balances m connects) w dry in all.balanced

@@ -52,6 +52,7 @@ use Rattle.lpc_model.proofs.Sound.Reply.{reply-cases}
 use Rattle.lpc_model.specs.Refusal.{found_or, refuse_if}
 use Rattle.lpc_model.specs.Request.{Sendable, datagram_send_test, datagram_steps, datagram_test, given_reply, is_spent, receive_steps, receive_test, receive_wait, reply_test, request_steps, request_wait, send_test, sent_by}
 use Rattle.lpc_model.specs.OwnCalls.{waits_in_call}
+use Rattle.lpc_model.specs.PlainConnects.{is_plain_connect}
 use Rattle.lpc_model.specs.SoundWaits.{IsSoundWorld, can_stay_sound}
 use Rattle.lpc_model.specs.Standing.{has_near_queue, port_stands, is_near, names_object, stands_as, section_stands}
 use Rattle.lpc_model.specs.Targets.{LIFE_ACCESS}
@@ -67,11 +68,13 @@ use Rattle.lpc_model.proofs.Sound.Marked.{own-event}
 use Rattle.lpc_model.specs.Settle.{has_event, is_event_of}
 
 -- What the tests of calls find
--- a message is sent on a port that stands, into an open queue, and tells of no closing
+-- a message is sent on a port that stands, into an open queue; it tells of no closing, and where it is a connection request it
+-- has context 0
 pub record IsPost (w : World) (m : MessageRow) : Type 0 where
   pub stands : has (is_port m.sender) w.ports ≡ true
   pub opens : is_open w m.queue ≡ true
   pub other : not (is_closed_post m) ≡ true
+  pub plain : is_plain_connect m ≡ true
 
 -- a wait begins on a port that stands, near its queue, which is open, in the call of its kind
 pub record IsBegun (w : World) (x : WaitRow) : Type 0 where
@@ -313,8 +316,8 @@ module _ (by : ThreadRow) (C K : World → Type 0) (P : World → List Basic →
       told-first w _ _ (k.waits w (listen_wait by port.birth) refl (record { near = rw (u.stands, birth-self port.birth) refl; opens = u.opens; begins = refl; in_call = refl }))
 
   -- behind the number that its sender draws
-  post : (w : World) (s : Sendable) (kind : ℕ) → not (is_closed_post (row_of s.queue s.port (sent_by by kind s.message))) ≡ true → IsSent w s → IsPost (basic w (DrawsIdentifier by.number)) (row_of s.queue s.port (sent_by by kind s.message))
-  post w s kind other is = record { stands = usable-stands w s.port is.usable; opens = is.opens; other = other }
+  post : (w : World) (s : Sendable) (kind : ℕ) → not (is_closed_post (row_of s.queue s.port (sent_by by kind s.message))) ≡ true → is_plain_connect (row_of s.queue s.port (sent_by by kind s.message)) ≡ true → IsSent w s → IsPost (basic w (DrawsIdentifier by.number)) (row_of s.queue s.port (sent_by by kind s.message))
+  post w s kind other plain is = record { stands = usable-stands w s.port is.usable; opens = is.opens; other = other; plain = plain }
 
   datagram-sent : (w : World) (handle : ℕ) (bytes : List ℕ) → Holds (IsSent w) (datagram_send_test w by handle bytes)
   datagram-sent w handle bytes = bind_holds (send_test w by handle bytes) _ (IsSent w) (λ s at. bind_holds (datagram_test w s.port) _ (IsSent w) (λ _ _. holds_ok (IsSent w) (send_test w by handle bytes) s (sent w by handle bytes) at))
@@ -322,14 +325,14 @@ module _ (by : ThreadRow) (C K : World → Type 0) (P : World → List Basic →
   sending : (w : World) (handle : ℕ) (bytes : List ℕ) (s : Sendable) → datagram_send_test w by handle bytes ≡ Ok s → P w (datagram_steps by s.port s.queue (sent_by by DATAGRAM s.message) w)
   sending w handle bytes s at =
       let is = holds_ok (IsSent w) (datagram_send_test w by handle bytes) s (datagram-sent w handle bytes) at in
-      told-first w _ _ (k.follows w (DrawsIdentifier by.number ∷ []) _ (k.numbers w) (k.sends (basic w (DrawsIdentifier by.number)) (row_of s.queue s.port (sent_by by DATAGRAM s.message)) (post w s DATAGRAM refl is)))
+      told-first w _ _ (k.follows w (DrawsIdentifier by.number ∷ []) _ (k.numbers w) (k.sends (basic w (DrawsIdentifier by.number)) (row_of s.queue s.port (sent_by by DATAGRAM s.message)) (post w s DATAGRAM refl refl is)))
 
   asking : (w : World) (handle : ℕ) (bytes : List ℕ) (s : Sendable) → send_test w by handle bytes ≡ Ok s → P w (request_steps by s.port s.queue (sent_by by REQUEST s.message) w)
   asking w handle bytes s at =
       let m = sent_by by REQUEST s.message in
       let is = holds_ok (IsSent w) (send_test w by handle bytes) s (sent w by handle bytes) at in
       let near : has_near_queue w (request_wait by s.port.birth s.queue m) ≡ true = rw is.usable.stands (way-near w (request_wait by s.port.birth s.queue m) s.port refl is.way) in
-      told-first w _ _ (k.follows w (DrawsIdentifier by.number ∷ []) _ (k.numbers w) (k.asks (basic w (DrawsIdentifier by.number)) (request_wait by s.port.birth s.queue m) (row_of s.queue s.port m) refl (record { near = near; opens = is.opens; begins = refl; in_call = refl }) (post w s REQUEST refl is)))
+      told-first w _ _ (k.follows w (DrawsIdentifier by.number ∷ []) _ (k.numbers w) (k.asks (basic w (DrawsIdentifier by.number)) (request_wait by s.port.birth s.queue m) (row_of s.queue s.port m) refl (record { near = near; opens = is.opens; begins = refl; in_call = refl }) (post w s REQUEST refl refl is)))
 
   -- an event is sent as a request
   pub hearing : (w : World) (code : ℕ) (handled : Bool) (chance : Chance) (h : Hearing) → IsHeard w chance h → P w (send_event by code handled h w)
@@ -338,12 +341,17 @@ module _ (by : ThreadRow) (C K : World → Type 0) (P : World → List Basic →
       let m = row_of h.queue h.port (event_message (client_of by) by.next_identifier code h.chance) in
       let near : has_near_queue w x ≡ true = rw is.stands (way-near w x h.port refl is.way) in
       let opens = let r = is.route in r.to in
-      k.follows w (DrawsIdentifier by.number ∷ []) _ (k.numbers w) (k.asks (basic w (DrawsIdentifier by.number)) x m refl (record { near = near; opens = opens; begins = refl; in_call = refl }) (record { stands = row-stands w h.port.birth h.port is.stands; opens = opens; other = other h.chance }))
+      k.follows w (DrawsIdentifier by.number ∷ []) _ (k.numbers w) (k.asks (basic w (DrawsIdentifier by.number)) x m refl (record { near = near; opens = opens; begins = refl; in_call = refl }) (record { stands = row-stands w h.port.birth h.port is.stands; opens = opens; other = other h.chance; plain = plain h.chance }))
     where
       other : (c : Chance) → not (event_kind c == PORT_CLOSED) ≡ true
       other FirstDebug = refl
       other LastDebug = refl
       other LastException = refl
+
+      plain : (c : Chance) → is_plain_connect (row_of h.queue h.port (event_message (client_of by) by.next_identifier code c)) ≡ true
+      plain FirstDebug = refl
+      plain LastDebug = refl
+      plain LastException = refl
 
   setting : (w : World) (class pid : ℕ) (b : Birth) → has (is_port b) w.ports ≡ true → is_live w pid ≡ true → P w (set_port_steps by class pid b)
   setting w class pid b stands live = told-first w _ _ (at (class == DEBUG_CLASS))
@@ -510,7 +518,7 @@ module _ (by : ThreadRow) (C K : World → Type 0) (P : World → List Basic →
     where
       at : (o : Option MessageRow) → death_post (basic w (Unregisters t.number b)) t b ≡ o → P (basic w (Unregisters t.number b)) (given o (λ m. enter m (basic w (Unregisters t.number b))))
       at None none = k.nothing _
-      at (Some m) some = let told = told-facts t b m (basic w (Unregisters t.number b)) some in k.sends (basic w (Unregisters t.number b)) m (record { stands = told.stands; opens = told.opens; other = told.other })
+      at (Some m) some = let told = told-facts t b m (basic w (Unregisters t.number b)) some in k.sends (basic w (Unregisters t.number b)) m (record { stands = told.stands; opens = told.opens; other = told.other; plain = told.plain })
 
   handles-do : (pid : ℕ) (rows : List HandleRow) (w : World) → handles_of w pid ≡ rows → IsFirm K w → P w (in_turn (close_handle pid) rows w)
   handles-do pid [] w same is = k.nothing w

@@ -19,6 +19,7 @@ use Rattle.lpc_model.specs.Lines.{ProcArg}
 use Rattle.lpc_model.specs.Close.{close_handle, close_port, closed_row, cut_pair, is_last, post_closed, server_of, closing_post}
 use Rattle.lpc_model.specs.Targets.{thread_target}
 use Rattle.lpc_model.specs.Death.{answer_unless, code_status, end_client, die, died_message, end_process, end_threads, nt_terminate_thread, post_death, post_deaths, death_post}
+use Rattle.lpc_model.specs.PlainConnects.{is_plain_connect}
 use Rattle.lpc_model.specs.SoundWaits.{IsSoundWorld}
 use Rattle.lpc_model.proofs.Calls.Holding.{Holds, bind_holds, not_refused}
 use Rattle.lpc_model.proofs.Steps.Closing.{behind, close-pass, pair-pass, stage_five, takes_away, then-holds}
@@ -177,6 +178,7 @@ die-pass p away dies cuts code t w =
 -- What is told of a thread that ended
 pub record IsToldDeath (w : World) (m : MessageRow) : Type 0 where
   pub other : not (is_closed_post m) ≡ true
+  pub plain : is_plain_connect m ≡ true
   pub died : is_died_post m ≡ true
   pub stands : has (is_port m.sender) w.ports ≡ true
   pub opens : is_open w m.queue ≡ true
@@ -197,6 +199,7 @@ told-facts t b m w = at (port_row w b) refl
         let same : row_of q p (died_message t) ≡ m = cc in
         subst (IsToldDeath w) same (record {
           other = refl;
+          plain = refl;
           died = refl;
           stands = subst (λ c. has (is_port c) w.ports ≡ true) (sym (birth-same p.birth b (first-passes (is_port b) w.ports p row))) (rw row refl);
           opens = route-open w p q some;
