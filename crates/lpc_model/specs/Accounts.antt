@@ -1,6 +1,5 @@
--- Messages are accounted for: each that was posted stands in its queue, was received from it, was withdrawn with the wait of
--- its thread, or was lost when the queue's port closed. So is each that tells of a
--- thread's end or of a closed port.
+-- Messages are accounted for: each that was posted stands in its queue, was received from it, was withdrawn with the wait
+-- of its thread, or was lost when the queue's port closed. So is each that tells of a thread's end or of a closed port.
 use Rattle.std.specs.Prelude.{◌≡◌, ℕ, ◌+◌, ◌++◌, ◌&&◌, ◌==◌, Bool, true, false, List, [], ◌∷◌, Option, None, Some, option_and_then, option_map, Result, Ok, Err}
 use Rattle.std.specs.Str.{bytes_eq}
 use Rattle.lpc_base.specs.Rows.{count, which}
@@ -117,7 +116,8 @@ receipts r w line =
 
 -- Losses
 -- how many such messages a step loses: those of a queue that it empties, whose port is closed, and a thread's own, which
--- it withdraws as the thread's wait ends or its event is marked; one that asks for no answer is none of these
+-- it withdraws as the thread's wait ends or its event is marked. A thread's own are those that ask for an answer to it: so
+-- every other message is lost only as its queue is emptied.
 abbrev pub loses : Receipt → World → Basic → ℕ
 loses r w (Empties queue) = count (has_receipt r) (queued_on w queue)
 loses r w (Withdraws who) = count (has_receipt r) (which (is_own_of who) w.messages)

@@ -21,7 +21,9 @@ shuts w v r = same_kind r.object.kind kind.Port && (is_open w r.object.birth && 
 
 -- the port whose last handle goes by a step: it is open before that, and isn't behind it
 abbrev pub closes : World → Basic → List Birth
-closes w (DropsHandle pid value) = given (handle_at w pid value) (λ r. when (shuts w (basic w (DropsHandle pid value)) r) (r.object.birth ∷ []))
+closes w (DropsHandle pid value) =
+    given (handle_at w pid value) (λ r.
+    when (shuts w (basic w (DropsHandle pid value)) r) (r.object.birth ∷ []))
 closes w b = []
 
 -- what is told of a closed port: one message to its connection port, where it is a completed client port and the

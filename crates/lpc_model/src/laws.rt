@@ -133,13 +133,13 @@ pub fn law_ports_keep_what_they_are()
 /// port's route, where the port is then open and has one, and no other does. It is sent on that
 /// port, in the name of the thread, and its data are the maker and the ordinal of the thread's
 /// birth. The registrations go then, and all this comes behind the last thread that ends by the
-/// line's own steps, and before a handle goes or a port begins to close by them; and so it is in each
-/// turn of the line's settling, where one process ends behind the other. Behind each line no port is
-/// registered twice with a thread, and a thread that has ended has no registrations. The handles
-/// that go with processes close ports as others do: each is told of once, where it is to be. Each
-/// message of either kind stands in the queue that it entered, was received from it, or was lost
-/// when the queue's port closed. And where no process lives any longer, no row
-/// of a process, thread, port, section or token is left, no message, no wait and no view.
+/// line's own steps, and before a handle goes or a port begins to close by them; and so it is in
+/// each turn of the line's settling, where one process ends behind the other. Behind each line no
+/// port is registered twice with a thread, and a thread that has ended has no registrations. The
+/// handles that go with processes close ports as others do: each is told of once, where it is to
+/// be. Each message of either kind stands in the queue that it entered, was received from it, or
+/// was lost when the queue's port closed. And where no process lives any longer, no row of a
+/// process, thread, port, section or token is left, no message, no wait and no view.
 pub fn law_death()
     ensures runs { (script : List ℕ) → RunTellsDeaths script }
     ensures closings { (script : List ℕ) → RunTellsClosings script }
