@@ -38,6 +38,8 @@ def is_front(printed, whole):
 
 def wrong_with(run, status, text):
     """What is wrong with a run in which memory ran out; nothing where it ended as it should."""
+    if run.status is None:
+        return run.said.decode()
     if run.said:
         return f"it wrote to its standard error: {run.said[-200:]!r}"
     if (run.status, run.printed) == (status, text):
@@ -51,7 +53,7 @@ def refusals(program, words, source, status, text):
     """Refuses each allocation in turn; how many there are, how many runs wanted for memory, and what was wrong."""
     whole = program.run(*words, source=source)
     if (whole.status, whole.printed) != (status, text):
-        return 0, 0, [f"with all its memory it ended with status {whole.status}"]
+        return 0, 0, [wrong_with(whole, status, text) or f"with all its memory it ended with status {whole.status}"]
     wanting, wrong = 0, []
     for number in range(1, whole.allocations + 1):
         for more in {}, {"FAIL_FROM": 1}:

@@ -15,6 +15,8 @@
   refuses those that go wrong where a read or a write fails. Where there is no C compiler this is left out.
 - `tests/states.py` passes the text of an example, and refuses texts in which a row or an entry is altered.
 - `tests/tables.py` finds what is false of a wrong body where a row names it as it stands, and nothing else.
+- A program that prints nothing, garbage, or more and more, that ends at once, doesn't start or doesn't end is told as
+  what fails: the tests say so by lines, and end with the number of their checks.
 
 Each check that fails has a line, and the last line is `N passed, M failed`. The exit status is 0 where all passed, 1
 where not.
@@ -39,6 +41,7 @@ import edge
 import failing
 import isolation
 import program
+import running
 import states
 import tables
 import tally
@@ -202,6 +205,18 @@ TOLD_OTHERWISE = (
     'many=$(wc -l); [ "$many" -gt 40 ] && echo 0 36 more; ' + CLIENT_TOLD % "c0000044",
     "cat > /dev/null; echo 6 44 NtRequestPort c0000044; echo end 6 6 0",
 )
+# Programs that a test may be given by mistake: what they do, and a script for `sh` that does it.
+UNFIT = {
+    "prints nothing": "true",
+    "ends with status 1 at once": "exit 1",
+    "prints what it reads": "cat",
+    "prints garbage": r"printf '\377\000 7 *\n{}\n{\"line\":1}\n'",
+    "prints more and more": "yes '1 24 NtClose 00000000'",
+    "prints a line that never ends": "tr '\\000' 1 < /dev/zero",
+}
+# What of the tests is tried over these: groups that take no longer than a moment.
+UNFIT_GROUPS = {program.conversations: 5, program.storms_as_replayed: 7, program.ends_of_input: 6}
+UNFIT_STATES = {states.conversation: 1, states.statuses: 13}
 # What the pages name that transcripts can reach, and how many cases the suite has at least.
 OUTCOMES = 255
 CASES_AT_LEAST = 2_000
@@ -600,6 +615,68 @@ def clauses():
         yield f"the place of {edit[1]}", lambda: same(tables.place_of(edit[0], found[edit]), place)
 
 
+@contextlib.contextmanager
+def hurried():
+    """Runs take little time here, and print little."""
+    places = [(it, name) for it in (running, program, states) for name in ("SECONDS", "MUCH") if hasattr(it, name)]
+    kept = [getattr(*it) for it in places]
+    for it, name in places:
+        setattr(it, name, {"SECONDS": 2, "MUCH": 1 << 16}[name])
+    bound, running.run.__defaults__ = running.run.__defaults__, (b"", subprocess.PIPE, 1 << 16, None)
+    try:
+        yield
+    finally:
+        running.run.__defaults__ = bound
+        for (it, name), value in zip(places, kept):
+            setattr(it, name, value)
+
+
+def refuses(test):
+    """Nothing where a test of an unfit program ends by itself, finds something wrong and says so by lines."""
+    with hurried(), contextlib.redirect_stdout(io.StringIO()) as printed:
+        status = test()
+    *lines, last = printed.getvalue().splitlines()
+    counts = re.fullmatch(r"\d+ passed, ([1-9]\d*) failed", last)
+    return "" if status == 1 and counts and lines else f"status {status}: {last}"
+
+
+def states_of(command):
+    """The test of the form of states over some groups."""
+    found = states.Program(command)
+    return tally.tally(it for group, least in UNFIT_STATES.items() for it in tally.counted("", group(found), least))
+
+
+def unfit():
+    """Tests over programs that are none."""
+    with tempfile.NamedTemporaryFile("w", suffix=".sh") as file:
+        file.write("no program\n")
+        file.flush()
+        os.chmod(file.name, 0o755)
+        commands = {name: ["sh", "-c", script] for name, script in UNFIT.items()}
+        for name, command in {**commands, "can't be started": ["/no/such/program"], "is none": [file.name]}.items():
+            tests = {
+                "program.py": lambda: program.tried(program.Program(command), UNFIT_GROUPS),
+                "states.py": lambda: states_of(command),
+            }
+            # (that test asks first whether there is a program)
+            if name != "can't be started":
+                tests["isolation.py"] = lambda: isolation.main(command)
+            for test, run in tests.items():
+                yield f"tests/{test}, of a program that {name}", lambda: refuses(run)
+    for why, command in {
+        "it printed more and more, and was ended": ["yes"],
+        "it did not end within 2 seconds": ["sleep", "30"],
+        "it could not be started: No such file or directory": ["/no/such/program"],
+    }.items():
+        yield f"a run of {command[0]}", lambda: same(run_found(command), [why])
+
+
+def run_found(command):
+    """What is found wrong with a run of a command."""
+    with hurried():
+        return running.found(running.run, command)
+
+
 # The groups of checks, and how many each makes: who adds one changes the number.
 GROUPS = {
     gate_seconds: 10,
@@ -612,6 +689,7 @@ GROUPS = {
     comparisons: 16,
     closings: 11,
     growths: 5,
+    unfit: 26,
 }
 
 

@@ -8,16 +8,20 @@ import subprocess
 import sys
 import tempfile
 
+import running
 from tally import tally
 
 SOURCE = pathlib.Path(__file__).resolve().parent / "failing.c"
 COUNTS = struct.Struct("=3Q")
 SECONDS = 60
+# More bytes than any run prints here that is right.
+MUCH = 1 << 24
 
 
 class Run:
     """How a run ended: its status (below 0: the signal that ended it), what it printed, its standard error, and how
-    many allocations, reads and writes it made."""
+    many allocations, reads and writes it made. One that came to no end by itself has the status None, and in place of
+    its standard error what was wrong."""
 
     def __init__(self, status, printed, said, counts):
         self.status, self.printed, self.said = status, printed, said
@@ -40,15 +44,17 @@ class Failing:
             file.write(bytes(COUNTS.size))
         told = {name: str(value) for name, value in given.items()}
         env = {**os.environ, **told, "LD_PRELOAD": self.library, "FAILING_COUNTS": self.counts}
-        how = {"capture_output": True, "timeout": SECONDS, "env": env}
         # A file gives as many bytes as are asked for; a pipe gives what has come.
         with tempfile.TemporaryFile() as script:
             script.write(source)
             script.seek(0)
-            how |= {"input": source} if piped else {"stdin": script}
-            done = subprocess.run([*self.command, *words], **how)
+            given = source if piped else script
+            try:
+                ended = running.run([*self.command, *words], given, most=MUCH, env=env)
+            except running.Wrong as why:
+                ended = None, b"", str(why).encode()
         with open(self.counts, "rb") as file:
-            return Run(done.returncode, done.stdout, done.stderr, COUNTS.unpack(file.read(COUNTS.size)))
+            return Run(*ended, COUNTS.unpack(file.read(COUNTS.size)))
 
     def replay(self, source, **given):
         return self.run("replay", source=source, **given)

@@ -8,8 +8,11 @@ on two scripts says that the client 32 does and is told the same in both; this p
 side, and fails where they differ, or where the run with all lines tells 40 anything else than it should.
 """
 
-import subprocess
+import shutil
 import sys
+
+sys.dont_write_bytecode = True
+import running
 
 CLIENT = "36"
 CONNECTED = """\
@@ -39,31 +42,35 @@ ANSWERED = """\
 
 def transcript(program, script):
     """What the program prints for a script."""
-    done = subprocess.run(program + ["replay"], input=script.encode(), capture_output=True, timeout=60)
-    if done.returncode != 0:
-        raise SystemExit("the program ended with status %d" % done.returncode)
-    return done.stdout.decode()
+    status, printed, _ = running.run([*program, "replay"], script.encode())
+    if status:
+        raise running.Wrong("the program ended with status %d" % status)
+    return printed.decode(errors="backslashreplace")
 
 
 def told(text, thread):
     """The entries of a thread, without the numbers of their lines."""
-    entries = [line.split(" ", 1)[1] for line in text.splitlines()[:-1]]
+    entries = [line.partition(" ")[2] for line in text.splitlines()[:-1]]
     return [entry for entry in entries if entry.split(" ", 1)[0].lstrip("*") == thread]
 
 
 def main(program):
     """Runs both scripts; the closing line counts two checks."""
-    if not program:
+    if not program or not shutil.which(program[0]):
         print(__doc__.strip())
         return 64
-    with_lines = transcript(program, CONNECTED + OTHERS + ANSWERED)
-    without = transcript(program, CONNECTED + ANSWERED)
+    try:
+        with_lines, without = (transcript(program, CONNECTED + it + ANSWERED) for it in (OTHERS, ""))
+    except running.Wrong as why:
+        print("FAILED: %s" % why)
+        print("0 passed, 2 failed")
+        return 1
     print("what thread %s is told, with and without the other client's lines:" % CLIENT)
     for here, there in zip(told(with_lines, CLIENT), told(without, CLIENT)):
         print("  %s | %s | %s" % ("same" if here == there else "DIFFERS", here, there))
-    refused = told(with_lines, "44")[-1]
+    refused = told(with_lines, "44")[-1:]
     checks = [told(with_lines, CLIENT) == told(without, CLIENT) and len(told(without, CLIENT)) == 5,
-              refused == "44 NtRequestPort c0000044"]
+              refused == ["44 NtRequestPort c0000044"]]
     print("%d passed, %d failed" % (checks.count(True), checks.count(False)))
     return 0 if all(checks) else 1
 

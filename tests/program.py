@@ -23,11 +23,12 @@ ROOT = pathlib.Path(__file__).resolve().parent.parent
 sys.dont_write_bytecode = True
 sys.path.insert(0, str(ROOT / "bench"))
 import run as bench
+import running
 import storms
 import worlds
+from running import MUCH, SECONDS, Wrong
 from tally import enough
 
-SECONDS = 60
 USAGE = b"usage: ntlpc COMMAND [WORDS]\n"
 # The line of a storm without a round: its transcript was worked out by hand, and the sum of its bytes taken from it.
 NO_ROUND = b"storm lines=52 entries=60 objects=0 replies=0 mismatches=0 sum=000263b8\n"
@@ -57,10 +58,6 @@ FLAT_ROWS = (
     (bench.shown_sections, 10_000),
     (bench.tokens, 10_000),
 )
-
-
-class Wrong(Exception):
-    """What a check found."""
 
 
 class LeftOut(Exception):
@@ -102,12 +99,7 @@ class Program:
         command = [*self.command, *words]
         if closed:
             command = ["sh", "-c", f'exec "$@" {closed}', "sh", *command]
-        given = {"input": source} if isinstance(source, bytes) else {"stdin": source}
-        try:
-            ran = subprocess.run(command, stdout=sink, stderr=subprocess.PIPE, timeout=SECONDS, **given)
-        except subprocess.TimeoutExpired:
-            raise Wrong(f"it did not end within {SECONDS} seconds") from None
-        return Ended(ran.returncode, ran.stdout, ran.stderr)
+        return Ended(*running.run(command, source, sink))
 
     def replay(self, source=b"", **how):
         return self.run("replay", source=source, **how)
@@ -126,6 +118,7 @@ class Program:
             source.writelines(script)
             source.seek(0)
             child = subprocess.Popen([*self.command, "replay"], stdin=source, stdout=sink)
+            running.bound_files(child)
             watch = threading.Timer(SECONDS, child.kill)
             watch.start()
             try:
@@ -266,8 +259,8 @@ def storms_as_replayed():
 
         def check(program, count=count, seed=seed, given=given):
             replayed = program.replay(storms.script(count, seed))
-            wanted = storms.summary(replayed.printed)
             replayed.should(0, replayed.printed)
+            wanted = summed(replayed.printed)
             program.run("storm", *(given or (str(count), str(seed)))).should(0, wanted)
             if b" objects=0 " not in wanted:
                 raise Wrong(f"objects are left: {brief(wanted)}")
@@ -292,6 +285,14 @@ def storms_as_replayed():
     yield "a storm reads nothing", unread
     without = {"closed": "<&-"}
     yield "a storm without input", lambda program: program.run("storm", "0", "7", **without).should(0, NO_ROUND)
+
+
+def summed(printed):
+    """The line of a storm, from what a replay of its script printed."""
+    try:
+        return storms.summary(printed)
+    except (AssertionError, IndexError, ValueError):
+        raise Wrong(f"a replay of its script printed no transcript: {brief(printed)}") from None
 
 
 def ends_of_input():
@@ -485,16 +486,16 @@ def conversations():
         asked = EXAMPLE.splitlines(keepends=True)
         told = (ROOT / "examples" / "first-request.transcript").read_bytes().splitlines(keepends=True)
         for number, line in enumerate(asked, 1):
-            far.write(line)
+            running.send(far, line)
             for wanted in (it for it in told if it.split()[0] == b"%d" % number):
-                answered = child.stdout.readline()
+                answered = child.stdout.readline(MUCH)
                 if answered != wanted:
                     raise Wrong(f"line {number} was answered by {brief(answered)}, {brief(wanted)} is wanted")
         if far.isatty():
             far.write(END_AT_TERMINAL)
         else:
             far.close()
-        last = child.stdout.read()
+        last = child.stdout.read(MUCH)
         child.wait()
         Ended(child.returncode, last).should(0, told[-1])
 
@@ -505,17 +506,15 @@ def conversations():
             watch = threading.Timer(SECONDS, child.kill)
             watch.start()
             try:
-                child.stdin.write(lines[0])
-                child.stdin.flush()
-                first = child.stdout.readline()
+                running.send(child.stdin, lines[0])
+                first = child.stdout.readline(MUCH)
                 child.stdout.close()
-                child.stdin.write(lines[1])
-                child.stdin.flush()
+                running.send(child.stdin, lines[1])
                 child.wait()
             finally:
                 watch.cancel()
                 child.kill()
-                child.stdin.close()
+                running.shut(child.stdin)
         Ended(child.returncode, first).should(4, b"1 - boot 00000000\n")
 
     yield "a conversation over a pipe", talks(os.pipe)
@@ -716,12 +715,13 @@ def tried(program, groups):
     passed = failed = 0
     for name, check in checks(groups):
         try:
-            check(program)
-            passed += 1
+            wrong = running.found(check, program)
         except LeftOut as why:
             print(f"left out: {name}: {why}", flush=True)
-        except Wrong as why:
-            failed += 1
+            continue
+        passed += not wrong
+        failed += bool(wrong)
+        for why in wrong:
             print(f"FAILED: {name}: {why}", flush=True)
     print(f"{passed} passed, {failed} failed")
     return 1 if failed else 0

@@ -32,8 +32,10 @@ from concurrent.futures import ThreadPoolExecutor
 
 sys.dont_write_bytecode = True
 import program as tried
+import running
 import worlds
-from program import Ended, Program, Wrong, brief
+from program import Ended, Program, brief
+from running import MUCH, Wrong, found
 from tally import counted, tally
 
 ROOT = pathlib.Path(__file__).resolve().parent.parent
@@ -157,17 +159,19 @@ def counts_of(rows):
 
 def followed(lines, transcript):
     """Fails where the lines of a transcript are others, or rows are told that can't be followed."""
-    rows, entries = Followed(), []
+    rows, entries = Followed(), iter(transcript.splitlines(True))
     for line in lines:
         if line.startswith(b"{"):
             rows.take(line)
             continue
-        entries.append(line)
+        wanted = next(entries, b"")
+        if line != wanted:
+            raise Wrong(f"without its rows it isn't the transcript: {brief(line)}, wanted is {brief(wanted)}")
         if line[:1].isdigit():
             rows.entry(int(line.split()[0]))
-    if b"".join(entries) != transcript:
-        wrong = next((pair for pair in zip(entries, transcript.splitlines(True)) if pair[0] != pair[1]), None)
-        raise Wrong(f"without its rows it isn't the transcript: {wrong or 'its end is another one'}")
+    left = next(entries, None)
+    if left:
+        raise Wrong(f"without its rows it isn't the transcript: it ends in front of {brief(left)}")
     last = transcript.splitlines()[-1].split()
     if last[0] == b"end":
         rows.ended(int(last[3]))
@@ -176,15 +180,6 @@ def followed(lines, transcript):
 def status_of(transcript):
     """The status that goes with a transcript."""
     return 2 if transcript.splitlines()[-1].startswith(b"stop ") else 0
-
-
-def found(check, *given):
-    """What a check found wrong."""
-    try:
-        check(*given)
-        return []
-    except (Wrong, ValueError, suite.Broken) as why:
-        return [str(why)]
 
 
 def examples(program):
@@ -196,9 +191,9 @@ def examples(program):
         told = transcript.read_bytes()
         name = file.relative_to(ROOT).as_posix()
         yield f"{name} and its transcript", found(followed, wanted.read_bytes().splitlines(True), told)
-        ended = program.run("states", source=script.read_bytes())
-        yield name, found(ended.should, status_of(told), wanted.read_bytes())
-        yield f"{name}: the transcript", found(program.replay(script.read_bytes()).should, status_of(told), told)
+        for form, text, of in ("states", wanted.read_bytes(), name), ("replay", told, f"{name}: the transcript"):
+            ends = lambda: program.run(form, source=script.read_bytes()).should(status_of(told), text)
+            yield of, found(ends)
 
 
 def scripts():
@@ -218,7 +213,7 @@ def follow(program, script, transcript):
             watch.start()
             try:
                 # A long script has many rows to tell of: they are followed as they come, and not kept.
-                followed(child.stdout, transcript)
+                followed(iter(lambda: child.stdout.readline(MUCH), b""), transcript)
                 child.wait()
             except (Wrong, ValueError):
                 # What a program that was ended has printed may end inside a line.
@@ -261,18 +256,18 @@ def conversation(program):
             watch.start()
             try:
                 for at, line in enumerate(asked, 1):
-                    child.stdin.write(line)
-                    child.stdin.flush()
+                    running.send(child.stdin, line)
                     for wanted in (it for it in told[:-1] if int(number.match(it)[1]) == at):
-                        answered = child.stdout.readline()
+                        answered = child.stdout.readline(MUCH)
                         if answered != wanted:
                             raise Wrong(f"line {at} was answered by {brief(answered)}, {brief(wanted)} is wanted")
-                child.stdin.close()
-                last = child.stdout.read()
+                running.shut(child.stdin)
+                last = child.stdout.read(MUCH)
                 child.wait()
             finally:
                 watch.cancel()
                 child.kill()
+                running.shut(child.stdin)
         Ended(child.returncode, last).should(0, told[-1])
 
     yield "a conversation over a pipe", found(talk)
