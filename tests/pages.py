@@ -17,8 +17,8 @@
 - With PROGRAM, each script of docs/FAULTS.md stops at its last line with the kind of its section, or prints the
   transcript that stands behind it, the commands of docs/CHECK_YOUR_OWN.md print what the page shows, and the code of
   docs/CONVERSATION.md holds the conversation that it is for; the C code is left out where there is no C compiler. The
-  lists of docs/SECURITY.md let the client in or not as told there, as many hold the ports of docs/CLOSING.md, and the
-  storms of docs/STORM.md print their lines.
+  lists of docs/SECURITY.md let the client in or not as told there, as many hold the ports of docs/CLOSING.md, the run
+  of docs/RESIDENT.md with a view and the storms of docs/STORM.md print their lines.
 
 Each check that fails has a line, and the last line is `N passed, M failed`. The exit status is 0 where all passed, 1
 where not, and 64 where PROGRAM can't be run.
@@ -85,7 +85,8 @@ COUNTS = {
     "drawings": 11,
     "faults": 70,
     "access_lists": 6,
-    "pointers": 3,
+    "pointers": 6,
+    "views_of_a_server": 8,
     "storm_lines": 2,
 }
 LINKS_AT_LEAST = 200
@@ -432,14 +433,34 @@ def access_lists(command):
 
 
 def pointers(command):
-    """How many hold each port in the table of docs/CLOSING.md, against the rows in front of the line that closes."""
-    script = b"".join((EXAMPLES / "closing-client.script").read_bytes().splitlines(True)[:20])
-    ran = subprocess.run([*command, "states"], input=script, capture_output=True, timeout=60)
-    rows = [json.loads(it) for it in ran.stdout.splitlines() if it.startswith(b"{")]
-    stand = {it["kind"]: it["pointers"] for it in rows if it.get("kind") in ("connection", "server", "client")}
-    for port, *_, count in rows_of("CLOSING.md", "Port", "Held by"):
-        found = stand.get(port.split()[0])
-        yield f"CLOSING.md: who holds the {port}", [] if str(found) == count.strip(" |") else [f"{found} do"]
+    """How many hold each port in the tables of docs/CLOSING.md, against the rows in front of the line that closes, and
+    behind it."""
+    script = (EXAMPLES / "closing-client.script").read_bytes().splitlines(True)
+    text = (DOCS / "CLOSING.md").read_text(encoding="utf-8")
+    found = [rows for _, head, rows in tables(text) if head == ["Port", "Held by", "Pointers"]]
+    for lines, ports in zip((20, 21), found):
+        ran = subprocess.run([*command, "states"], input=b"".join(script[:lines]), capture_output=True, timeout=60)
+        rows = [json.loads(it) for it in ran.stdout.splitlines() if it.startswith(b"{")]
+        stand = {it["kind"]: it["pointers"] for it in rows if it.get("kind") in ("connection", "server", "client")}
+        for port, _, count in ports:
+            told = stand.get(port.split()[0])
+            yield f"CLOSING.md: who holds the {port} behind line {lines}", [] if str(told) == count else [f"{told} do"]
+
+
+def views_of_a_server(command):
+    """The run of docs/RESIDENT.md that offers a view, behind the first five lines of the run above it."""
+    blocks = [it.text for it in blocks_of(DOCS / "RESIDENT.md") if "turn 24\n" in it.text]
+    front = "".join(blocks[0].splitlines(True)[:5])
+    printed = replayed(command, (front + blocks[1]).encode())[0].splitlines()
+    for line, shown, _ in table_of("RESIDENT.md", "Line", "Printed, without its number"):
+        told = [it.partition(" ")[2] for it in printed if it.startswith(f"{int(line) + 5} ")]
+        entry, *wakes = CODE.findall(shown)
+        wanted = [entry, *(["*"] if "thread " in shown else [])]
+        good = len(told) == len(wanted) and told[0] == entry
+        woken = re.search(r"thread (\d+) wakes with", shown)
+        good = good and (not woken or told[1].startswith(f"*{woken[1]} "))
+        good = good and all(told[1].endswith(f" {it}") or told[1].endswith(it) for it in wakes)
+        yield f"RESIDENT.md, a view: line {line}", [] if good else [f"it prints {told}"]
 
 
 def storm_lines(command):
@@ -568,7 +589,8 @@ def checks(command):
         yield from counted(group)
     for group in (processes, endings, drawings):
         yield from counted(group)
-    for group in (faults, terminals, conversations, access_lists, pointers, storm_lines) if command else ():
+    behind = views_of_a_server, storm_lines
+    for group in (faults, terminals, conversations, access_lists, pointers, *behind) if command else ():
         yield from counted(group, command)
 
 

@@ -24,7 +24,12 @@
 - Each wrong body of the gate has its row in docs/WRONG_BODIES.md, and each row its wrong body; the row names the
   function that is changed, and clauses of it or of the functions that it names. Each crate with functions and without
   wrong bodies has a row of a further one.
-- Each name that the pages on definitions, proofs and code have as code stands below crates/, or is a file.
+- Each name that the pages on definitions, proofs and code have as code stands below crates/, or is a file; those of
+  docs/DEFINITIONS.md stand in the files that it names.
+- What worked tables tell in words is told by their lines: numbers, threads, identifiers, types, chances, and how many
+  objects are left. The tables of docs/SECURITY.md on who may connect and who is seen, those of docs/EXCEPTIONS.md on
+  one line, and those of docs/WAITS.md, docs/RESIDENT.md, docs/ENDINGS.md and docs/TRACES.md on lines are held against
+  definitions, examples and scripts of the suite: tests/told.py.
 
 How many rows each of these reads is pinned here, so that a table that isn't read is seen. Each check that fails has a
 line, and the last line is `N passed, M failed`. The exit status is 0 where all passed, 1 where not.
@@ -37,6 +42,7 @@ sys.dont_write_bytecode = True
 import definitions
 import pages
 import storms
+import told
 from pages import CODE, STATUS, said, table_of
 from tally import tally
 
@@ -76,7 +82,7 @@ STATED = "exercises/07-a-connection"
 STATED_ROWS, KEY_COUNT = 23, 66
 # The calls that refuse nothing, and so have no table of refusals.
 UNREFUSED = ("raise",)
-CLAIM_COUNT = 73
+CLAIM_COUNT, TOLD_COUNT = 73, 303
 NAMED_IN = {
     "ARCHITECTURE.md": 700,
     "DECISIONS.md": 150,
@@ -756,10 +762,19 @@ def names_in_code():
         yield f"{page} has {least} names at least", [] if len(names) >= least else [f"{len(names)} were read"]
 
 
+def told_in_words():
+    """What tables tell in words, and that as many are read as there are."""
+    count = 0
+    for check in told.checks(WORKED):
+        count += 1
+        yield check
+    yield pinned("checks of what tables tell in words", count, TOLD_COUNT)
+
+
 def checks():
     """All checks: each with its name and what it found wrong."""
     words = status_names, refusals, limits, fault_kinds, message_types, levels, chances
-    for group in (*words, worked, quoted, stormy, stated, proofs, wrong_bodies, names_in_code):
+    for group in (*words, worked, quoted, stormy, stated, proofs, wrong_bodies, names_in_code, told_in_words):
         yield from group()
 
 
