@@ -248,6 +248,17 @@ PLANTED = (
     (told.offers, "docs/VIEWS.md", r"(the server \| `h`, `base`), `target`", r"\1, `vbase`"),
     (told.files_of_names, "docs/DEFINITIONS.md", r"(`woken` \|) `Entering.antt`", r"\1 `Refusal.antt`"),
     (told.traced, "docs/TRACES.md", r"`\$api = @main NtCreatePort", "`$api = @main NtListenPort"),
+    (told.printed_fields, "docs/SCRIPTS.md", r"(message that was received \|) 8 hexadecimal digits", r"\1 4 digits"),
+    (told.printed_fields, "docs/SCRIPTS.md", r"\| `vsize` \|", "| `wsize` |"),
+    (told.layout, "docs/SCRIPTS.md", r"16 to 19 \| MessageId", "16 to 17 | MessageId"),
+    (told.options, "docs/CONFORMANCE.md", r"`--shard I/N`", "`--shared I/N`"),
+    (told.options, "docs/CONFORMANCE.md", r"may take; 60 where", "may take; 30 where"),
+    (told.options, "docs/CONFORMANCE.md", r"`means`, `rule`, `page`", "`means`, `rules`, `page`"),
+    (told.steps_here, "docs/CLOSING.md", r"\| the request of 28 \| empties", "| the request of 40 | empties"),
+    (told.steps_here, "docs/ENDINGS.md", r"then 40, the second", "then 44, the second"),
+    (told.steps_here, "docs/ENDINGS.md", r"and a message of type 5 enters", "and a message of type 6 enters"),
+    (told.folders, "docs/CONFORMANCE.md", r"\| `resident`, `turn` \|", "| `resident`, `turns` |"),
+    (told.words_of_program, "README.md", r"writes `usage: ntlpc COMMAND", "writes `usage: ntlpc COMMANDS"),
     (told.traced, "docs/TRACES.md", r"`r:\$event:02000100`", "`r:$event:01000180`"),
 )
 # Programs that a test may be given by mistake: what they do, and a script for `sh` that does it.

@@ -59,6 +59,25 @@ turn_by w [] = option_map (λ p. end_doomed p w) (least (doomed_processes w))
 # A script that a row of docs/WAITS.md names, and how many rows there are.
 SHOWN = re.compile(r"\[([\w-]+)\]\((\.\./[\w/.-]+)\.script\)")
 WAIT_ROWS = 23
+# How docs/SCRIPTS.md says that a field is printed, by the sort that the definitions give it.
+PRINTED_AS = {
+    "in_decimal": "decimal",
+    "in_hexadecimal": "8 hexadecimal digits in lower case",
+    "as_bytes": "each byte as 2 hexadecimal digits in lower case|as `msg`.*",
+    "as_sids": "a SID|SIDs with a comma between them.*",
+    "as_kind": "(`\\w+`(, | or )?)+",
+}
+# The fields of a message as docs/SCRIPTS.md calls them, by their names in the definitions.
+LAID_OUT = {
+    "data_size": "DataSize",
+    "message_size": "MessageSize",
+    "kind": "type",
+    "ranges_offset": "VirtualRangesOffset",
+    "process": "ClientId, process",
+    "thread": "ClientId, thread",
+    "message_id": "MessageId",
+    "section_size": "SectionSize",
+}
 # Stands for the number of a last line.
 LAST = 1_000_001
 # How a row of docs/RESIDENT.md goes on: which thread wakes, and with what.
@@ -651,6 +670,111 @@ def fits(form, word):
     return word in form.split("|") if "|" in form else True
 
 
+def printed_fields():
+    """The table of docs/SCRIPTS.md on fields: the names and how each is printed, against the definitions."""
+    text = definitions.text_of("lpc_model", "specs", "antt")
+    names = dict(re.findall(r'^name_text (\w+) = codes "(\w+)"$', text, re.M))
+    sorts = {names[it]: sort for it, sort in re.findall(r"^sort_of (\w+) = (\w+)$", text, re.M)}
+    rows = table_of("SCRIPTS.md", "Field", "Value", "Printed as")
+    told = {row[0].strip("`"): row[2] for row in rows}
+    good = sorted(told) == sorted(sorts)
+    yield "SCRIPTS.md: the fields", [] if good else [f"it has {sorted(told)}, wanted are {sorted(sorts)}"]
+    for name, printed in told.items():
+        wanted, most = PRINTED_AS.get(sorts.get(name), "no sort"), definitions.profile()[0]["MESSAGE_LIMIT"]
+        # The one field that always tells the same tells it there.
+        good = re.fullmatch(f"(?:{wanted})" + f": {most}" * (name == "max"), printed)
+        yield f"SCRIPTS.md: the field {name}", [] if good else [f"{printed}, it is {sorts.get(name)}"]
+
+
+def layout():
+    """The table of docs/SCRIPTS.md on where the fields of a message lie, against the definitions."""
+    text = definitions.text_of("lpc_message", "specs", "antt")
+    places = re.findall(r"(\w+) = (half|word)_at bytes (\d+)", text)
+    sizes = {"half": 2, "word": 4}
+    wanted = {LAID_OUT[it]: (int(at), sizes[size]) for it, size, at in places if it in LAID_OUT}
+    told = {}
+    for row in table_of("SCRIPTS.md", "Bytes", "Field", "Bytes", "Field"):
+        for place, field in zip(row[::2], row[1::2]):
+            first, last = re.split(", | to ", place)
+            told[field.partition(":")[0]] = (int(first), int(last) - int(first) + 1)
+    # (a type's cell has the types, too)
+    yield "SCRIPTS.md: where the fields lie", [] if told == wanted else [f"it tells {told}, wanted are {wanted}"]
+
+
+def options():
+    """The table of docs/CONFORMANCE.md on the options of `conformance/run`, and that on the keys of its results."""
+    text = (SUITE / "run").read_text(encoding="utf-8")
+    known = re.findall(r'^    add\("(--[\w-]+)"(.*)\)$', text, re.M)
+    wanted = {it: (re.search(r'metavar="([^"]*)"', words) or [None, ""])[1] for it, words in known}
+    rows = [[it.strip("`") for it in row[:1]] + row[1:] for row in table_of("CONFORMANCE.md", "Option", "What it does")]
+    told = {row[0].split()[0]: row[0].partition(" ")[2] for row in rows}
+    yield "CONFORMANCE.md: the options", [] if told == wanted else [f"it tells {told}, wanted are {wanted}"]
+    seconds = re.search(r'"--timeout".* default=(\d+)', text)[1]
+    (row,) = (row for row in rows if row[0].startswith("--timeout"))
+    yield "CONFORMANCE.md: how long a script may take", [] if f"; {seconds} where" in row[1] else [row[1]]
+    text = (pages.ROOT / "tools" / "ntlpc_tool" / "results.py").read_text(encoding="utf-8")
+    body = text[text.index("def _object(") :].partition("    return found")[0]
+    wanted = set(re.findall(r'"(\w+)": ', body)) | set(re.findall(r'found\["(\w+)"\]', body))
+    wanted |= {it for words in re.findall(r"found\.update\((.*)\)", body) for it in re.findall(r"(\w+)=", words)}
+    told = {it for row in table_of("CONFORMANCE.md", "Key", "Value") for it in CODE.findall(row[0])}
+    yield "CONFORMANCE.md: the keys", [] if told == wanted else [f"it tells {told}, wanted are {wanted}"]
+
+
+def steps_here():
+    """What the steps of docs/CLOSING.md and docs/ENDINGS.md find, against the entries of the line that is drawn."""
+    for what, here, does in table_of("CLOSING.md", "Step", "What it finds here"):
+        woken = re.findall(r"`\d+ \*(\d+) ", does)
+        wrong = [f"it names {here}, and wakes {woken}"] * (re.findall(r"\b\d+\b", here) != woken)
+        yield f"CLOSING.md, {what}: what it finds", wrong
+    script, transcript = pages.example("clients-that-die")
+    told = [it for it in transcript if it.startswith("18 ")]
+    dead = re.findall(r"~(\d+) died", "\n".join(told))
+    (receiver,) = re.findall(r"\*(\d+) NtReplyWaitReceivePort", "\n".join(told))
+    named = {it.split()[0] for it in script[:17] if " NtRegisterThreadTerminatePort " in it}
+    (registered,), (other,) = ([it for it in dead if (it in named) == has] for has in (True, False))
+    kinds = definitions.numbers_of("lpc_message")
+    _, handles = handles_behind(script, transcript, 18)
+    (process,) = {it[2] for it in map(pages.MADE.fullmatch, script) if it and it[3] in dead}
+    (handle,) = handles[process]
+    wanted = {
+        "died": f"{dead[0]}, the first thread of the process, then {dead[1]}, the second",
+        "client died": f"{other} has registered nothing, {registered} the client port, which is open and has a way",
+        "handles": f"no thread is left: handle {handle}, the only one",
+    }
+    said = {
+        "client died": [f"a message of type {kinds['CLIENT_DIED']} goes to", f"Thread {receiver} waits there"],
+        "handles": [f"and a message of type {kinds['PORT_CLOSED']} enters the connection port's queue"],
+    }
+    rows = {row[0]: row[1:] for row in table_of("ENDINGS.md", "Step", "What it finds here")}
+    for step, here in wanted.items():
+        found, does = rows.get(step, ("", ""))
+        wrong = [f"it finds {found}, wanted is {here}"] * (found != here)
+        wrong += [f"it doesn't say {it}" for it in said.get(step, ()) if it not in does]
+        yield f"ENDINGS.md, {step}: what it finds", wrong
+
+
+def folders():
+    """The table of docs/CONFORMANCE.md on the folders of the suite: each is there, and each is one of them."""
+    rows = [row[0] for row in table_of("CONFORMANCE.md", "Folder", "What its scripts show")]
+    named = {it for row in rows for it in CODE.findall(row)}
+    there = {it.parent.name for it in SUITE.glob("*/*.script")}
+    yield "CONFORMANCE.md: the folders", [f"there is no {it}" for it in sorted(named - there)]
+    directives = set(forms.DIRECTIVES) & there
+    missing = sorted(directives - named)
+    yield "CONFORMANCE.md: the folders of directives", [f"{it} isn't there" for it in missing]
+
+
+def words_of_program():
+    """The words of the program in README.md, and what it prints for others, against the definitions."""
+    text = definitions.text_of("lpc_replay", "specs", "antt")
+    readme = (pages.ROOT / "README.md").read_text(encoding="utf-8")
+    rows = next(rows for _, head, rows in tables(readme) if head[0] == "Words")
+    for words, does in rows:
+        known = CODE.findall(words)[0].split()[0] if "`" in words else CODE.findall(does)[0]
+        found = f'codes "{known}"' in text or f'codes "{known}\\n"' in text
+        yield f"README.md: the words {words}", [] if found else [f"no definition has {known}"]
+
+
 def checks(worked):
     """All checks: each with its name and what it found wrong. `worked` are the worked tables, by their pages."""
     yield from worked_words(worked)
@@ -659,5 +783,6 @@ def checks(worked):
 
 
 GROUPS = (
-    lists, taken, turns, waits, residents, ends, one_line_more, before, reply_handles, offers, files_of_names, traced
+    lists, taken, turns, waits, residents, ends, one_line_more, before, reply_handles, offers, files_of_names, traced,
+    printed_fields, layout, options, steps_here, folders, words_of_program,
 )

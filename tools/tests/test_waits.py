@@ -14,7 +14,7 @@ def rows():
     """Of each row that tells what ends a wait: the call, what it returns, and the transcript that shows it."""
     for call, head, cells in pages.tables(pages.text_of(PAGE)):
         for row in cells if head == HEAD else ():
-            script = support.ROOT / "docs" / re.search(r"\((.*)\.script\)", row[3])[1]
+            script = support.ROOT / "docs" / re.search(r"\(([^)]*)\.script\)", row[3])[1]
             yield call, row[1], transcript.load(f"{script.resolve()}.transcript")
 
 
