@@ -33,6 +33,7 @@ import sys
 import tempfile
 
 sys.dont_write_bytecode = True
+import running
 from failing import compiler
 from tally import tally
 
@@ -439,8 +440,8 @@ def pointers(command):
     text = (DOCS / "CLOSING.md").read_text(encoding="utf-8")
     found = [rows for _, head, rows in tables(text) if head == ["Port", "Held by", "Pointers"]]
     for lines, ports in zip((20, 21), found):
-        ran = subprocess.run([*command, "states"], input=b"".join(script[:lines]), capture_output=True, timeout=60)
-        rows = [json.loads(it) for it in ran.stdout.splitlines() if it.startswith(b"{")]
+        _, printed, _ = running.run([*command, "states"], b"".join(script[:lines]))
+        rows = [json.loads(it) for it in printed.splitlines() if it.startswith(b"{")]
         stand = {it["kind"]: it["pointers"] for it in rows if it.get("kind") in ("connection", "server", "client")}
         for port, _, count in ports:
             told = stand.get(port.split()[0])
@@ -466,9 +467,9 @@ def views_of_a_server(command):
 def storm_lines(command):
     """The lines of the storms of docs/STORM.md."""
     for words, line in ((it[0].strip("`"), it[1].strip("`| ")) for it in rows_of("STORM.md", "Words", "Line")):
-        ran = subprocess.run([*command, *words.split()], stdout=subprocess.PIPE, timeout=60, text=True)
-        good = (ran.stdout, ran.returncode) == (f"{line}\n", 0)
-        yield f"STORM.md: {words}", [] if good else [f"it prints {ran.stdout}"]
+        status, printed, _ = running.run([*command, *words.split()])
+        good = (printed, status) == (f"{line}\n".encode(), 0)
+        yield f"STORM.md: {words}", [] if good else [f"it prints {printed[:160]}"]
 
 
 def unquoted(text):
@@ -504,8 +505,8 @@ def bytes_of(block):
 
 def replayed(command, script):
     """What the program prints for a script, and its status."""
-    ran = subprocess.run([*command, "replay"], input=script, capture_output=True, timeout=60)
-    return ran.stdout.decode("utf-8", "backslashreplace"), ran.returncode
+    status, printed, _ = running.run([*command, "replay"], script)
+    return printed.decode("utf-8", "backslashreplace"), status
 
 
 def faults(command):
@@ -554,8 +555,9 @@ def conversations(command):
                "PYTHONPATH": str(ROOT / "tools"), "PYTHONDONTWRITEBYTECODE": "1"}
 
         def printed(name, words, wanted):
-            ran = subprocess.run(words, cwd=folder, env=env, stdout=subprocess.PIPE, timeout=60, text=True)
-            wrong = [] if (ran.stdout, ran.returncode) == (wanted, 0) else [f"it prints {ran.stdout!r}"]
+            ran = subprocess.run(words, cwd=folder, env=env, capture_output=True, timeout=60, text=True)
+            told = f"it prints {ran.stdout[:200]!r}, and to its standard error {ran.stderr[-200:]!r}"
+            wrong = [] if (ran.stdout, ran.returncode) == (wanted, 0) else [told]
             return f"CONVERSATION.md: the code for {name}", wrong
 
         ((line, wanted),) = COMMAND.findall(code["console"])
@@ -575,9 +577,13 @@ def conversations(command):
 def counted(group, *given):
     """The checks of a group, and that it made as many as there are."""
     count = 0
-    for check in group(*given):
-        count += 1
-        yield check
+    try:
+        for check in group(*given):
+            count += 1
+            yield check
+    except (running.Wrong, LookupError, OSError, ValueError, subprocess.SubprocessError) as why:
+        # What goes wrong over what a program printed is wrong with the program.
+        yield group.__name__, [f"{type(why).__name__}: {why}"]
     wanted = COUNTS.get(group.__name__)
     if wanted:
         yield f"{group.__name__}: {wanted} checks", [] if count == wanted else [f"{count} were made"]
