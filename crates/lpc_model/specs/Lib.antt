@@ -1,5 +1,6 @@
 pub mod Message
 pub mod Listed
+pub mod Slots
 pub mod Lines
 pub mod World
 pub mod Then

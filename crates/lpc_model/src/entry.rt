@@ -1,9 +1,10 @@
 // An entry of a transcript, and the list of a step's entries.
 ghost use Rattle.std.specs.Prelude.{◌≡◌, ◌+◌, ◌<◌, ◌≤◌, ◌++◌, [], ◌∷◌, length, map, false, true, IfOk, OnOk, OnErr, slice_get};
-ghost use Rattle.std.specs.Option.{option_map, option_copied};
+ghost use Rattle.std.specs.Option.{option_map};
 ghost use Rattle.lpc_base.specs.Room.{grown_room};
 ghost use Rattle.lpc_base.specs.declared.status.TheConstants.{SUCCESS};
 ghost use Rattle.lpc_model.specs.Listed.{aside_of, shown_entry, has_read};
+ghost use Rattle.lpc_model.specs.Slots.{has_large, is_large, is_mark, small_value, value_in, value_lent};
 ghost use Rattle.lpc_model.specs.Text.{call_text, word_text};
 
 use arrayvec::ArrayVec;
@@ -250,7 +251,37 @@ pub enum Value {
     TokenGroups,
 }
 
-/// A field of an entry.
+/// The value of a field as it is lent: what [`Value`] has of the same name.
+#[derive(Clone, Copy)]
+pub enum Lent<'a> {
+    Number(u64),
+    Hex(u32),
+    Kind(ObjectKind),
+    Bytes(&'a [u8]),
+    Read,
+    Sids(&'a [Sid]),
+    TokenGroups,
+}
+
+impl Value {
+    /// The value, with its bytes or SIDs lent.
+    #[inline(always)]
+    fn lend(&self) -> Lent<'_>
+        ensures { value_lent result ≡ self.now }
+    {
+        match self {
+            Value::Number(number) => Lent::Number(*number),
+            Value::Hex(number) => Lent::Hex(*number),
+            Value::Kind(kind) => Lent::Kind(*kind),
+            Value::Bytes(bytes) => Lent::Bytes(bytes.as_slice()),
+            Value::Read => Lent::Read,
+            Value::Sids(sids) => Lent::Sids(sids.as_slice()),
+            Value::TokenGroups => Lent::TokenGroups,
+        }
+    }
+}
+
+/// A field of an entry: what the value is, and the value.
 #[derive(Drop, PartialEq, Eq)]
 pub struct Field {
     /// What the value is.
@@ -259,57 +290,134 @@ pub struct Field {
     pub value: Value,
 }
 
-impl Default for Field {
+/// A value in its place among the fields of an entry: itself where it is small, else a mark for the one that lies
+/// aside.
+#[derive(Clone, Copy, PartialEq, Eq)]
+enum Short {
+    Number(u64),
+    Hex(u32),
+    Kind(ObjectKind),
+    Read,
+    TokenGroups,
+    Aside,
+}
+
+/// A field in its place.
+#[derive(Clone, Copy, PartialEq, Eq)]
+struct Slot {
+    name: FieldName,
+    value: Short,
+}
+
+impl Default for Slot {
     ghost use Rattle.std.specs.Prelude.{◌≡◌};
     ghost use Rattle.lpc_model.specs.declared.entry.FieldName.TheVariants.{H};
-    ghost use Rattle.lpc_model.specs.declared.entry.Value.TheVariants.{Number};
+    ghost use Rattle.lpc_model.specs.declared.entry.Short.TheVariants.{Number};
 
     /// A handle of value 0: what fills an unused place of [`Fields`].
     fn default() -> Self
         ensures { result ≡ record { name = H; value = Number 0 } }
     {
-        Field {
+        Slot {
             name: FieldName::H,
-            value: Value::Number(0),
+            value: Short::Number(0),
         }
     }
 }
 
-/// The fields of an entry in order, up to six.
+/// The fields of an entry in order, up to six, of which one at most has bytes or SIDs.
+///
+/// A value with bytes or SIDs is large, so there is room for one, beside the places of the fields. Contracts see the
+/// list with it where it stands.
 #[derive(Drop, PartialEq, Eq)]
 pub struct Fields {
-    list: ArrayVec<Field, 6>,
+    list: ArrayVec<Slot, 6>,
+    aside: Value,
 }
 
 impl Model for Fields {
-    ghost use Rattle.std.specs.Prelude.{List, ◌≤◌, length};
+    ghost use Rattle.std.specs.Prelude.{List, ◌≡◌, ◌≤◌, length, map};
+    ghost use Rattle.std.proofs.Common.{ap, ◌∙◌};
     ghost use Rattle.lpc_model.specs.declared.entry.Field.{Field};
 
     ghost Value = { List Field };
 
-    ghost view = { λ f. f.list.items };
+    ghost use Rattle.lpc_model.specs.Slots.{fields_in, large_of, slot_of};
+    ghost use Rattle.lpc_model.specs.declared.entry.Fields.TheInside.{Inside};
 
-    ghost invariant = { λ f. length f.list.items ≤ 6 };
+    ghost view = { λ f. fields_in f.aside f.list.items };
 
-    ghost inverse = { λ v. record { list = record { items = v } } };
+    ghost invariant = { λ f.
+        (length f.list.items ≤ 6)
+        × (map slot_of (fields_in f.aside f.list.items) ≡ f.list.items)
+        × (large_of (fields_in f.aside f.list.items) ≡ f.aside) };
+
+    ghost inverse = { λ v. record {
+      list = record { items = map slot_of v };
+      aside = large_of v;
+    } };
+
+    ghost inverse_ok = { λ a h.
+        ap (λ items. let f : Inside = record {
+          list = record { items = items };
+          aside = large_of (fields_in a.aside a.list.items);
+        } in f) h.1
+        ∙ ap (λ v. let f : Inside = record { list = a.list; aside = v } in f) h.2 };
 }
 
 impl Fields {
     /// No field.
+    #[inline(always)]
     pub fn none() -> Fields
         ensures { result ≡ [] }
     {
         Fields {
             list: ArrayVec::new(),
+            aside: Value::Number(0),
         }
     }
 
-    /// Adds a field behind the others. There are fewer than six.
-    pub fn add(&mut self, name: FieldName, value: Value)
-        requires { length self.old < 6 }
+    // A value that stands in its place, and one that lies aside. Inlined, as all that makes or adds fields, so that
+    // they are written where the entry is to stand.
+    #[inline(always)]
+    fn add_small(&mut self, name: FieldName, value: Short)
+        requires room { length self.old < 6 }
+        requires small { is_mark value ≡ false }
+        ensures { self.new ≡ self.old ++ record { name = name; value = small_value value } ∷ [] }
+    {
+        self.list.push(Slot { name, value });
+    }
+
+    #[inline(always)]
+    fn add_large(&mut self, name: FieldName, value: Value)
+        requires room { length self.old < 6 }
+        requires large { is_large value ≡ true }
+        requires one { has_large self.old ≡ false }
         ensures { self.new ≡ self.old ++ record { name = name; value = value } ∷ [] }
     {
-        self.list.push(Field { name, value });
+        self.list.push(Slot {
+            name,
+            value: Short::Aside,
+        });
+        self.aside = value;
+    }
+
+    /// Adds a field behind the others. There are fewer than six, and one at most of all has bytes or SIDs.
+    #[inline(always)]
+    pub fn add(&mut self, name: FieldName, value: Value)
+        requires room { length self.old < 6 }
+        requires one { is_large value ≡ true → has_large self.old ≡ false }
+        ensures { self.new ≡ self.old ++ record { name = name; value = value } ∷ [] }
+    {
+        match value {
+            Value::Number(number) => self.add_small(name, Short::Number(number)),
+            Value::Hex(number) => self.add_small(name, Short::Hex(number)),
+            Value::Kind(kind) => self.add_small(name, Short::Kind(kind)),
+            Value::Bytes(bytes) => self.add_large(name, Value::Bytes(bytes)),
+            Value::Read => self.add_small(name, Short::Read),
+            Value::Sids(sids) => self.add_large(name, Value::Sids(sids)),
+            Value::TokenGroups => self.add_small(name, Short::TokenGroups),
+        }
     }
 
     /// How many fields there are.
@@ -320,30 +428,40 @@ impl Fields {
     }
 
     /// The name of a field, none at or past the count.
+    #[inline(always)]
     pub fn name(&self, at: usize) -> Option<FieldName>
         ensures { result ≡ option_map (λ f. f.name) (slice_get self.now at) }
     {
         match self.list.as_slice().get(at) {
-            Some(field) => Some(field.name),
+            Some(slot) => Some(slot.name),
             None => None,
         }
-    }
-
-    /// The fields in order.
-    pub fn as_slice(&self) -> &[Field]
-        ensures { result.now ≡ self.now }
-    {
-        self.list.as_slice()
     }
 
     /// The value of a field, none at or past the count.
-    pub fn value(&self, at: usize) -> Option<&Value>
-        ensures { option_copied result ≡ option_map (λ f. f.value) (slice_get self.now at) }
+    #[inline(always)]
+    pub fn value(&self, at: usize) -> Option<Lent<'_>>
+        ensures { option_map value_lent result ≡ option_map (λ f. f.value) (slice_get self.now at) }
     {
         match self.list.as_slice().get(at) {
-            Some(field) => Some(&field.value),
+            Some(slot) => Some(shown(slot.value, &self.aside)),
             None => None,
         }
+    }
+}
+
+/// A value in its place, with the one that lies aside in place of the mark.
+#[inline(always)]
+fn shown(value: Short, aside: &Value) -> Lent<'_>
+    ensures { value_lent result ≡ value_in aside.now value }
+{
+    match value {
+        Short::Number(number) => Lent::Number(number),
+        Short::Hex(number) => Lent::Hex(number),
+        Short::Kind(kind) => Lent::Kind(kind),
+        Short::Read => Lent::Read,
+        Short::TokenGroups => Lent::TokenGroups,
+        Short::Aside => aside.lend(),
     }
 }
 
@@ -473,6 +591,7 @@ impl Entries {
 
     /// Adds an entry behind the others. There is spare room, and no field of the entry has a mark, for the bytes of a
     /// memory read or the groups of a token.
+    #[inline(always)]
     pub fn push(&mut self, entry: Entry)
         requires room { 0 < self.old.spare }
         requires plain { has_read entry ≡ false }

@@ -11,7 +11,7 @@ mod message;
 mod resident;
 
 pub use entry::{
-    CallName, Entries, Entry, Field, FieldName, Fields, ObjectKind, Outcome, Value, Word,
+    CallName, Entries, Entry, Field, FieldName, Fields, Lent, ObjectKind, Outcome, Value, Word,
 };
 pub use fault::LineFault;
 pub use fields::{

@@ -4,6 +4,7 @@ mod Heard
 pub mod Kept
 mod Maps
 mod Outcomes
+mod Places
 mod Rows
 mod Told
 mod Turns

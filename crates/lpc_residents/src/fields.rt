@@ -5,9 +5,10 @@ ghost use Rattle.lpc_base.specs.Rows.{first};
 ghost use Rattle.lpc_sid.specs.declared.sid.Sid.{Sid};
 ghost use Rattle.lpc_model.specs.Residents as spec;
 ghost use Rattle.lpc_model.specs.Residents.{received, told_first, view_told};
+ghost use Rattle.lpc_model.specs.Slots.{field_lent};
 ghost use Rattle.lpc_residents.specs.Shown.{fields_with, is_message};
 
-use lpc_model::{Asked, ClientView, Field, FieldName, Fields, Value};
+use lpc_model::{Asked, ClientView, FieldName, Fields, Lent};
 
 // A number of 32 bits.
 fn word_of(number: u64) -> Option<u32>
@@ -20,29 +21,29 @@ fn word_of(number: u64) -> Option<u32>
 }
 
 // The handle that a field tells, the base of a view that was offered, and its size.
-fn handle_in(field: &Field) -> Option<u32>
-    ensures { result ≡ spec.handle_told field.now }
+fn handle_in(name: FieldName, value: Lent<'_>) -> Option<u32>
+    ensures { result ≡ spec.handle_told (field_lent name value.entry) }
 {
-    match (field.name, &field.value) {
-        (FieldName::H, Value::Number(number)) => word_of(*number),
+    match (name, value) {
+        (FieldName::H, Lent::Number(number)) => word_of(number),
         _ => None,
     }
 }
 
-fn base_in(field: &Field) -> Option<u32>
-    ensures { result ≡ spec.base_told field.now }
+fn base_in(name: FieldName, value: Lent<'_>) -> Option<u32>
+    ensures { result ≡ spec.base_told (field_lent name value.entry) }
 {
-    match (field.name, &field.value) {
-        (FieldName::ViewBase, Value::Hex(number)) => Some(*number),
+    match (name, value) {
+        (FieldName::ViewBase, Lent::Hex(number)) => Some(number),
         _ => None,
     }
 }
 
-fn size_in(field: &Field) -> Option<u32>
-    ensures { result ≡ spec.size_told field.now }
+fn size_in(name: FieldName, value: Lent<'_>) -> Option<u32>
+    ensures { result ≡ spec.size_told (field_lent name value.entry) }
 {
-    match (field.name, &field.value) {
-        (FieldName::ViewSize, Value::Number(number)) => word_of(*number),
+    match (name, value) {
+        (FieldName::ViewSize, Lent::Number(number)) => word_of(number),
         _ => None,
     }
 }
@@ -51,40 +52,43 @@ fn size_in(field: &Field) -> Option<u32>
 pub(crate) fn handle_told(fields: &Fields) -> Option<u32>
     ensures { result ≡ told_first spec.handle_told fields.now }
 {
-    match fields
-        .as_slice()
-        .iter()
-        .find(|field| handle_in(field).is_some())
-    {
-        Some(field) => handle_in(field),
-        None => None,
+    for at in 0..fields.count() {
+        let name = fields.name(at).unwrap();
+        let value = fields.value(at).unwrap();
+        let told = handle_in(name, value);
+        if told.is_some() {
+            return told;
+        }
     }
+    None
 }
 
 fn base_told(fields: &Fields) -> Option<u32>
     ensures { result ≡ told_first spec.base_told fields.now }
 {
-    match fields
-        .as_slice()
-        .iter()
-        .find(|field| base_in(field).is_some())
-    {
-        Some(field) => base_in(field),
-        None => None,
+    for at in 0..fields.count() {
+        let name = fields.name(at).unwrap();
+        let value = fields.value(at).unwrap();
+        let told = base_in(name, value);
+        if told.is_some() {
+            return told;
+        }
     }
+    None
 }
 
 fn size_told(fields: &Fields) -> Option<u32>
     ensures { result ≡ told_first spec.size_told fields.now }
 {
-    match fields
-        .as_slice()
-        .iter()
-        .find(|field| size_in(field).is_some())
-    {
-        Some(field) => size_in(field),
-        None => None,
+    for at in 0..fields.count() {
+        let name = fields.name(at).unwrap();
+        let value = fields.value(at).unwrap();
+        let told = size_in(name, value);
+        if told.is_some() {
+            return told;
+        }
     }
+    None
 }
 
 /// Where a server sees what a client offers, none where fields tell of nothing.
@@ -97,12 +101,12 @@ pub(crate) fn view(fields: &Fields) -> Option<ClientView>
 }
 
 // A field shows a message.
-fn is_message(field: &Field) -> bool
-    ensures { result ≡ is_message field.now }
+fn is_message(name: FieldName, value: Lent<'_>) -> bool
+    ensures { result ≡ is_message (field_lent name value.entry) }
 {
-    match (field.name, &field.value) {
-        (FieldName::Msg, Value::Bytes(_)) => true,
-        (FieldName::Msg, Value::Read) => true,
+    match (name, value) {
+        (FieldName::Msg, Lent::Bytes(_)) => true,
+        (FieldName::Msg, Lent::Read) => true,
         _ => false,
     }
 }
@@ -111,10 +115,16 @@ fn is_message(field: &Field) -> bool
 pub(crate) fn message(fields: &Fields, read: &[u8]) -> Option<Asked>
     ensures { (groups : List Sid) → result ≡ received (fields_with read.now groups fields.now) }
 {
-    let field = fields.as_slice().iter().find(|field| is_message(field))?;
-    match &field.value {
-        Value::Bytes(bytes) => Asked::read(bytes.as_slice()),
-        Value::Read => Asked::read(read),
-        _ => None,
+    for at in 0..fields.count() {
+        let name = fields.name(at).unwrap();
+        let value = fields.value(at).unwrap();
+        if is_message(name, value) {
+            return match value {
+                Lent::Bytes(bytes) => Asked::read(bytes),
+                Lent::Read => Asked::read(read),
+                _ => None,
+            };
+        }
     }
+    None
 }

@@ -2,7 +2,7 @@
 ghost use Rattle.std.specs.Prelude.{◌≡◌, [], false};
 
 use lpc_base::status;
-use lpc_model::{CallName, Entries, Entry, FieldName, Fields, LineFault, Value};
+use lpc_model::{CallName, Entries, Entry, FieldName, Fields, Lent, LineFault, Value};
 use std::alloc::Global;
 use std::process::Abort;
 use std::test::Fail;
@@ -22,7 +22,7 @@ fn fields_stand_in_the_order_in_which_they_were_added(rt: HostRuntime) {
     fields.add(FieldName::Id, Value::Number(2));
     assert!(rt; fields.count() == 2);
     are(&rt, &fields, Some(FieldName::Ctx), Some(FieldName::Id));
-    assert!(rt; fields.value(1) == Some(&Value::Number(2)));
+    assert!(rt; matches!(fields.value(1), Some(Lent::Number(2))));
     assert!(rt; fields.value(2).is_none());
 }
 

@@ -1,16 +1,23 @@
-use Rattle.std.proofs.Common.{◌∙◌, ap, rules, tests, is_some}
-use Rattle.std.specs.Option.{option_and_then}
-use Rattle.std.proofs.lemmas.Iterator.{YieldsList-from_slice}
-use Rattle.std.proofs.lemmas.Iterator.Search.{find_from_yields_List}
+use Rattle.std.proofs.Common.{◌≡◌, true, false, ap, sym, ◌∙◌, Some, is_some}
+use Rattle.std.specs.List.{slice_get}
+use Rattle.std.specs.Option.{option_and_then, option_map}
 use Rattle.lpc_model.specs.Residents.{base_told}
+use Rattle.lpc_model.specs.Slots.{field_lent, value_lent}
+use Rattle.lpc_residents.proofs.Places.{first-here, first-past}
 use Rattle.lpc_residents.proofs.fields.base_told.Goals as goal
 
-pub returns-in-Some : goal.returns-in-Some
-returns-in-Some c =
-    let found = find_from_yields_List (λ field. is_some (base_told field)) _ _ c.find.result c.find.ensures.ran (YieldsList-from_slice c.args.fields.now cc) (λ x b q k. search (rules, tests)) in
-    c.base_in.ensures ∙ ap (option_and_then base_told) (rw c.in-Some.is at found)
+pub returns-then-is_some : goal.returns-then-is_some
+returns-then-is_some c =
+    let name : option_map (λ f. f.name) (slice_get c.args.fields.now c.loop-at.at) ≡ Some c.unwrap-name.result = cc in
+    let value : option_map (λ f. f.value) (slice_get c.args.fields.now c.loop-at.at) ≡ Some (value_lent c.unwrap-value.result) = sym c.value.ensures ∙ ap (option_map value_lent) c.unwrap-value.ensures in
+    let told : c.base_in-told.result ≡ base_told (field_lent c.unwrap-name.result c.unwrap-value.result) = c.base_in-told.ensures in
+    let passes : is_some (base_told (field_lent c.unwrap-name.result c.unwrap-value.result)) ≡ true = cc in
+    told ∙ ap (option_and_then base_told) (first-here (λ field. is_some (base_told field)) c.args.fields.now c.loop-at.at c.unwrap-name.result c.unwrap-value.result name value c.loop-at.invariant passes)
 
-pub returns-in-None : goal.returns-in-None
-returns-in-None c =
-    let found = find_from_yields_List (λ field. is_some (base_told field)) _ _ c.find.result c.find.ensures.ran (YieldsList-from_slice c.args.fields.now cc) (λ x b q k. search (rules, tests)) in
-    ap (option_and_then base_told) (rw c.in-None.is at found)
+pub loop-at-preserved : goal.loop-at-preserved
+loop-at-preserved c =
+    let name : option_map (λ f. f.name) (slice_get c.args.fields.now c.loop-at.at) ≡ Some c.unwrap-name.result = cc in
+    let value : option_map (λ f. f.value) (slice_get c.args.fields.now c.loop-at.at) ≡ Some (value_lent c.unwrap-value.result) = sym c.value.ensures ∙ ap (option_map value_lent) c.unwrap-value.ensures in
+    let told : c.base_in-told.result ≡ base_told (field_lent c.unwrap-name.result c.unwrap-value.result) = c.base_in-told.ensures in
+    let fails : is_some (base_told (field_lent c.unwrap-name.result c.unwrap-value.result)) ≡ false = cc in
+    first-past (λ field. is_some (base_told field)) c.args.fields.now c.loop-at.at c.unwrap-name.result c.unwrap-value.result name value c.loop-at.invariant fails

@@ -1,32 +1,45 @@
-use Rattle.std.proofs.Common.{◌∙◌, ap, rules, tests}
-use Rattle.std.proofs.lemmas.Iterator.{YieldsList-from_slice}
-use Rattle.std.proofs.lemmas.Iterator.Search.{find_from_yields_List}
-use Rattle.lpc_model.specs.declared.entry.Value.{Value}
+use Rattle.std.proofs.Common.{◌≡◌, ◌≤◌, true, false, arith, ap, sym, ◌∙◌, length, Some}
+use Rattle.std.specs.List.{slice_get}
+use Rattle.std.specs.Option.{option_map}
+use Rattle.lpc_model.specs.declared.entry.Lent.{Lent}
 use Rattle.lpc_model.specs.Listed.{Aside, shown_value}
-use Rattle.lpc_model.specs.Requests.{lawful_message}
 use Rattle.lpc_model.specs.Residents.{bytes_of_value}
+use Rattle.lpc_model.specs.Slots.{field_lent, value_lent}
 use Rattle.lpc_residents.specs.Shown.{is_message}
+use Rattle.lpc_residents.proofs.Places.{first-here, first-none, first-past}
 use Rattle.lpc_residents.proofs.Told.{message-at, message-none}
 use Rattle.lpc_residents.proofs.fields.message.Goals as goal
 
-pub returns-in_err-field : goal.returns-in_err-field
-returns-in_err-field c =
-    let found = find_from_yields_List is_message _ _ c.find.result c.find.ensures.ran (YieldsList-from_slice c.args.fields.now cc) (λ x b q k. search (rules, tests)) in
-    λ groups. c.from_residual.ensures ∙ message-none (record { read = c.args.read.now; groups = groups }) c.args.fields.now (rw c.in_err-field.was at found)
-
 pub returns-in-Bytes : goal.returns-in-Bytes
 returns-in-Bytes c =
-    let found = find_from_yields_List is_message _ _ c.find.result c.find.ensures.ran (YieldsList-from_slice c.args.fields.now cc) (λ x b q k. search (rules, tests)) in
+    let name : option_map (λ f. f.name) (slice_get c.args.fields.now c.loop-at.at) ≡ Some c.unwrap-name.result = cc in
+    let value : option_map (λ f. f.value) (slice_get c.args.fields.now c.loop-at.at) ≡ Some (value_lent c.unwrap-value.result) = sym c.value.ensures ∙ ap (option_map value_lent) c.unwrap-value.ensures in
+    let passes : is_message (field_lent c.unwrap-name.result c.unwrap-value.result) ≡ true = cc in
+    let found = first-here is_message c.args.fields.now c.loop-at.at c.unwrap-name.result c.unwrap-value.result name value c.loop-at.invariant passes in
     λ groups.
     let aside : Aside = record { read = c.args.read.now; groups = groups } in
     c.read.ensures
-    ∙ ap lawful_message c.as_slice-in-Bytes.ensures.value
-    ∙ message-at aside c.args.fields.now c.in_ok-field.field.now c.in-Bytes.bytes.items (rw c.in_ok-field.was at found) (ap (λ (v : Value). bytes_of_value (shown_value aside v)) c.in-Bytes.is)
+    ∙ message-at aside c.args.fields.now (field_lent c.unwrap-name.result c.unwrap-value.result) c.in-Bytes.bytes.now found (ap (λ (v : Lent). bytes_of_value (shown_value aside (value_lent v))) c.in-Bytes.is)
 
 pub returns-in-Read : goal.returns-in-Read
 returns-in-Read c =
-    let found = find_from_yields_List is_message _ _ c.find.result c.find.ensures.ran (YieldsList-from_slice c.args.fields.now cc) (λ x b q k. search (rules, tests)) in
+    let name : option_map (λ f. f.name) (slice_get c.args.fields.now c.loop-at.at) ≡ Some c.unwrap-name.result = cc in
+    let value : option_map (λ f. f.value) (slice_get c.args.fields.now c.loop-at.at) ≡ Some (value_lent c.unwrap-value.result) = sym c.value.ensures ∙ ap (option_map value_lent) c.unwrap-value.ensures in
+    let passes : is_message (field_lent c.unwrap-name.result c.unwrap-value.result) ≡ true = cc in
+    let found = first-here is_message c.args.fields.now c.loop-at.at c.unwrap-name.result c.unwrap-value.result name value c.loop-at.invariant passes in
     λ groups.
     let aside : Aside = record { read = c.args.read.now; groups = groups } in
     c.read-in-Read.ensures
-    ∙ message-at aside c.args.fields.now c.in_ok-field.field.now c.args.read.now (rw c.in_ok-field.was at found) (ap (λ (v : Value). bytes_of_value (shown_value aside v)) c.in-Read.is)
+    ∙ message-at aside c.args.fields.now (field_lent c.unwrap-name.result c.unwrap-value.result) c.args.read.now found (ap (λ (v : Lent). bytes_of_value (shown_value aside (value_lent v))) c.in-Read.is)
+
+pub loop-at-preserved : goal.loop-at-preserved
+loop-at-preserved c =
+    let name : option_map (λ f. f.name) (slice_get c.args.fields.now c.loop-at.at) ≡ Some c.unwrap-name.result = cc in
+    let value : option_map (λ f. f.value) (slice_get c.args.fields.now c.loop-at.at) ≡ Some (value_lent c.unwrap-value.result) = sym c.value.ensures ∙ ap (option_map value_lent) c.unwrap-value.ensures in
+    let fails : is_message (field_lent c.unwrap-name.result c.unwrap-value.result) ≡ false = cc in
+    first-past is_message c.args.fields.now c.loop-at.at c.unwrap-name.result c.unwrap-value.result name value c.loop-at.invariant fails
+
+pub returns : goal.returns
+returns c =
+    let end : length c.args.fields.now ≤ c.loop-at.at = omega (arith, c.loop-at-test.false, c.count-at-end.ensures) in
+    λ groups. message-none (record { read = c.args.read.now; groups = groups }) c.args.fields.now (first-none is_message c.args.fields.now c.loop-at.at end c.loop-at.invariant)

@@ -1,7 +1,8 @@
 use Rattle.std.proofs.Common.{rules, arith, ◌≡◌, sym, ap, ◌∙◌, ℕ, zero, suc, ◌+◌, ◌≤◌, List, [], ◌∷◌, ◌++◌, length, map, take, Some, append_assoc, append-nil, add-one, length-append}
-use Rattle.std.specs.Option.{option_map, option_copied}
+use Rattle.std.specs.Option.{option_map}
 use Rattle.std.specs.List.{slice_get}
 use Rattle.lpc_model.specs.Listed.{Aside, shown_field}
+use Rattle.lpc_model.specs.Slots.{value_lent}
 use Rattle.lpc_model.specs.Text.{field_text, fields_text}
 use Rattle.lpc_model.specs.declared.entry.Field.{Field}
 use Rattle.lpc_model.specs.declared.entry.FieldName.{FieldName}
@@ -34,17 +35,17 @@ pub loop-at-preserved : goal.loop-at-preserved
 loop-at-preserved c = record {
   text =
       let name : option_map (λ f. f.name) (slice_get c.args.fields.now c.loop-at.at) ≡ Some c.unwrap-name.result = cc in
-      let value : option_map (λ f. f.value) (slice_get c.args.fields.now c.loop-at.at) ≡ Some c.unwrap-value.result.now = sym c.value.ensures ∙ ap option_copied c.unwrap-value.ensures in
-      let more = one_more (aside_of c.args.read.now c.args.groups.now) c.args.fields.now c.loop-at.at c.unwrap-name.result c.unwrap-value.result.now name value in
-      rw (c.in_ok-put_field.ensures.ok, c.loop-at.invariant.text, add-one, more) (append_assoc c.args.into.now.items (fields_text (map (shown_field (aside_of c.args.read.now c.args.groups.now)) (take c.loop-at.at c.args.fields.now))) (field_text (shown_field (aside_of c.args.read.now c.args.groups.now) (record { name = c.unwrap-name.result; value = c.unwrap-value.result.now }))));
+      let value : option_map (λ f. f.value) (slice_get c.args.fields.now c.loop-at.at) ≡ Some (value_lent c.unwrap-value.result) = sym c.value.ensures ∙ ap (option_map value_lent) c.unwrap-value.ensures in
+      let more = one_more (aside_of c.args.read.now c.args.groups.now) c.args.fields.now c.loop-at.at c.unwrap-name.result (value_lent c.unwrap-value.result) name value in
+      rw (c.in_ok-put_field.ensures.ok, c.loop-at.invariant.text, add-one, more) (append_assoc c.args.into.now.items (fields_text (map (shown_field (aside_of c.args.read.now c.args.groups.now)) (take c.loop-at.at c.args.fields.now))) (field_text (shown_field (aside_of c.args.read.now c.args.groups.now) (record { name = c.unwrap-name.result; value = (value_lent c.unwrap-value.result) }))));
   room = omega arith;
 }
 
 pub returns-in_err-put_field-clause-wanting : goal.returns-in_err-put_field-clause-wanting
 returns-in_err-put_field-clause-wanting c =
     let name : option_map (λ f. f.name) (slice_get c.args.fields.now c.loop-at.at) ≡ Some c.unwrap-name.result = cc in
-    let value : option_map (λ f. f.value) (slice_get c.args.fields.now c.loop-at.at) ≡ Some c.unwrap-value.result.now = sym c.value.ensures ∙ ap option_copied c.unwrap-value.ensures in
-    let more = no_longer (aside_of c.args.read.now c.args.groups.now) c.args.fields.now c.loop-at.at c.unwrap-name.result c.unwrap-value.result.now name value in
+    let value : option_map (λ f. f.value) (slice_get c.args.fields.now c.loop-at.at) ≡ Some (value_lent c.unwrap-value.result) = sym c.value.ensures ∙ ap (option_map value_lent) c.unwrap-value.ensures in
+    let more = no_longer (aside_of c.args.read.now c.args.groups.now) c.args.fields.now c.loop-at.at c.unwrap-name.result (value_lent c.unwrap-value.result) name value in
     let text = simp length-append at (ap length c.loop-at.invariant.text) in
     let lacks : LacksRoom c.args.into.now (fields_of (aside_of c.args.read.now c.args.groups.now) c.args.fields.now) = omega (arith, more, text, c.in_err-put_field.ensures.wanting) in
     search (rules, lacks)
