@@ -1,5 +1,5 @@
 // The calls that make processes and threads.
-ghost use Rattle.lpc_rows.specs.Capacity.{KeepsOtherPlaces, handle_places};
+ghost use Rattle.lpc_rows.specs.Capacity.{KeepsOtherPlaces, KeepsViewPlaces, handle_places};
 ghost use Rattle.lpc_rows.specs.Kept.{grown_handles, grown_messages, grown_processes, grown_threads, grown_waits};
 ghost use Rattle.std.specs.Prelude.{◌≡◌, ◌+◌, ◌<◌, ◌≤◌, false, true, Err, IfOk, IsErr, MatchResult, Ok, OnErr, OnOk};
 ghost use Rattle.lpc_base.specs.Rows.{has};
@@ -76,10 +76,17 @@ pub fn nt_create_process(
         IsErr (service world.old.rows by call) → world.new.room ≡ world.old.room }
     ensures unasked { let call = create_process pid tid in
         IsErr (service world.old.rows by call) → world.new.capacity ≡ world.old.capacity }
-    ensures ports { let new = world.new.capacity in
-        let old = world.old.capacity in new.ports ≡ old.ports }
-    ensures names { let new = world.new.capacity in
-        let old = world.old.capacity in new.names ≡ old.names }
+    ensures capacity { let new = world.new.capacity in
+        let old = world.old.capacity in
+        new ≡ record old {
+          processes = new.processes;
+          threads = new.threads;
+          waits = new.waits;
+          messages = new.messages;
+          handles = new.handles;
+          views = new.views;
+        } }
+    ensures view_places { KeepsViewPlaces world.old.capacity world.new.capacity }
     ensures asked_processes { let new = world.new.capacity in
         new.processes ≤ grown_processes world.old 1 }
     ensures asked_threads { let new = world.new.capacity in
@@ -165,12 +172,14 @@ pub fn nt_create_thread(
         IsErr (service world.old.rows by call) → world.new.room ≡ world.old.room }
     ensures unasked { let call = create_thread process tid in
         IsErr (service world.old.rows by call) → world.new.capacity ≡ world.old.capacity }
-    ensures processes { let new = world.new.capacity in
-        let old = world.old.capacity in new.processes ≡ old.processes }
-    ensures ports { let new = world.new.capacity in
-        let old = world.old.capacity in new.ports ≡ old.ports }
-    ensures names { let new = world.new.capacity in
-        let old = world.old.capacity in new.names ≡ old.names }
+    ensures capacity { let new = world.new.capacity in
+        let old = world.old.capacity in
+        new ≡ record old {
+          threads = new.threads;
+          waits = new.waits;
+          messages = new.messages;
+          handles = new.handles;
+        } }
     ensures asked_threads { let new = world.new.capacity in
         new.threads ≤ grown_threads world.old 1 }
     ensures asked_waits { let new = world.new.capacity in new.waits ≤ grown_waits world.old 1 }

@@ -7,7 +7,7 @@ ghost use Rattle.lpc_model.specs.Machine.{boot_line, dir_line, link_line, thread
 ghost use Rattle.lpc_rows.specs.Bound.{status_of_binding};
 ghost use Rattle.lpc_procs.specs.Procs.{IsNumber};
 ghost use Rattle.lpc_rows.specs.Does.{Directs};
-ghost use Rattle.lpc_rows.specs.Capacity.{KeepsPlaces, but_names};
+ghost use Rattle.lpc_rows.specs.Capacity.{KeepsPlaces, KeepsViewPlaces, but_names};
 ghost use Rattle.lpc_rows.specs.Kept.{grown_messages, grown_processes, grown_threads, grown_waits, lacks_name_room, lacks_process_room, lacks_thread_room};
 ghost use Rattle.lpc_directives.specs.Room.{lacks_token_name_room};
 ghost use Rattle.lpc_base.specs.declared.limits.TheConstants.{LINES_LIMIT};
@@ -111,11 +111,18 @@ pub fn boot(
     ensures unasked { let line = boot_line world.old.rows pid tid (option_copied token.entry) in
         IsErr line → world.new.capacity ≡ world.old.capacity }
     ensures wanting { OnErr result (lacks_process_room world.old ≡ true) }
-    ensures ports { let new = world.new.capacity in
-        let old = world.old.capacity in new.ports ≡ old.ports }
-    ensures names { let new = world.new.capacity in
-        let old = world.old.capacity in new.names ≡ old.names }
+    ensures capacity { let new = world.new.capacity in
+        let old = world.old.capacity in
+        new ≡ record old {
+          processes = new.processes;
+          threads = new.threads;
+          waits = new.waits;
+          messages = new.messages;
+          handles = new.handles;
+          views = new.views;
+        } }
     ensures places { KeepsPlaces world.old.capacity world.new.capacity }
+    ensures view_places { KeepsViewPlaces world.old.capacity world.new.capacity }
     ensures asked_processes { let new = world.new.capacity in
         new.processes ≤ grown_processes world.old 1 }
     ensures asked_threads { let new = world.new.capacity in

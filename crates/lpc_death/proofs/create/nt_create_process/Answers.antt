@@ -17,7 +17,7 @@ use Rattle.lpc_model.specs.declared.entry.Entry.TheVariants.{Answer}
 use Rattle.lpc_model.specs.Fields.{first_thread, h}
 use Rattle.lpc_model.specs.Creation.{gives_life}
 use Rattle.lpc_death.proofs.Makes.{begins, drawn-later, drawn-stands, load-same, first-birth, load-more, next-birth, two-handles, booted_by, alike, given-alike, served-made}
-use Rattle.lpc_rows.specs.Capacity.{Capacity, handle_places}
+use Rattle.lpc_rows.specs.Capacity.{Capacity, handle_places, view_places}
 use Rattle.lpc_rows.proofs.Capacities.{none_pushed}
 use Rattle.lpc_death.proofs.create.nt_create_process.Goals as goal
 
@@ -158,3 +158,13 @@ returns-clause-other_places c =
     ap (λ (m : Capacity). handle_places m other) made ∙ (none_pushed c.procs_draw_birth-thread.new.self.capacity.handles c.args.pid other ∙ ap (λ (m : Capacity). handle_places m other) begun) in
     let had = ap (λ (m : Capacity). handle_places m other) c.in_ok-procs_reserve.ensures.capacity ∙ ap (λ (m : Capacity). handle_places m other) c.in_ok-thread_reserve.ensures.capacity in
     left ∙ (c.in_ok-handles_reserve.ensures.other_places other off ∙ had))
+
+pub returns-clause-view_places : goal.returns-clause-view_places
+returns-clause-view_places c = λ pid.
+    let made = c.give_handle-second.ensures.capacity ∙ (c.give_handle-value.ensures.capacity ∙ (c.procs_add_thread.ensures.capacity ∙ c.procs_add_process.ensures.capacity)) in
+    let begun = c.procs_draw_birth-thread.ensures.capacity ∙ (c.procs_draw_birth-process.ensures.capacity ∙ c.begin_call-2.ensures.capacity) in
+    let left : view_places c.give_handle-second.new.world.capacity pid ≡ view_places c.handles_reserve.new.self.capacity pid =
+    ap (λ (m : Capacity). view_places m pid) made ∙ (none_pushed c.procs_draw_birth-thread.new.self.capacity.views c.args.pid pid ∙ ap (λ (m : Capacity). view_places m pid) begun) in
+    let kept = ap (λ (m : Capacity). view_places m pid) c.in_ok-handles_reserve.ensures.capacity in
+    let had = ap (λ (m : Capacity). view_places m pid) c.in_ok-procs_reserve.ensures.capacity ∙ ap (λ (m : Capacity). view_places m pid) c.in_ok-thread_reserve.ensures.capacity in
+    left ∙ (kept ∙ had)
