@@ -1,4 +1,5 @@
 pub mod Condition
+pub mod Growth
 pub mod Memory
 pub mod Settled
 pub mod Short

@@ -23,14 +23,15 @@ ghost use Rattle.lpc_closing.specs.Closing.{CanClose};
 ghost use Rattle.lpc_death.specs.Ends.{CanEnd};
 ghost use Rattle.lpc_machine.specs.Settled.{IsSettled};
 ghost use Rattle.lpc_machine.specs.Unsettling.{call_unsettles, unsettles};
+ghost use Rattle.lpc_machine.specs.Growth.{KeepsOtherViews, KeepsViewsBeside, call_adds, caller_process, line_adds, most_handles, most_messages, most_ports, most_processes, most_sections, most_threads, most_tokens, most_views, most_waits, process_of};
 ghost use Rattle.lpc_machine.specs.Short.{has_short_name};
 ghost use Rattle.lpc_machine.specs.Memory.{GoesOn, Halts, call_takes_memory, lacks_call_room, lacks_room, makes_call, takes_memory};
 ghost use Rattle.lpc_rows.specs.Called.{MayServe, service};
 ghost use Rattle.lpc_rows.specs.Does.{Took};
-ghost use Rattle.lpc_rows.specs.Capacity.{but_lives, but_names, handle_places};
-ghost use Rattle.lpc_rows.specs.Kept.{Same, grown_handles, grown_messages, grown_ports, grown_processes, grown_threads, grown_waits};
+ghost use Rattle.lpc_rows.specs.Capacity.{KeepsOtherPlaces, but_lives, but_names, handle_places, view_places};
+ghost use Rattle.lpc_rows.specs.Kept.{Same};
 ghost use Rattle.lpc_rows.specs.Ready as ready;
-ghost use Rattle.lpc_rows.specs.Ready.{HasRoom, is_ready};
+ghost use Rattle.lpc_rows.specs.Ready.{HasRoom, caller, is_ready};
 ghost use Rattle.lpc_steps.specs.Settling.{CanSettle};
 
 use crate::reading::{Condition, condition_of, objects, room_needed};
@@ -96,7 +97,7 @@ fn tell(word: Word, status: Status, out: &mut Entries)
 }
 
 /// A call of a thread that can make it.
-#[tactic(auto, using(crate::proofs::Asked::ports_within, crate::proofs::Asked::messages_within, crate::proofs::Asked::waits_within, crate::proofs::Asked::processes_within, crate::proofs::Asked::threads_within, crate::proofs::Asked::places_by_one, crate::proofs::Asked::places_by_two, crate::proofs::Asked::places_kept, crate::proofs::Asked::places_same))]
+#[tactic(auto, using(crate::proofs::Asked::ports_within, crate::proofs::Asked::messages_within, crate::proofs::Asked::waits_within, crate::proofs::Asked::processes_within, crate::proofs::Asked::threads_within, crate::proofs::Asked::sections_within, crate::proofs::Asked::tokens_within, crate::proofs::Asked::handles_within, crate::proofs::Asked::same_handles_within, crate::proofs::Asked::views_within, crate::proofs::Asked::same_views_within))]
 fn serve(
     world: &mut World,
     by: u32,
@@ -122,16 +123,28 @@ fn serve(
         but_names world.new.capacity ≡ but_names world.old.capacity }
     ensures unasked { IsErr (service world.old.rows by (call_of call.now)) →
         but_names world.new.capacity ≡ but_names world.old.capacity }
-    ensures asked_ports { let new = world.new.capacity in new.ports ≤ grown_ports world.old 1 }
-    ensures asked_messages { let new = world.new.capacity in
-        new.messages ≤ grown_messages world.old 1 }
-    ensures asked_waits { let new = world.new.capacity in new.waits ≤ grown_waits world.old 1 }
-    ensures asked_processes { let new = world.new.capacity in
-        new.processes ≤ grown_processes world.old 1 }
-    ensures asked_threads { let new = world.new.capacity in
-        new.threads ≤ grown_threads world.old 1 }
-    ensures asked_handles { (pid : ℕ) →
-        handle_places world.new.capacity pid ≤ grown_handles world.old pid 2 }
+    ensures asked_ports { let added = call_adds (call_of call.now) in
+        world.new.capacity.ports ≤ most_ports world.old added.ports }
+    ensures asked_messages { let added = call_adds (call_of call.now) in
+        world.new.capacity.messages ≤ most_messages world.old added.messages }
+    ensures asked_waits { let added = call_adds (call_of call.now) in
+        world.new.capacity.waits ≤ most_waits world.old added.waits }
+    ensures asked_processes { let added = call_adds (call_of call.now) in
+        world.new.capacity.processes ≤ most_processes world.old added.processes }
+    ensures asked_threads { let added = call_adds (call_of call.now) in
+        world.new.capacity.threads ≤ most_threads world.old added.threads }
+    ensures asked_sections { let added = call_adds (call_of call.now) in
+        world.new.capacity.sections ≤ most_sections world.old added.sections }
+    ensures asked_tokens { let added = call_adds (call_of call.now) in
+        world.new.capacity.tokens ≤ most_tokens world.old added.tokens }
+    ensures asked_handles { let added = call_adds (call_of call.now) in
+        let pid = caller_process world.old.rows by in
+        handle_places world.new.capacity pid ≤ most_handles world.old pid added.handles }
+    ensures other_handles { let pid = caller_process world.old.rows by in
+        KeepsOtherPlaces pid world.old.capacity world.new.capacity }
+    ensures asked_views { let added = call_adds (call_of call.now) in (pid : ℕ) →
+        view_places world.new.capacity pid ≤ most_views world.old pid added.views }
+    ensures other_views { KeepsViewsBeside (caller world.old.rows by) (call_of call.now) world.old world.new }
 {
     match call {
         Call::CreatePort { name, dacl } => nt_create_port(world, by, *name, *dacl, out),
@@ -232,7 +245,7 @@ fn serve(
 }
 
 /// A call of a thread, which makes it where it lives and doesn't wait.
-#[tactic(auto, using(crate::proofs::Asked::ports_within, crate::proofs::Asked::messages_within, crate::proofs::Asked::waits_within, crate::proofs::Asked::processes_within, crate::proofs::Asked::threads_within, crate::proofs::Asked::places_by_one, crate::proofs::Asked::places_by_two, crate::proofs::Asked::places_kept, crate::proofs::Asked::places_same))]
+#[tactic(auto, using(crate::proofs::Asked::ports_within, crate::proofs::Asked::messages_within, crate::proofs::Asked::waits_within, crate::proofs::Asked::processes_within, crate::proofs::Asked::threads_within, crate::proofs::Asked::sections_within, crate::proofs::Asked::tokens_within, crate::proofs::Asked::handles_within, crate::proofs::Asked::same_handles_within, crate::proofs::Asked::views_within, crate::proofs::Asked::same_views_within))]
 fn run(world: &mut World, tid: u32, call: &Call<'_>, out: &mut Entries) -> Result<(), OutOfMemory>
     requires room { HasRoom world.old out.old }
     requires calls { world.old.calls < LINES_LIMIT }
@@ -258,16 +271,28 @@ fn run(world: &mut World, tid: u32, call: &Call<'_>, out: &mut Entries) -> Resul
         but_names world.new.capacity ≡ but_names world.old.capacity }
     ensures unasked { Halts world.old.rows (script.run tid (call_of call.now)) →
         but_names world.new.capacity ≡ but_names world.old.capacity }
-    ensures asked_ports { let new = world.new.capacity in new.ports ≤ grown_ports world.old 1 }
-    ensures asked_messages { let new = world.new.capacity in
-        new.messages ≤ grown_messages world.old 1 }
-    ensures asked_waits { let new = world.new.capacity in new.waits ≤ grown_waits world.old 1 }
-    ensures asked_processes { let new = world.new.capacity in
-        new.processes ≤ grown_processes world.old 1 }
-    ensures asked_threads { let new = world.new.capacity in
-        new.threads ≤ grown_threads world.old 1 }
-    ensures asked_handles { (pid : ℕ) →
-        handle_places world.new.capacity pid ≤ grown_handles world.old pid 2 }
+    ensures asked_ports { let added = call_adds (call_of call.now) in
+        world.new.capacity.ports ≤ most_ports world.old added.ports }
+    ensures asked_messages { let added = call_adds (call_of call.now) in
+        world.new.capacity.messages ≤ most_messages world.old added.messages }
+    ensures asked_waits { let added = call_adds (call_of call.now) in
+        world.new.capacity.waits ≤ most_waits world.old added.waits }
+    ensures asked_processes { let added = call_adds (call_of call.now) in
+        world.new.capacity.processes ≤ most_processes world.old added.processes }
+    ensures asked_threads { let added = call_adds (call_of call.now) in
+        world.new.capacity.threads ≤ most_threads world.old added.threads }
+    ensures asked_sections { let added = call_adds (call_of call.now) in
+        world.new.capacity.sections ≤ most_sections world.old added.sections }
+    ensures asked_tokens { let added = call_adds (call_of call.now) in
+        world.new.capacity.tokens ≤ most_tokens world.old added.tokens }
+    ensures asked_handles { let added = call_adds (call_of call.now) in
+        let pid = caller_process world.old.rows tid in
+        handle_places world.new.capacity pid ≤ most_handles world.old pid added.handles }
+    ensures other_handles { let pid = caller_process world.old.rows tid in
+        KeepsOtherPlaces pid world.old.capacity world.new.capacity }
+    ensures asked_views { let added = call_adds (call_of call.now) in (pid : ℕ) →
+        view_places world.new.capacity pid ≤ most_views world.old pid added.views }
+    ensures other_views { KeepsViewsBeside (caller world.old.rows tid) (call_of call.now) world.old world.new }
 {
     match condition_of(world, tid) {
         Condition::Absent => out.push(Entry::NoThread { tid }),
@@ -290,7 +315,7 @@ fn hosting(world: &World, tid: u32) -> Status
 }
 
 /// What the directive or call of a line does on the world alone, before the world settles.
-#[tactic(auto, unfolding(lpc_model::specs::Machine::own_steps), using(crate::proofs::Idle::hosts_alone, crate::proofs::Idle::turn_alone, crate::proofs::Asked::ports_within, crate::proofs::Asked::messages_within, crate::proofs::Asked::waits_within, crate::proofs::Asked::processes_within, crate::proofs::Asked::threads_within, crate::proofs::Asked::places_by_one, crate::proofs::Asked::places_by_two, crate::proofs::Asked::places_kept, crate::proofs::Asked::places_same))]
+#[tactic(auto, unfolding(lpc_model::specs::Machine::own_steps), using(crate::proofs::Idle::hosts_alone, crate::proofs::Idle::turn_alone, crate::proofs::Asked::ports_within, crate::proofs::Asked::messages_within, crate::proofs::Asked::waits_within, crate::proofs::Asked::processes_within, crate::proofs::Asked::threads_within, crate::proofs::Asked::sections_within, crate::proofs::Asked::tokens_within, crate::proofs::Asked::handles_within, crate::proofs::Asked::same_handles_within, crate::proofs::Asked::views_within, crate::proofs::Asked::same_views_within))]
 fn take(world: &mut World, line: &Line<'_>, out: &mut Entries) -> Result<(), OutOfMemory>
     requires empty { out.old.list ≡ [] }
     requires unread { out.old.reads ≡ false }
@@ -316,16 +341,28 @@ fn take(world: &mut World, line: &Line<'_>, out: &mut Entries) -> Result<(), Out
         but_names world.new.capacity ≡ but_names world.old.capacity }
     ensures unasked { Halts world.old.rows (line_of line.now) →
         but_names world.new.capacity ≡ but_names world.old.capacity }
-    ensures asked_ports { let new = world.new.capacity in new.ports ≤ grown_ports world.old 1 }
-    ensures asked_messages { let new = world.new.capacity in
-        new.messages ≤ grown_messages world.old 1 }
-    ensures asked_waits { let new = world.new.capacity in new.waits ≤ grown_waits world.old 1 }
-    ensures asked_processes { let new = world.new.capacity in
-        new.processes ≤ grown_processes world.old 1 }
-    ensures asked_threads { let new = world.new.capacity in
-        new.threads ≤ grown_threads world.old 1 }
-    ensures asked_handles { (pid : ℕ) →
-        handle_places world.new.capacity pid ≤ grown_handles world.old pid 2 }
+    ensures asked_ports { let added = line_adds (line_of line.now) in
+        world.new.capacity.ports ≤ most_ports world.old added.ports }
+    ensures asked_messages { let added = line_adds (line_of line.now) in
+        world.new.capacity.messages ≤ most_messages world.old added.messages }
+    ensures asked_waits { let added = line_adds (line_of line.now) in
+        world.new.capacity.waits ≤ most_waits world.old added.waits }
+    ensures asked_processes { let added = line_adds (line_of line.now) in
+        world.new.capacity.processes ≤ most_processes world.old added.processes }
+    ensures asked_threads { let added = line_adds (line_of line.now) in
+        world.new.capacity.threads ≤ most_threads world.old added.threads }
+    ensures asked_sections { let added = line_adds (line_of line.now) in
+        world.new.capacity.sections ≤ most_sections world.old added.sections }
+    ensures asked_tokens { let added = line_adds (line_of line.now) in
+        world.new.capacity.tokens ≤ most_tokens world.old added.tokens }
+    ensures asked_handles { let added = line_adds (line_of line.now) in
+        let pid = process_of world.old.rows (line_of line.now) in
+        handle_places world.new.capacity pid ≤ most_handles world.old pid added.handles }
+    ensures other_handles { let pid = process_of world.old.rows (line_of line.now) in
+        KeepsOtherPlaces pid world.old.capacity world.new.capacity }
+    ensures asked_views { let added = line_adds (line_of line.now) in (pid : ℕ) →
+        view_places world.new.capacity pid ≤ most_views world.old pid added.views }
+    ensures other_views { KeepsOtherViews (line_of line.now) world.old world.new }
 {
     match line {
         Line::Boot {
@@ -422,13 +459,13 @@ impl Machine {
     /// `NtCreateThread`, `NtCreateSection`, `NtMapViewOfSection`, `NtOpenThreadToken` and `NtOpenProcessToken` change
     /// the memory of any table but those of names, names of tokens, processes and threads, and only where they aren't
     /// refused; they want for memory only where the room for what they make wasn't there, which the bytes of a section
-    /// never have; every other line is answered. Of ports, messages and waits no line leaves more memory than there
-    /// was, than the rows before it need with one more and what was owed, or than twice these rows do, and of each
-    /// process's handles the same with two more. Of processes and threads none leaves more than there was, than the
-    /// numbers ever used need with one more, or than twice these do, but for the places of the rows that went at its
-    /// end. How far that of sections, views and tokens may grow is said of each call alone, and of names nowhere. One of
-    /// the five directives, and a call of a thread that lives and doesn't wait, counts as a call, refused or not, unless
-    /// it found no memory.
+    /// never have; every other line is answered. Of a table of which a line makes no row it leaves no more memory than
+    /// there was; of one of which it makes rows no more than there was, than the rows before it need with those that it
+    /// makes and what was owed, or than twice the rows before it. Handles are made in the process whose thread calls, and
+    /// views there and, where a connect is accepted, in the client's process. Of processes and threads the rows are the
+    /// numbers ever used, and beside that bound there are places for the rows that went at the line's end. How far the
+    /// memory of names may grow is said nowhere. One of the five directives, and a call of a thread that lives and
+    /// doesn't wait, counts as a call, refused or not, unless it found no memory.
     pub fn step(&mut self, line: &Line<'_>, out: &mut Entries) -> Result<(), OutOfMemory>
         requires empty { out.old.list ≡ [] }
         requires unread { out.old.reads ≡ false }
@@ -465,24 +502,38 @@ impl Machine {
             but_lives (but_names self.new.capacity) ≡ but_lives (but_names self.old.capacity) }
         ensures unasked { Halts self.old.rows (line_of line.now) →
             but_lives (but_names self.new.capacity) ≡ but_lives (but_names self.old.capacity) }
-        ensures asked_ports { let new = self.new.capacity in new.ports ≤ grown_ports self.old 1 }
-        ensures asked_messages { let new = self.new.capacity in
-            new.messages ≤ grown_messages self.old 1 }
-        ensures asked_waits { let new = self.new.capacity in new.waits ≤ grown_waits self.old 1 }
+        ensures asked_ports { let added = line_adds (line_of line.now) in
+            self.new.capacity.ports ≤ most_ports self.old added.ports }
+        ensures asked_messages { let added = line_adds (line_of line.now) in
+            self.new.capacity.messages ≤ most_messages self.old added.messages }
+        ensures asked_waits { let added = line_adds (line_of line.now) in
+            self.new.capacity.waits ≤ most_waits self.old added.waits }
         ensures asked_processes { OnOk result
-            (let bare = bare_step self.old.rows (line_of line.now) in
+            (let added = line_adds (line_of line.now) in
+            let bare = bare_step self.old.rows (line_of line.now) in
             self.new.capacity.processes + length self.new.rows.processes
-            ≤ grown_processes self.old 1 + length bare.world.processes) }
+            ≤ most_processes self.old added.processes + length bare.world.processes) }
         ensures asked_threads { OnOk result
-            (let bare = bare_step self.old.rows (line_of line.now) in
+            (let added = line_adds (line_of line.now) in
+            let bare = bare_step self.old.rows (line_of line.now) in
             self.new.capacity.threads + length self.new.rows.threads
-            ≤ grown_threads self.old 1 + length bare.world.threads) }
-        ensures failed_processes { OnErr result (let new = self.new.capacity in
-            new.processes ≤ grown_processes self.old 1) }
-        ensures failed_threads { OnErr result (let new = self.new.capacity in
-            new.threads ≤ grown_threads self.old 1) }
-        ensures asked_handles { (pid : ℕ) →
-            handle_places self.new.capacity pid ≤ grown_handles self.old pid 2 }
+            ≤ most_threads self.old added.threads + length bare.world.threads) }
+        ensures failed_processes { OnErr result (let added = line_adds (line_of line.now) in
+            self.new.capacity.processes ≤ most_processes self.old added.processes) }
+        ensures failed_threads { OnErr result (let added = line_adds (line_of line.now) in
+            self.new.capacity.threads ≤ most_threads self.old added.threads) }
+        ensures asked_sections { let added = line_adds (line_of line.now) in
+            self.new.capacity.sections ≤ most_sections self.old added.sections }
+        ensures asked_tokens { let added = line_adds (line_of line.now) in
+            self.new.capacity.tokens ≤ most_tokens self.old added.tokens }
+        ensures asked_handles { let added = line_adds (line_of line.now) in
+            let pid = process_of self.old.rows (line_of line.now) in
+            handle_places self.new.capacity pid ≤ most_handles self.old pid added.handles }
+        ensures other_handles { let pid = process_of self.old.rows (line_of line.now) in
+            KeepsOtherPlaces pid self.old.capacity self.new.capacity }
+        ensures asked_views { let added = line_adds (line_of line.now) in (pid : ℕ) →
+            view_places self.new.capacity pid ≤ most_views self.old pid added.views }
+        ensures other_views { KeepsOtherViews (line_of line.now) self.old self.new }
     {
         take(&mut self.world, line, out)?;
         settle(&mut self.world, out);
