@@ -15,7 +15,7 @@
   refuses those that go wrong where a read or a write fails. Where there is no C compiler this is left out.
 - `tests/states.py` passes the text of an example, and refuses texts in which a row or an entry is altered.
 - `tests/tables.py` finds what is false of a wrong body where a row names it as it stands, and nothing else. It sees a
-  cell of a page that is altered, wherever tables tell in words what definitions or scripts say.
+  cell of a page that is altered, wherever tables tell in words what definitions or scripts say: tests/planted.py.
 - A program that prints nothing, garbage, or more and more, that ends at once, doesn't start or doesn't end is told as
   what fails: the tests say so by lines, and end with the number of their checks.
 
@@ -41,13 +41,12 @@ import allocations
 import edge
 import failing
 import isolation
-import pages
+import planted
 import program
 import running
 import states
 import tables
 import tally
-import told
 
 ROOT = pathlib.Path(__file__).resolve().parent.parent
 # What `.ci/run` runs, in order. Who adds a part adds it here.
@@ -207,59 +206,6 @@ TOLD_OTHERWISE = (
     'many=$(wc -l); echo 0 36 "$many"; ' + CLIENT_TOLD % "c0000044",
     'many=$(wc -l); [ "$many" -gt 40 ] && echo 0 36 more; ' + CLIENT_TOLD % "c0000044",
     "cat > /dev/null; echo 6 44 NtRequestPort c0000044; echo end 6 6 0",
-)
-# What reads tables of words, and how a cell of a page is altered so that it has to see it: by a pattern, which stands
-# there once, and what is put in its place.
-WORKED_WORDS = lambda: told.worked_words(tables.WORKED)
-PLANTED = (
-    (WORKED_WORDS, "README.md", r"Its message has identifier 1\.", "Its message has identifier 2."),
-    (WORKED_WORDS, "README.md", r"and four objects are left", "and five objects are left"),
-    (WORKED_WORDS, "docs/CONNECTIONS.md", r"context 7, client 32\.36, identifier 2, byte 61", "context 9"),
-    (WORKED_WORDS, "docs/CONNECTIONS.md", r"identifier 2, byte 62", "identifier 2, byte 61"),
-    (WORKED_WORDS, "docs/CONNECTIONS.md", r"three threads, five ports", "three threads, six ports"),
-    (WORKED_WORDS, "docs/EXCEPTIONS.md", r"code 80000003, chance 1", "code 80000004, chance 1"),
-    (WORKED_WORDS, "docs/EXCEPTIONS.md", r"Type 7, with chance 2", "Type 8, with chance 2"),
-    (WORKED_WORDS, "docs/EXCEPTIONS.md", r"Identifier 7 is that", "Identifier 8 is that"),
-    (WORKED_WORDS, "docs/SECURITY.md", r"lesser of level 2 and level 3", "lesser of level 1 and level 3"),
-    (WORKED_WORDS, "docs/SECURITY.md", r"eight ports, three tokens", "eight ports, two tokens"),
-    (WORKED_WORDS, "docs/SECURITY.md", r"Her server port has handle 8", "Her server port has handle 12"),
-    (WORKED_WORDS, "docs/VIEWS.md", r"by a handle with the right 2", "by a handle with the right 1"),
-    (told.lists, "docs/SECURITY.md", r"(an access list without an entry) \| C0000022", r"\1 | goes on"),
-    (told.lists, "docs/SECURITY.md", r"(first entry that counts is `D`) \| C0000022", r"\1 | C00000A5"),
-    (told.lists, "docs/SECURITY.md", r"(`acl:A/2/S-1-5-21-9`) \| C0000022", r"\1 | goes on"),
-    (told.taken, "docs/SECURITY.md", r"(\| as itself \| for somebody) \| itself \|", r"\1 | that somebody |"),
-    (told.taken, "docs/SECURITY.md", r"the first one \| the other one", "the other one | the first one"),
-    (told.taken, "docs/SECURITY.md", r"(closes its port \| as before) \| no, C000021F", r"\1 | no, C000000B"),
-    (told.taken, "docs/SECURITY.md", r"(process ends) \| as before \|", r"\1 | as itself |"),
-    (told.turns, "docs/EXCEPTIONS.md", r"\| 1 \| 64, 44 \|", "| 1 | 44, 64 |"),
-    (told.turns, "docs/EXCEPTIONS.md", r"Process 40 is doomed \|", "Process 60 is doomed |"),
-    (told.turns, "docs/EXCEPTIONS.md", r"\| the least number first \|", "| the oldest first |"),
-    (told.waits, "docs/WAITS.md", r"(in whose queue it stands) \| C0000253", r"\1 | C0000037"),
-    (told.waits, "docs/WAITS.md", r"step 5( \| \[a-server-port-ends-its-clients-receives\])", r"step 4\1"),
-    (told.waits, "docs/WAITS.md", r"(`raise` \| the frame handlers handled it) \| a reply continued it", r"\1 | "),
-    (told.residents, "docs/RESIDENT.md", r"with the data `0000000000c00000`", "with the data `0000000000c10000`"),
-    (told.residents, "docs/RESIDENT.md", r"and thread 24 wakes with type 5", "and thread 24 wakes with type 6"),
-    (told.ends, "docs/ENDINGS.md", r"\| 45, 46, 48 \|", "| 45, 46, 49 |"),
-    (told.one_line_more, "docs/ENDINGS.md", r"It was the debugger of 56:", "It was the debugger of 60:"),
-    (told.before, "docs/CLOSING.md", r"(on handle 8 \|) 4, 8 \|", r"\1 4, 12 |"),
-    (told.before, "docs/ENDINGS.md", r"\| 24, which received", "| 28, which received"),
-    (told.reply_handles, "docs/CONNECTIONS.md", r"(client's port \|) C000021F", r"\1 C0000037"),
-    (told.offers, "docs/VIEWS.md", r"(the client \| `h`), `vbase`", r"\1, `base`"),
-    (told.offers, "docs/VIEWS.md", r"(the server \| `h`, `base`), `target`", r"\1, `vbase`"),
-    (told.files_of_names, "docs/DEFINITIONS.md", r"(`woken` \|) `Entering.antt`", r"\1 `Refusal.antt`"),
-    (told.traced, "docs/TRACES.md", r"`\$api = @main NtCreatePort", "`$api = @main NtListenPort"),
-    (told.printed_fields, "docs/SCRIPTS.md", r"(message that was received \|) 8 hexadecimal digits", r"\1 4 digits"),
-    (told.printed_fields, "docs/SCRIPTS.md", r"\| `vsize` \|", "| `wsize` |"),
-    (told.layout, "docs/SCRIPTS.md", r"16 to 19 \| MessageId", "16 to 17 | MessageId"),
-    (told.options, "docs/CONFORMANCE.md", r"`--shard I/N`", "`--shared I/N`"),
-    (told.options, "docs/CONFORMANCE.md", r"may take; 60 where", "may take; 30 where"),
-    (told.options, "docs/CONFORMANCE.md", r"`means`, `rule`, `page`", "`means`, `rules`, `page`"),
-    (told.steps_here, "docs/CLOSING.md", r"\| the request of 28 \| empties", "| the request of 40 | empties"),
-    (told.steps_here, "docs/ENDINGS.md", r"then 40, the second", "then 44, the second"),
-    (told.steps_here, "docs/ENDINGS.md", r"and a message of type 5 enters", "and a message of type 6 enters"),
-    (told.folders, "docs/CONFORMANCE.md", r"\| `resident`, `turn` \|", "| `resident`, `turns` |"),
-    (told.words_of_program, "README.md", r"writes `usage: ntlpc COMMAND", "writes `usage: ntlpc COMMANDS"),
-    (told.traced, "docs/TRACES.md", r"`r:\$event:02000100`", "`r:$event:01000180`"),
 )
 # Programs that a test may be given by mistake: what they do, and a script for `sh` that does it.
 UNFIT = {
@@ -671,32 +617,6 @@ def clauses():
         yield f"the place of {edit[1]}", lambda: same(tables.place_of(edit[0], found[edit]), place)
 
 
-def sees(group, page, pattern, other):
-    """Nothing where a group sees that a page is altered, of which a copy is read, and nothing wrong where it isn't."""
-    altered, count = re.subn(pattern, other, (ROOT / page).read_text(encoding="utf-8"))
-    with tempfile.TemporaryDirectory() as folder:
-        root = pathlib.Path(folder)
-        for name in ("conformance", "examples", "tools", "crates"):
-            os.symlink(ROOT / name, root / name)
-        shutil.copytree(ROOT / "docs", root / "docs", ignore=shutil.ignore_patterns("*.png"))
-        shutil.copy(ROOT / "README.md", root / "README.md")
-        places = pages.ROOT, pages.DOCS
-        pages.ROOT, pages.DOCS = root, root / "docs"
-        try:
-            before = any(wrong for _, wrong in group())
-            (root / page).write_text(altered, encoding="utf-8")
-            found = any(wrong for _, wrong in group())
-        finally:
-            pages.ROOT, pages.DOCS = places
-    return same((count, before, found), (1, False, True))
-
-
-def planted():
-    """A cell that is altered is seen."""
-    for group, page, pattern, other in PLANTED:
-        yield f"{page} with {other}", lambda: sees(group, page, pattern, other)
-
-
 @contextlib.contextmanager
 def hurried():
     """Runs take little time here, and print little."""
@@ -704,11 +624,9 @@ def hurried():
     kept = [getattr(*it) for it in places]
     for it, name in places:
         setattr(it, name, {"SECONDS": 2, "MUCH": 1 << 16}[name])
-    bound, running.run.__defaults__ = running.run.__defaults__, (b"", subprocess.PIPE, 1 << 16, None)
     try:
         yield
     finally:
-        running.run.__defaults__ = bound
         for (it, name), value in zip(places, kept):
             setattr(it, name, value)
 
@@ -717,7 +635,7 @@ def refuses(test):
     """Nothing where a test of an unfit program ends by itself, finds something wrong and says so by lines."""
     with hurried(), contextlib.redirect_stdout(io.StringIO()) as printed:
         status = test()
-    *lines, last = printed.getvalue().splitlines()
+    *lines, last = printed.getvalue().splitlines() or [""]
     counts = re.fullmatch(r"\d+ passed, ([1-9]\d*) failed", last)
     return "" if status == 1 and counts and lines else f"status {status}: {last}"
 
@@ -771,7 +689,7 @@ GROUPS = {
     comparisons: 16,
     closings: 11,
     growths: 5,
-    planted: len(PLANTED),
+    planted.planted: len(planted.PLANTED),
     unfit: 26,
 }
 

@@ -62,9 +62,11 @@ def bound_files(child):
         resource.prlimit(child.pid, resource.RLIMIT_FSIZE, (MUCH, MUCH))
 
 
-def run(command, source=b"", sink=subprocess.PIPE, most=MUCH, env=None):
+def run(command, source=b"", sink=subprocess.PIPE, most=None, env=None):
     """Runs a command: its status (below 0: the signal that ended it), what it printed into a pipe, and its standard
-    error. `source` is bytes, or what has a file number. Fails where it doesn't start or end, or prints too much."""
+    error. `source` is bytes, or what has a file number; `most` is how much it may print, MUCH where it is None. Fails
+    where it doesn't start or end, or prints too much."""
+    most = MUCH if most is None else most
     given = subprocess.PIPE if isinstance(source, bytes) else source
     how = {"stdin": given, "stdout": sink, "stderr": subprocess.PIPE, "env": env, "start_new_session": True}
     late = threading.Event()

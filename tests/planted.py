@@ -1,0 +1,106 @@
+"""Cells of pages that are altered, one at a time, and the groups of checks over tables that have to see it. It is tried
+by tests/checks.py."""
+import os
+import re
+import shutil
+import tempfile
+from pathlib import Path
+
+import pages
+import tables
+import told
+
+ROOT = pages.ROOT
+
+
+def worked_words():
+    """What the worked tables tell in words."""
+    return told.worked_words(tables.WORKED)
+
+
+# What reads a table, and how a cell of a page is altered so that it has to see it: by a pattern, which stands
+# there once, and what is put in its place.
+PLANTED = (
+    (worked_words, "README.md", r"Its message has identifier 1\.", "Its message has identifier 2."),
+    (worked_words, "README.md", r"and four objects are left", "and five objects are left"),
+    (worked_words, "docs/CONNECTIONS.md", r"context 7, client 32\.36, identifier 2, byte 61", "context 9"),
+    (worked_words, "docs/CONNECTIONS.md", r"identifier 2, byte 62", "identifier 2, byte 61"),
+    (worked_words, "docs/CONNECTIONS.md", r"three threads, five ports", "three threads, six ports"),
+    (worked_words, "docs/EXCEPTIONS.md", r"code 80000003, chance 1", "code 80000004, chance 1"),
+    (worked_words, "docs/EXCEPTIONS.md", r"Type 7, with chance 2", "Type 8, with chance 2"),
+    (worked_words, "docs/EXCEPTIONS.md", r"Identifier 7 is that", "Identifier 8 is that"),
+    (worked_words, "docs/SECURITY.md", r"lesser of level 2 and level 3", "lesser of level 1 and level 3"),
+    (worked_words, "docs/SECURITY.md", r"eight ports, three tokens", "eight ports, two tokens"),
+    (worked_words, "docs/SECURITY.md", r"Her server port has handle 8", "Her server port has handle 12"),
+    (worked_words, "docs/VIEWS.md", r"by a handle with the right 2", "by a handle with the right 1"),
+    (told.lists, "docs/SECURITY.md", r"(an access list without an entry) \| C0000022", r"\1 | goes on"),
+    (told.lists, "docs/SECURITY.md", r"(first entry that counts is `D`) \| C0000022", r"\1 | C00000A5"),
+    (told.lists, "docs/SECURITY.md", r"(`acl:A/2/S-1-5-21-9`) \| C0000022", r"\1 | goes on"),
+    (told.taken, "docs/SECURITY.md", r"(\| as itself \| for somebody) \| itself \|", r"\1 | that somebody |"),
+    (told.taken, "docs/SECURITY.md", r"the first one \| the other one", "the other one | the first one"),
+    (told.taken, "docs/SECURITY.md", r"(closes its port \| as before) \| no, C000021F", r"\1 | no, C000000B"),
+    (told.taken, "docs/SECURITY.md", r"(process ends) \| as before \|", r"\1 | as itself |"),
+    (told.turns, "docs/EXCEPTIONS.md", r"\| 1 \| 64, 44 \|", "| 1 | 44, 64 |"),
+    (told.turns, "docs/EXCEPTIONS.md", r"Process 40 is doomed \|", "Process 60 is doomed |"),
+    (told.turns, "docs/EXCEPTIONS.md", r"\| the least number first \|", "| the oldest first |"),
+    (told.waits, "docs/WAITS.md", r"(in whose queue it stands) \| C0000253", r"\1 | C0000037"),
+    (told.waits, "docs/WAITS.md", r"step 5( \| \[a-server-port-ends-its-clients-receives\])", r"step 4\1"),
+    (told.waits, "docs/WAITS.md", r"(`raise` \| the frame handlers handled it) \| a reply continued it", r"\1 | "),
+    (told.residents, "docs/RESIDENT.md", r"with the data `0000000000c00000`", "with the data `0000000000c10000`"),
+    (told.residents, "docs/RESIDENT.md", r"and thread 24 wakes with type 5", "and thread 24 wakes with type 6"),
+    (told.ends, "docs/ENDINGS.md", r"\| 45, 46, 48 \|", "| 45, 46, 49 |"),
+    (told.one_line_more, "docs/ENDINGS.md", r"It was the debugger of 56:", "It was the debugger of 60:"),
+    (told.before, "docs/CLOSING.md", r"(on handle 8 \|) 4, 8 \|", r"\1 4, 12 |"),
+    (told.before, "docs/ENDINGS.md", r"\| 24, which received", "| 28, which received"),
+    (told.reply_handles, "docs/CONNECTIONS.md", r"(client's port \|) C000021F", r"\1 C0000037"),
+    (told.offers, "docs/VIEWS.md", r"(the client \| `h`), `vbase`", r"\1, `base`"),
+    (told.offers, "docs/VIEWS.md", r"(the server \| `h`, `base`), `target`", r"\1, `vbase`"),
+    (told.files_of_names, "docs/DEFINITIONS.md", r"(`woken` \|) `Entering.antt`", r"\1 `Refusal.antt`"),
+    (told.traced, "docs/TRACES.md", r"`\$api = @main NtCreatePort", "`$api = @main NtListenPort"),
+    (told.printed_fields, "docs/SCRIPTS.md", r"(message that was received \|) 8 hexadecimal digits", r"\1 4 digits"),
+    (told.printed_fields, "docs/SCRIPTS.md", r"\| `vsize` \|", "| `wsize` |"),
+    (told.layout, "docs/SCRIPTS.md", r"16 to 19 \| MessageId", "16 to 17 | MessageId"),
+    (told.options, "docs/CONFORMANCE.md", r"`--shard I/N`", "`--shared I/N`"),
+    (told.options, "docs/CONFORMANCE.md", r"may take; 60 where", "may take; 30 where"),
+    (told.options, "docs/CONFORMANCE.md", r"`means`, `rule`, `page`", "`means`, `rules`, `page`"),
+    (told.steps_here, "docs/CLOSING.md", r"\| the request of 28 \| empties", "| the request of 40 | empties"),
+    (told.steps_here, "docs/ENDINGS.md", r"then 40, the second", "then 44, the second"),
+    (told.steps_here, "docs/ENDINGS.md", r"and a message of type 5 enters", "and a message of type 6 enters"),
+    (told.folders, "docs/CONFORMANCE.md", r"\| `resident`, `turn` \|", "| `resident`, `turns` |"),
+    (told.words_of_program, "README.md", r"writes `usage: ntlpc COMMAND", "writes `usage: ntlpc COMMANDS"),
+    (told.traced, "docs/TRACES.md", r"`r:\$event:02000100`", "`r:$event:01000180`"),
+)
+
+
+def whole(root):
+    """Puts what the pages are held against, and copies of the pages, into a folder."""
+    for name in ("conformance", "examples", "tools", "crates"):
+        os.symlink(ROOT / name, root / name)
+    shutil.copytree(ROOT / "docs", root / "docs", ignore=shutil.ignore_patterns("*.png"))
+    shutil.copy(ROOT / "README.md", root / "README.md")
+
+
+def unseen(group, page, pattern, other):
+    """What is wrong with a group that is to see an altered cell: it finds something wrong of the pages as they are, or
+    nothing behind the change; or the pattern doesn't stand there once."""
+    altered, count = re.subn(pattern, other, (ROOT / page).read_text(encoding="utf-8"))
+    if count != 1:
+        return f"{pattern} stands there {count} times"
+    places = pages.ROOT, pages.DOCS
+    with tempfile.TemporaryDirectory() as folder:
+        root = Path(folder)
+        whole(root)
+        pages.ROOT, pages.DOCS = root, root / "docs"
+        try:
+            if any(wrong for _, wrong in group()):
+                return "the pages as they are don't pass"
+            (root / page).write_text(altered, encoding="utf-8")
+            return "" if any(wrong for _, wrong in group()) else "it isn't seen"
+        finally:
+            pages.ROOT, pages.DOCS = places
+
+
+def planted():
+    """A cell that is altered is seen."""
+    for group, page, pattern, other in PLANTED:
+        yield f"{page} with {other}", lambda: unseen(group, page, pattern, other)
