@@ -460,7 +460,7 @@ def views_of_a_server(command):
         good = len(told) == len(wanted) and told[0] == entry
         woken = re.search(r"thread (\d+) wakes with", shown)
         good = good and (not woken or told[1].startswith(f"*{woken[1]} "))
-        good = good and all(told[1].endswith(f" {it}") or told[1].endswith(it) for it in wakes)
+        good = good and all(told[1].endswith(it) for it in wakes)
         yield f"RESIDENT.md, a view: line {line}", [] if good else [f"it prints {told}"]
 
 
