@@ -48,9 +48,9 @@ class Failing:
         with tempfile.TemporaryFile() as script:
             script.write(source)
             script.seek(0)
-            given = source if piped else script
+            stream = source if piped else script
             try:
-                ended = running.run([*self.command, *words], given, most=MUCH, env=env)
+                ended = running.run([*self.command, *words], stream, most=MUCH, env=env)
             except running.Wrong as why:
                 ended = None, b"", str(why).encode()
         with open(self.counts, "rb") as file:
