@@ -211,7 +211,7 @@ TOLD_OTHERWISE = (
 UNFIT = {
     "prints nothing": "true",
     "ends with status 1 at once": "exit 1",
-    "prints what it reads": "cat",
+    "prints what it reads": "cat 2> /dev/null",
     "prints garbage": r"printf '\377\000 7 *\n{}\n{\"line\":1}\n'",
     "prints more and more": "yes '1 24 NtClose 00000000'",
     "prints a line that never ends": "tr '\\000' 1 < /dev/zero",
