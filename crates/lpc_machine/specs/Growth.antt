@@ -1,4 +1,4 @@
--- How many rows of each table a line may make, and how far the memory of the tables may grow by it.
+-- For how many rows of each table there is to be room by a line, and how far the memory of the tables may grow by it.
 use Rattle.std.specs.Prelude.{ℕ, zero, suc, if◌then◌else◌}
 use Rattle.lpc_connect.specs.Sharing.{KeepsUnansweredPlaces}
 use Rattle.lpc_model.specs.Lines.{ScriptCall, ScriptLine, boot, thread, run, accept_connect_port, connect_port, create_port, create_process, create_section, create_thread, duplicate_object, map_view_of_section, open_process_token, open_thread_token, register_thread_terminate_port, request_port}
@@ -7,9 +7,10 @@ use Rattle.lpc_rows.specs.Capacity.{KeepsOtherViewPlaces, KeepsViewPlaces, handl
 use Rattle.lpc_rows.specs.Kept.{Kept, grown_handles, grown_messages, grown_ports, grown_processes, grown_sections, grown_threads, grown_tokens, grown_views, grown_waits}
 use Rattle.lpc_rows.specs.Ready.{caller}
 
--- How many rows of each table there is to be room for: of handles in the process of the thread whose call it is, of
+-- For how many rows of each table there is to be room: of handles in the process of the thread whose call it is, of
 -- views there, and in the process of a client whose connect it accepts. A thread comes with room for its wait and for
--- the message that it asks with, a client port with room for the message that is to tell that it is closed.
+-- the message that it asks with, a client port with room for the message that is to tell that it is closed, and a
+-- registration with room for the one that is to tell of its thread's end.
 pub record NewRows : Type 0 where
   pub processes : ℕ
   pub threads : ℕ
@@ -30,7 +31,8 @@ one_thread = record no_row { threads = 1; waits = 1; messages = 1 }
 abbrev pub one_process : NewRows
 one_process = record one_thread { processes = 1 }
 
--- to accept a connect, up to two views are mapped in the caller's process and one in the client's, which may be the same
+-- A connect counts for a view, be one offered or not. An accept counts for three in either process: two at most are
+-- mapped in the caller's and one in the client's, and both may be one.
 abbrev pub call_adds : ScriptCall → NewRows
 call_adds (create_port name dacl) = record no_row { ports = 1; handles = 1 }
 call_adds (connect_port name quality view info) = record no_row { ports = 1; messages = 1; handles = 1; views = 1 }
@@ -53,8 +55,8 @@ line_adds (thread tid pid) = one_thread
 line_adds (run tid call) = call_adds call
 line_adds line = no_row
 
--- The most memory of a table: what it had, where no row of it is made, else what it may have once it was asked for
--- so many
+-- The most memory of a table: what it had, where there is to be room for none, else what it may have once it was asked
+-- for so many
 abbrev pub most_of : ℕ → ℕ → ℕ → ℕ
 most_of zero had grown = had
 most_of (suc n) had grown = grown
@@ -86,7 +88,8 @@ most_handles w pid n = most_of n (handle_places w.capacity pid) (grown_handles w
 abbrev pub most_views : Kept → ℕ → ℕ → ℕ
 most_views w pid n = most_of n (view_places w.capacity pid) (grown_views w pid n)
 
--- the process of a thread, and of the thread whose call a line makes; 0 where it makes none
+-- the process of a live thread, 0 where none has the number; and that of the thread whose call the line is, 0 of a
+-- directive
 abbrev pub caller_process : World → ℕ → ℕ
 caller_process w tid = let by = caller w tid in by.process
 
@@ -94,12 +97,13 @@ abbrev pub process_of : World → ScriptLine → ℕ
 process_of w (run tid call) = caller_process w tid
 process_of w line = 0
 
--- The tables of views of other processes have the memory that they had: of all but the caller's, and the client's where
--- a connect is accepted; a line that is no call leaves them all
+-- The tables of views have the memory that they had: of all processes but the caller's, and but the client's whose
+-- connect is answered. Of a message that answers none it says nothing; a call with such a one is refused.
 abbrev pub KeepsViewsBeside : ThreadRow → ScriptCall → Kept → Kept → Type 0
 KeepsViewsBeside by (accept_connect_port context message accept view) old new = KeepsUnansweredPlaces old new by message
 KeepsViewsBeside by call old new = KeepsOtherViewPlaces by.process old.capacity new.capacity
 
+-- a directive leaves all of them
 abbrev pub KeepsOtherViews : ScriptLine → Kept → Kept → Type 0
 KeepsOtherViews (run tid call) old new = KeepsViewsBeside (caller old.rows tid) call old new
 KeepsOtherViews line old new = KeepsViewPlaces old.capacity new.capacity

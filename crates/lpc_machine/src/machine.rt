@@ -144,7 +144,8 @@ fn serve(
         KeepsOtherPlaces pid world.old.capacity world.new.capacity }
     ensures asked_views { let added = call_adds (call_of call.now) in (pid : ℕ) →
         view_places world.new.capacity pid ≤ most_views world.old pid added.views }
-    ensures other_views { KeepsViewsBeside (caller world.old.rows by) (call_of call.now) world.old world.new }
+    ensures other_views { let by = caller world.old.rows by in
+        KeepsViewsBeside by (call_of call.now) world.old world.new }
 {
     match call {
         Call::CreatePort { name, dacl } => nt_create_port(world, by, *name, *dacl, out),
@@ -292,7 +293,8 @@ fn run(world: &mut World, tid: u32, call: &Call<'_>, out: &mut Entries) -> Resul
         KeepsOtherPlaces pid world.old.capacity world.new.capacity }
     ensures asked_views { let added = call_adds (call_of call.now) in (pid : ℕ) →
         view_places world.new.capacity pid ≤ most_views world.old pid added.views }
-    ensures other_views { KeepsViewsBeside (caller world.old.rows tid) (call_of call.now) world.old world.new }
+    ensures other_views { let by = caller world.old.rows tid in
+        KeepsViewsBeside by (call_of call.now) world.old world.new }
 {
     match condition_of(world, tid) {
         Condition::Absent => out.push(Entry::NoThread { tid }),
@@ -446,26 +448,29 @@ impl Machine {
         objects(&self.world)
     }
 
-    /// One line's step: its call or directive, then the world settles, and then the objects go that no row counts for.
-    /// Its entries are added to `out`, which is empty and has room for [`Machine::room_needed`] more. The line's process
-    /// and thread numbers are from 1 to 2147483647, the name that it gives a token has at most 32 bytes, and fewer than
-    /// 1,000,000 directives and service calls were made before it.
+    /// One line's step: its call or directive, then the world settles, and then the objects go that no row counts
+    /// for. Its entries are added to `out`, which is empty and has room for [`Machine::room_needed`] more. The
+    /// line's process and thread numbers are from 1 to 2147483647, the name that it gives a token has at most 32
+    /// bytes, and fewer than 1,000,000 directives and service calls were made before it.
     ///
-    /// A line about the server on a thread is told as where there is none: whoever keeps the servers tells the others.
+    /// A line about the server on a thread is told as where there is none: whoever keeps the servers tells the
+    /// others.
     ///
-    /// A line that is refused, or that no thread can run, leaves every row as it was. After want of memory nothing has
-    /// changed but the room. Only the five directives, `NtCreatePort`, `NtConnectPort`, `NtAcceptConnectPort` to
-    /// accept, `NtRequestPort`, `NtRegisterThreadTerminatePort`, `NtDuplicateObject`, `NtCreateProcess`,
-    /// `NtCreateThread`, `NtCreateSection`, `NtMapViewOfSection`, `NtOpenThreadToken` and `NtOpenProcessToken` change
-    /// the memory of any table but those of names, names of tokens, processes and threads, and only where they aren't
-    /// refused; they want for memory only where the room for what they make wasn't there, which the bytes of a section
-    /// never have; every other line is answered. Of a table of which a line makes no row it leaves no more memory than
-    /// there was; of one of which it makes rows no more than there was, than the rows before it need with those that it
-    /// makes and what was owed, or than twice the rows before it. Handles are made in the process whose thread calls, and
-    /// views there and, where a connect is accepted, in the client's process. Of processes and threads the rows are the
-    /// numbers ever used, and beside that bound there are places for the rows that went at the line's end. How far the
-    /// memory of names may grow is said nowhere. One of the five directives, and a call of a thread that lives and
-    /// doesn't wait, counts as a call, refused or not, unless it found no memory.
+    /// A line that is refused, or that no thread can run, leaves every row as it was. After want of memory nothing
+    /// has changed but the room. Only the five directives, `NtCreatePort`, `NtConnectPort`, `NtAcceptConnectPort`
+    /// to accept, `NtRequestPort`, `NtRegisterThreadTerminatePort`, `NtDuplicateObject`, `NtCreateProcess`,
+    /// `NtCreateThread`, `NtCreateSection`, `NtMapViewOfSection`, `NtOpenThreadToken` and `NtOpenProcessToken`
+    /// change the memory of any table but those of names, names of tokens, processes and threads, and only where
+    /// they aren't refused; they want for memory only where the room for what they make wasn't there, which the
+    /// bytes of a section never have; every other line is answered. For how many rows of each table there is to be
+    /// room by a line, tells `line_adds` of the specs: for those that the line makes or may make, and for those
+    /// that are owed by it. Of a table of which that is none it leaves no more memory than there was; of any other
+    /// no more than there was, than the rows before it need with these and what was owed, or than twice the rows
+    /// before it. Memory for handles grows in the process of the line's thread alone, and that for views there and,
+    /// where a connect is answered, in the client's process. Of processes and threads the rows are the numbers ever
+    /// used, and beside that bound there are places for the rows that went at the line's end. How far the memory of
+    /// names and of names of tokens may grow is said nowhere. One of the five directives, and a call of a thread
+    /// that lives and doesn't wait, counts as a call, refused or not, unless it found no memory.
     pub fn step(&mut self, line: &Line<'_>, out: &mut Entries) -> Result<(), OutOfMemory>
         requires empty { out.old.list ≡ [] }
         requires unread { out.old.reads ≡ false }
