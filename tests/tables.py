@@ -23,7 +23,8 @@
   the top call is named there, in one claim.
 - Each wrong body of the gate has its row in docs/WRONG_BODIES.md, and each row its wrong body; the row names the
   function that is changed, and clauses of it or of the functions that it names. Each crate with functions and without
-  wrong bodies has a row of a further one.
+  wrong bodies has a row of a further one. Each wrong definition there stands in the file that its row names, and
+  the clauses are those of a law.
 - Each name that the pages on definitions, proofs and code have as code stands below crates/, or is a file; those of
   docs/DEFINITIONS.md stand in the files that it names.
 - What worked tables tell in words is told by their lines: numbers, threads, identifiers, types, chances, and how many
@@ -95,6 +96,8 @@ NAMED_IN = {
 # The tables of docs/WRONG_BODIES.md, by their heads, and how the pages tell how many wrong bodies the gate tries.
 EDITS = ["Crate", "Edit", "What the wrong body does", "In", "False of it", "When"]
 FURTHER = ["Crate", "In", "A further wrong body", "False of it", "When"]
+DEFINED = ["File", "In", "A wrong definition", "False of it", "When"]
+DEFINED_COUNT = 17
 TRIED = re.compile(r"[Tt]he gate tries (\d+) wrong bodies")
 # What is false of a wrong body, in a cell: the one clause of its function, an invariant, or named clauses, of its
 # function or of another one, which promises them or asks them.
@@ -712,12 +715,14 @@ def wrong_with(crate, place, cell):
 def wrong_bodies():
     """The tables of docs/WRONG_BODIES.md, against the wrong bodies of the gate and the contracts."""
     page = (pages.DOCS / "WRONG_BODIES.md").read_text(encoding="utf-8")
-    found, tried, further = edits(), [], []
+    found, tried, further, defined = edits(), [], [], []
     for _, head, rows in tables(page):
         if head == EDITS:
             tried += filled(rows)
         elif head == FURTHER:
             further += filled(rows)
+        elif head == DEFINED:
+            defined += filled(rows)
     named = [row[:2] for row in tried]
     yield "WRONG_BODIES.md has each wrong body", [f"{it} isn't there" for it in sorted(set(found) - set(named))]
     yield "WRONG_BODIES.md has no other", [f"{it} is none" for it in sorted(set(named) - set(found))]
@@ -728,12 +733,22 @@ def wrong_bodies():
         yield f"WRONG_BODIES.md: {crate}, {edit}", other + list(wrong_with(crate, place, false))
     for crate, function, _, false, _ in further:
         yield f"WRONG_BODIES.md: {crate}, {function}", list(wrong_with(crate, function, false))
+    yield pinned("wrong definitions", len(defined), DEFINED_COUNT)
+    for file, name, what, false, _ in defined:
+        missing = [] if is_defined(file, name) else [f"{file} defines no {name}"]
+        yield f"WRONG_BODIES.md: {file}, {name}: {what}", missing + list(wrong_with("lpc_model", "", false))
     untried = [it for it in crates_with_functions() if it not in {crate for crate, _ in found}]
     missing = [f"{it} has no row" for it in untried if it not in {row[0] for row in further}]
     yield "WRONG_BODIES.md has a row for each crate without wrong bodies", missing
     for name in "ARCHITECTURE.md", "WRONG_BODIES.md":
         told = TRIED.findall((pages.DOCS / name).read_text(encoding="utf-8"))
         yield f"{name}: how many wrong bodies are tried", [] if told == [str(len(found))] else [f"it tells {told}"]
+
+
+def is_defined(file, name):
+    """Whether a file of the definitions of lpc_model has a definition of the name."""
+    path = definitions.CRATES / "lpc_model" / "specs" / file
+    return path.exists() and bool(re.search(rf"^\w+ pub {name} : ", path.read_text(encoding="utf-8"), re.M))
 
 
 def crates_with_functions():
