@@ -9,8 +9,10 @@ from pathlib import Path
 import pages
 import tables
 import told
+import told_services
 
 ROOT = pages.ROOT
+SERVICES = "docs/SERVICES.md"
 
 
 def worked_words():
@@ -69,6 +71,32 @@ PLANTED = (
     (told.folders, "docs/CONFORMANCE.md", r"\| `resident`, `turn` \|", "| `resident`, `turns` |"),
     (told.words_of_program, "README.md", r"writes `usage: ntlpc COMMAND", "writes `usage: ntlpc COMMANDS"),
     (told.traced, "docs/TRACES.md", r"`r:\$event:02000100`", "`r:$event:01000180`"),
+    (told_services.ports, SERVICES, r"(`NtConnectPort` \| the queue of its) connection port", r"\1 client port"),
+    (told_services.ports, SERVICES, r"(the queue of its connection port \|) 0 \|", r"\1 1 |"),
+    (told_services.ports, SERVICES, r"\| unnamed \| `NtCreatePort -`", "| unnamed | `NtCreatePort NAME`"),
+    (told_services.written, SERVICES, r"\| the thread that ended \| 0 \| 0 \|", "| the thread that ended | 1 | 0 |"),
+    (told_services.written, SERVICES, r"\| 2 \| as given \| as given", "| 2 | as given | the identifier that it drew"),
+    (told_services.written, SERVICES, r"\| the connecting thread \|", "| the accepting thread |"),
+    (told_services.written, SERVICES, r"data, 8 bytes \| that thread's", "data, 4 bytes | that thread's"),
+    (told_services.written, SERVICES, r"\| 0, which no thread draws \|", "| 1, which no thread draws |"),
+    (told_services.views, SERVICES, r"(the client port \| VIEW is given \|) `target`", r"\1 `vbase`"),
+    (told_services.views, SERVICES, r"(client's \| the server \|) the server port", r"\1 the client port"),
+    (told_services.limits, SERVICES, r"where a token is opened, where a handle", "where a handle"),
+    (told_services.limits, SERVICES, r"wait in a connect, accepted or not\. Tested", "wait in a connect. Tested"),
+    (told_services.limits, SERVICES, r"what one `NtReadVirtualMemory`", "what one `NtMapViewOfSection`"),
+    (told_services.limits, SERVICES, r"that it has registered, closed ones too\.", "that it has registered, open ones."),
+    (told_services.counts, SERVICES, r"\| 2 for a process of which", "| 1 for a process of which"),
+    (told_services.counts, SERVICES, r"\| a datagram, a request, an event,", "| a datagram, a request, a reply,"),
+    (told_services.counts, SERVICES, r"\| a live thread of it \|", "| a handle of it |"),
+    (told_services.counts, SERVICES, r"\| a connect that waits, offers it and isn't", "| a connect that offers it and is"),
+    (told_services.closing, SERVICES, r"(a connect of this pair that isn't completed \|) C0000041", r"\1 C0000037"),
+    (told_services.closing, SERVICES, r"(in the order of the queue \|) C0000253", r"\1 C0000037"),
+    (told_services.closing, SERVICES, r"\| 6\. port closed \|", "| 8. port closed |"),
+    (told_services.closing, SERVICES, r"(C0000253)\. What is still queued is taken out", r"\1"),
+    (told_services.ending, SERVICES, r"can't be completed \(C0000037\)", "can't be completed (C0000253)"),
+    (told_services.ending, SERVICES, r"its handles, those with lower values first", "its handles, the oldest first"),
+    (told_services.exceptions, SERVICES, r"begin with the bytes 02000100", "begin with the bytes 01000180"),
+    (told_services.exceptions, SERVICES, r"handle it \| returns at once with 00000000", "handle it | waits"),
 )
 
 
