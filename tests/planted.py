@@ -9,10 +9,11 @@ from pathlib import Path
 import pages
 import tables
 import told
+import told_scripts
 import told_services
 
 ROOT = pages.ROOT
-SERVICES = "docs/SERVICES.md"
+SERVICES, SCRIPTS, FAULTS = "docs/SERVICES.md", "docs/SCRIPTS.md", "docs/FAULTS.md"
 
 
 def worked_words():
@@ -84,11 +85,11 @@ PLANTED = (
     (told_services.limits, SERVICES, r"where a token is opened, where a handle", "where a handle"),
     (told_services.limits, SERVICES, r"wait in a connect, accepted or not\. Tested", "wait in a connect. Tested"),
     (told_services.limits, SERVICES, r"what one `NtReadVirtualMemory`", "what one `NtMapViewOfSection`"),
-    (told_services.limits, SERVICES, r"that it has registered, closed ones too\.", "that it has registered, open ones."),
+    (told_services.limits, SERVICES, r"it has registered, closed ones too\.", "it has registered, open ones."),
     (told_services.counts, SERVICES, r"\| 2 for a process of which", "| 1 for a process of which"),
     (told_services.counts, SERVICES, r"\| a datagram, a request, an event,", "| a datagram, a request, a reply,"),
     (told_services.counts, SERVICES, r"\| a live thread of it \|", "| a handle of it |"),
-    (told_services.counts, SERVICES, r"\| a connect that waits, offers it and isn't", "| a connect that offers it and is"),
+    (told_services.counts, SERVICES, r"\| a connect that waits, offers it", "| a connect that offers it"),
     (told_services.closing, SERVICES, r"(a connect of this pair that isn't completed \|) C0000041", r"\1 C0000037"),
     (told_services.closing, SERVICES, r"(in the order of the queue \|) C0000253", r"\1 C0000037"),
     (told_services.closing, SERVICES, r"\| 6\. port closed \|", "| 8. port closed |"),
@@ -97,6 +98,29 @@ PLANTED = (
     (told_services.ending, SERVICES, r"its handles, those with lower values first", "its handles, the oldest first"),
     (told_services.exceptions, SERVICES, r"begin with the bytes 02000100", "begin with the bytes 01000180"),
     (told_services.exceptions, SERVICES, r"handle it \| returns at once with 00000000", "handle it | waits"),
+    (told_scripts.word_forms, SCRIPTS, r"with 1 to 8 hexadecimal", "with 1 to 16 hexadecimal"),
+    (told_scripts.word_forms, SCRIPTS, r"`w:H:OFFSET:SIZE` with", "`v:H:OFFSET:SIZE` with"),
+    (told_scripts.word_forms, SCRIPTS, r"a number below 2\^48", "a number below 2^32"),
+    (told_scripts.word_forms, SCRIPTS, r"and 0 to 16 entries", "and 1 to 16 entries"),
+    (told_scripts.word_forms, SCRIPTS, r"1 to 32 letters, digits or `_`", "1 to 31 letters, digits or `_`"),
+    (told_scripts.word_forms, SCRIPTS, r"NtTerminateThread, NtTerminateProcess and", "NtTerminateThread and"),
+    (told_scripts.word_forms, SCRIPTS, r"a Number: 2 for what may be read", "a Number: 1 for what may be read"),
+    (told_scripts.message_forms, SCRIPTS, r"the same with ClientId P\.T", "the same with ClientId T.P"),
+    (told_scripts.lines, SCRIPTS, r"`24 NtCreateThread self 28`", "`24 NtCreateThread it 28`"),
+    (told_scripts.lines, SCRIPTS, r"up to 16 further words", "up to 15 further words"),
+    (told_scripts.lines, SCRIPTS, r"`TID NtReadRequestData H MSG INDEX LEN`", "`TID NtReadRequestData H MSG LEN INDEX`"),
+    (told_scripts.examples, SCRIPTS, r"`d:0`, `m:41:42`", "`d:00`, `m:41:42`"),
+    (told_scripts.examples, SCRIPTS, r"`24 NtListenPort 08`", "`24 NtListenPort 8`"),
+    (told_scripts.examples, SCRIPTS, r"a byte outside 32 to 126 \|", "a byte outside 32 to 127 |"),
+    (told_scripts.examples, SCRIPTS, r"begins with none of `m:`, `d:` and `r:`", "begins with none of `m:` and `r:`"),
+    (told_scripts.entries, SCRIPTS, r"`LINE \*TID CALL STATUS`", "`LINE ~TID CALL STATUS`"),
+    (told_scripts.entries, SCRIPTS, r"\| `LINE TID CALL wait` and fields", "| `LINE TID CALL wait`"),
+    (told_scripts.faults, FAULTS, r"\[3\]\(#kind-3-no-such-call\)", "[3](#kind-2-a-word-that-cant-stand-there)"),
+    (told_scripts.faults, FAULTS, r"-failed\), \[4\]\(#status-4", "-failed), [5](#status-4"),
+    (told_scripts.faults, FAULTS, r"## Kind 3: no such call", "## Kind 3: too few or too many words"),
+    (told_scripts.faults, FAULTS, r"\[nothread\]\(#nothread-no-such-thread\)", "[busy](#nothread-no-such-thread)"),
+    (told_scripts.exercises, "docs/EXERCISES.md", r"\[3\]\(#3-datagrams\)", "[3](#2-receives-that-wait)"),
+    (told_scripts.exercises, "docs/EXERCISES_CONNECTIONS.md", r"\[9\]\(#9-two-clients\)", "[8](#9-two-clients)"),
 )
 
 
