@@ -11,6 +11,7 @@ import tables
 import told
 import told_scripts
 import told_services
+import told_worlds
 
 ROOT = pages.ROOT
 SERVICES, SCRIPTS, FAULTS = "docs/SERVICES.md", "docs/SCRIPTS.md", "docs/FAULTS.md"
@@ -108,7 +109,7 @@ PLANTED = (
     (told_scripts.message_forms, SCRIPTS, r"the same with ClientId P\.T", "the same with ClientId T.P"),
     (told_scripts.lines, SCRIPTS, r"`24 NtCreateThread self 28`", "`24 NtCreateThread it 28`"),
     (told_scripts.lines, SCRIPTS, r"up to 16 further words", "up to 15 further words"),
-    (told_scripts.lines, SCRIPTS, r"`TID NtReadRequestData H MSG INDEX LEN`", "`TID NtReadRequestData H MSG LEN INDEX`"),
+    (told_scripts.lines, SCRIPTS, r"NtReadRequestData H MSG INDEX LEN`", "NtReadRequestData H MSG LEN INDEX`"),
     (told_scripts.examples, SCRIPTS, r"`d:0`, `m:41:42`", "`d:00`, `m:41:42`"),
     (told_scripts.examples, SCRIPTS, r"`24 NtListenPort 08`", "`24 NtListenPort 8`"),
     (told_scripts.examples, SCRIPTS, r"a byte outside 32 to 126 \|", "a byte outside 32 to 127 |"),
@@ -121,6 +122,25 @@ PLANTED = (
     (told_scripts.faults, FAULTS, r"\[nothread\]\(#nothread-no-such-thread\)", "[busy](#nothread-no-such-thread)"),
     (told_scripts.exercises, "docs/EXERCISES.md", r"\[3\]\(#3-datagrams\)", "[3](#2-receives-that-wait)"),
     (told_scripts.exercises, "docs/EXERCISES_CONNECTIONS.md", r"\[9\]\(#9-two-clients\)", "[8](#9-two-clients)"),
+    (told_worlds.keys, "docs/STATES.md", r"(\| `debug_port`, `exception_port` \|) name", r"\1 number"),
+    (told_worlds.keys, "docs/STATES.md", r"\| `next_identifier`, `next_ordinal`", "| `next_ordinal`, `id`"),
+    (told_worlds.keys, "docs/STATES.md", r"two numbers, name, hex", "two numbers, hex, name"),
+    (told_worlds.keys, "docs/STATES.md", r"`chance`: hex, true or false", "`chance`: number, true or false"),
+    (told_worlds.keys, "docs/STATES.md", r"`last debug` or `last exception`", "`last exception` or `last debug`"),
+    (told_worlds.keys, "docs/STATES.md", r"\| section \| `process`, `size`", "| section | `size`, `process`"),
+    (told_worlds.names, "docs/STATES.md", r"\| `handle 20/4` \|", "| `handle 20.4` |"),
+    (told_worlds.names, "docs/STATES.md", r"\| `view 32/00010000`", "| `view 32/65536`"),
+    (told_worlds.going, "docs/VIEWS.md", r"(process ends) \| both stay \| both go", r"\1 | both go | both go"),
+    (told_worlds.going, "docs/VIEWS.md", r"(thread ends before the accept \| its own) goes", r"\1 stays"),
+    (told_worlds.going, "docs/VIEWS.md", r"the server's comes \| both come", "both come | the server's comes"),
+    (told_worlds.closings, "docs/CLOSING.md", r"the connection port's queue go on; what", "its queue go on; what"),
+    (told_worlds.closings, "docs/CLOSING.md", r"\| all stay \|", "| the same |"),
+    (told_worlds.closings, "docs/CLOSING.md", r"are received, or the client port closes", "are received"),
+    (told_worlds.next_calls, "docs/RESIDENT.md", r"connection request \(type 10\)", "connection request (type 1)"),
+    (told_worlds.next_calls, "docs/RESIDENT.md", r"(got the handle h \|) `NtCompleteConnectPort h`", r"\1 `NtClose h`"),
+    (told_worlds.next_calls, "docs/RESIDENT.md", r"`c0000035` where a server is", "`c000000b` where a server is"),
+    (told_worlds.next_calls, "docs/RESIDENT.md", r"`busy` where the thread waits;", "`busy` where it ended;"),
+    (told_worlds.changing, "docs/SECURITY.md", r"with its next request, by the tracking", "no, C000021F"),
 )
 
 

@@ -35,7 +35,8 @@
   docs/SERVICES.md on ports, messages, views, limits, counts, steps and exceptions are in tests/told_services.py.
 - The tables of docs/SCRIPTS.md on words, messages, lines, faulty lines and entries, and the indexes of docs/FAULTS.md
   and of the exercises, are held in tests/told_scripts.py. What fault a line has, tests/reading.py says, which is held
-  against all lines of the suite.
+  against all lines of the suite. Those of docs/STATES.md on rows, and those of docs/VIEWS.md, docs/CLOSING.md,
+  docs/RESIDENT.md and docs/SECURITY.md on what stays, goes and comes next, are in tests/told_worlds.py.
 
 How many rows each of these reads is pinned here, so that a table that isn't read is seen. Each check that fails has a
 line, and the last line is `N passed, M failed`. The exit status is 0 where all passed, 1 where not.
@@ -51,6 +52,7 @@ import storms
 import told
 import told_scripts
 import told_services
+import told_worlds
 from pages import CODE, STATUS, said, table_of
 from tally import tally
 
@@ -90,7 +92,7 @@ STATED = "exercises/07-a-connection"
 STATED_ROWS, KEY_COUNT = 23, 66
 # The calls that refuse nothing, and so have no table of refusals.
 UNREFUSED = ("raise",)
-CLAIM_COUNT, TOLD_COUNT = 73, 567
+CLAIM_COUNT, TOLD_COUNT = 73, 641
 NAMED_IN = {
     "ARCHITECTURE.md": 700,
     "DECISIONS.md": 150,
@@ -787,7 +789,8 @@ def names_in_code():
 def told_in_words():
     """What tables tell in words, and that as many are read as there are."""
     count = 0
-    for check in (*told.checks(WORKED), *told_services.checks(), *told_scripts.checks()):
+    others = told_services, told_scripts, told_worlds
+    for check in (*told.checks(WORKED), *(it for group in others for it in group.checks())):
         count += 1
         yield check
     yield pinned("checks of what tables tell in words", count, TOLD_COUNT)

@@ -165,10 +165,11 @@ def taken(body, texts):
 def lines():
     """The table of lines: of each as many words as the definitions take, and examples that are of its form."""
     texts = definitions.bodies("lpc_model")
-    rows = [row for _, head, them in tables((pages.DOCS / PAGE).read_text(encoding="utf-8")) if head == ["Line", "Words"]
-            for row in them]
-    calls = re.split(r"^call_words (\w+) others = do$", texts["call_words"][1], flags=re.M)[1:]
-    directives = re.split(r"^directive_words (?:word\.)?(\w+) others = do$", texts["directive_words"][1], flags=re.M)[1:]
+    rows = table_of(PAGE, "Line", "Words")
+    calls, directives = (
+        re.split(rf"^{name} (?:word\.)?(\w+) others = do$", texts[name][1], flags=re.M)[1:]
+        for name in ("call_words", "directive_words")
+    )
     bodies = {"raise" if it == "Raise" else it: body for it, body in zip(calls[::2], calls[1::2])}
     bodies |= {it.lower(): body for it, body in zip(directives[::2], directives[1::2])}
     yield same(f"{PAGE}: the lines", sorted(pages.name_of(row[0].strip("`")) for row in rows), sorted(bodies))
