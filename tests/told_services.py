@@ -57,6 +57,17 @@ PARTS = {
     "Port closed": ("a client port's end, made by the machine", "birth_bytes"),
     "Client died": ("a thread's end, made by the machine", "birth_bytes"),
 }
+SENT = "as with any message that is sent on that port: for a client port the CTX that its connect was accepted with,"
+SENT += " else 0"
+CONTEXT_OF = {"Events": SENT, "Port closed": "the CTX that the connect was accepted with", "Client died": SENT}
+DATA = {
+    "Events": "CODE, and the chance, 1 or 2; low bytes first",
+    "Port closed": "that thread's number, and which of the things that this thread has made the client port was, from "
+    "1; low bytes first",
+    "Client died": "for a thread that a call made, the number of the thread that made it, and which of the things that "
+    "this one has made it was, from 1; for a thread of a directive 0, and the number of the thread itself; low "
+    "bytes first",
+}
 # How the page calls the views that an accept maps, by their names in the definitions, and the words there.
 VIEWS = {"own": "the server's own", "theirs": "the client's", "across": "the server's"}
 SIDES = {"by.process": "the server", "x.process": "the client"}
@@ -82,20 +93,25 @@ VIEW_TESTED = {
     "NtAcceptConnectPort": "where a connect is accepted (of the server for its own view and the client's, of the "
     "client for the server's)",
 }
+COMPLETING = "Completing tests nothing: the client's handle was counted while it waited"
 # What each limit counts: of the rest of a row the sentence, with the definition that says so.
 COUNTED = (
     ("handles of a process", "its handles, and its threads that wait in a connect, accepted or not.",
      "handle_load w pid = length (handles_of w pid) + count (is_connect_of pid) w.waits"),
-    ("datagrams of a port", "those that were sent on that port and still stand in a queue, whoever sent them.",
+    ("datagrams of a port", "those that were sent on that port and still stand in a queue, whoever sent them. One "
+     "that a waiting thread takes at once never counts",
      "is_datagram_of b m = same_birth m.sender b && (m.message.header.kind == DATAGRAM)"),
     ("bytes of a message", "header and data, by the message's own MessageSize",
      "refuse_if (nat_lt MESSAGE_LIMIT (header_of bytes).message_size) PORT_MESSAGE_TOO_LONG"),
-    ("live threads", "those that have ended don't count", "lives_in pid t = (t.process == pid) && t.live"),
-    ("live children", "live processes that one of its threads made by `NtCreateProcess`",
+    ("live threads", "those that have ended don't count, though their numbers stay used, and their rows stay where a "
+     "handle names them", "lives_in pid t = (t.process == pid) && t.live"),
+    ("live children", "live processes that one of its threads made by `NtCreateProcess`, also where it has no "
+     "handle to them any more. Those that have ended don't count, nor does what a child or a directive made",
      "is_live_child w pid p = passes p.maker (λ m. m == pid) && is_live w p.number"),
-    ("ports of a thread", "those that it has registered, closed ones too.",
+    ("ports of a thread", "those that it has registered, closed ones too. One that stands among them already is no "
+     "further one",
      "refuse_if (not (is_registered b by) && nat_le REGISTRATION_LIMIT (length by.registrations)) QUOTA_EXCEEDED"),
-    ("of a section", "All those count that one of its threads made and that stand, whoever names them",
+    ("of a section", "in whole pages. All those count that one of its threads made and that stand, whoever names them",
      "is_section_of pid s = s.birth.process == pid"),
     ("views of a process", "those that stand, whether it mapped them itself or a connection did.",
      "view_count_test w pid = refuse_if (nat_le VIEW_LIMIT (length (views_of w pid))) QUOTA_EXCEEDED"),
@@ -115,6 +131,7 @@ HOLDERS = {
     "lives_by": "a live thread of it",
     "is_life": "the thread itself, while it lives",
 }
+TOKENS = "So both numbers are the same; that a thread acts with a token of that content counts for none. "
 # The messages of the definitions that are queued and sent on a port, and its waits, as these rows name them.
 QUEUED = {
     "REQUEST": "a request", "DATAGRAM": "a datagram", "PORT_CLOSED": "a client port's end",
@@ -129,8 +146,12 @@ COUNTS_ONCE = {
     "a port whose other end it is": "1 for a client and a server port whose pair isn't cut",
     "a live process whose debug port it is, and one whose exception port it is": "2 for a process of which it is both",
     "a live thread that registered it": "1 for each such thread, however often it did",
-    "a view that it owns": "2 for a client and for a server port where both sides offered one.",
-    "a view that shows it": "1 for each, in whichever process",
+    "a view that it owns": "2 for a client and for a server port where both sides offered one. It counts no longer "
+    "once it is unmapped",
+    "a view that shows it": "1 for each, in whichever process, also where two show the same part",
+    "a handle to it": "those of duplicates too",
+    "a client or server port whose connection port it is": "also one that is closed and still stands, and that of a "
+    "connect that waits",
     "a connect that waits, offers it and isn't accepted": "1 beside the view that it has mapped, received or not",
     "a live thread of it": "1 for each, also where it waits",
     "the thread itself, while it lives": "so a live one has one more than handles, and one that has ended as many",
@@ -159,6 +180,20 @@ CLOSING = (
     ("port closed", {"post_closed": "nothing"}),
     ("views", {"drop_owned": "the views that the port owns and that weren't unmapped"}),
 )
+# What stands behind a status, and behind what is done: it follows from the predicate that is named here.
+BEHIND = {
+    "drop_name": ", and it can be made anew. Directories and links stay",
+    "is_receiver": ". A server port has no queue of its own: receives on its connection port's queue that were made on "
+    "other ports wait on. A connection port ends those made on its server ports too",
+    "is_request_on": ". What is still queued is taken out",
+    "is_event_on": ". What is still queued is taken out",
+    "is_offered_to": ", oldest first",
+    "is_request_across": ". What is still queued is taken out",
+    "is_event_across": ". What is still queued is taken out",
+    "is_receive_across": ". They wait, so its queue is empty, and nothing can come any more",
+    "post_closed": ", that one's queue is told",
+    "drop_owned": ". A section that they alone showed goes",
+}
 # How a step begins to tell what it does, where that has no status.
 DOES = {
     "drop_name": "nothing stands there any longer",
@@ -168,21 +203,39 @@ DOES = {
     "post_closed": "where it is a client port of a completed connection and its connection port is open",
     "drop_owned": "nobody is told",
 }
-# What leaves a queue in the step itself is said so, where it may stand in one.
-TAKEN_OUT = "What is still queued is taken out"
-# The steps of an ending: of each row the statuses that it tells, by their names, and the definition of the step.
+# The steps of an ending: of each row how it ends, with the names of statuses; and their definitions.
 ENDING = (
-    ("died", "the threads, in the order in which they were made", ()),
-    ("waits", "a request of such a thread", ("INVALID_CID",)),
-    ("waits", "a connect of such a thread", ("INVALID_CID", "PORT_DISCONNECTED")),
-    ("waits", "a receive or a listen of such a thread", ()),
-    ("waits", "an event of such a thread", ("INVALID_CID",)),
+    ("died", "the threads, in the order in which they were made",
+     "an entry `died` for each, with the code, behind the answer of the call. That of the caller stands among them, "
+     "and then there is no answer"),
+    ("waits", "a request of such a thread",
+     "without a wake. What is queued is taken out; one that was received finds no reply any more, since no such client "
+     "lives ({INVALID_CID})"),
+    ("waits", "a connect of such a thread",
+     "without a wake. What is queued is taken out, and one that was received can't be accepted or refused any more "
+     "({INVALID_CID}). Where it was accepted, the pair is cut: the server port stays, and so does who receives on it, "
+     "but it can't be completed ({PORT_DISCONNECTED}). The client port goes at the end of the line. The views that it "
+     "owns go; those of the server port stay until that one closes"),
+    ("waits", "a receive or a listen of such a thread", "without a wake; it takes no message any more"),
+    ("waits", "an event of such a thread",
+     "without a wake, and its exception with it, which dooms nobody any more. What is queued is taken out, and one "
+     "that was received finds no reply any more ({INVALID_CID})"),
     ("client died", "the registrations of such a thread, thread by thread in the same order, port by port in the order "
-     "of registration", ()),
+     "of registration",
+     "on each port that is open and on which a message has a way, the thread's end is told. The registrations go"),
     ("handles", "where no live thread of the process is left, its handles, those with lower values first. Before them "
-     "its debug and exception ports are let go", ()),
-    ("views", "where no live thread of the process is left, those of its views that no port owned", ()),
+     "its debug and exception ports are let go",
+     "each is closed as by `NtClose`. Where it was the port's last one, all that [Closing a port](#closing-a-port) "
+     "tells is done before the next handle is closed. A process or a thread that it names lives on"),
+    ("views", "where no live thread of the process is left, those of its views that no port owned",
+     "nobody is told. A section that they alone showed goes"),
 )
+DYING = """
+dying code tid w = (doing (Dies tid code ∷ Withdraws tid ∷ []) ▹ end_client (wait_of w tid)) w
+"""
+END_CLIENT = """
+    provided (λ w. is_accepted x) (cut_pair x.port) ▹ provided (λ w. is_connect x) (doing (DropsOwned x.port ∷ []))
+"""
 END_THREADS = """
 end_threads pid code threads =
     in_turn (die code) threads
@@ -261,7 +314,13 @@ def written():
         good = all(re.match(rf"{re.escape(it)}(?:,| as |$)", cell) for it, cell in zip((client, identifier), cells))
         wrong = [] if good else [f"it tells {cells}, wanted are {client}, {identifier}"]
         yield f"{PAGE}, {heading}: who is named", wrong
-        yield f"{PAGE}, {heading}: the data", [] if f"data, {size} bytes" in parts else [f"they are {size} bytes"]
+        yield same(f"the context in {heading}", parts.get("`ctx`"), CONTEXT_OF[heading])
+        yield same(f"the data in {heading}", parts.get(f"data, {size} bytes"), DATA[heading])
+    yield from stands("lpc_model", "context = p.context; message = closed_message by p.birth", "the context of an end")
+    yield from stands("lpc_model", "directive_birth n pid = record { maker = 0; ordinal = n; process = pid }", "births")
+    yield from stands("lpc_model", "next_ordinal = 1;", "the first thing that a thread makes")
+    chances = cases("chance_number", texts)
+    yield same("the numbers of the chances", sorted(chances.values()), ["1", "2"])
 
 
 def table_below(heading, *head):
@@ -317,23 +376,24 @@ def limits():
     rows, texts = dict(table_of(PAGE, "Limit")), definitions.text_of("lpc_model", "specs", "antt")
     cells = lambda part: next(cell for limit, cell in rows.items() if part in limit)
     for part, sentence, text in COUNTED:
-        wrong = [] if cells(part).startswith(sentence) or f". {sentence}" in cells(part) else ["it doesn't say so"]
+        told = cells(part).partition(" Tested ")[0]
+        wrong = [] if told == sentence else [f"it tells {told}"]
         wrong += [] if text in texts else [f"the definition isn't {text}"]
         yield f"{PAGE}: {part} counts {sentence}", wrong
     tested = testing("handles_test")
     created = listed([words for call, words in HANDLE_CREATED.items() if call in tested])
     others = list(dict.fromkeys(words for call, words in HANDLE_TESTED.items() if call in tested))
     others = f"{', '.join(others[:-1])}, and {others[-1]}"
-    sentence = f"Tested where {created} is created, {others}. Completing tests nothing:"
-    yield same("where handles are counted", sentence in cells("handles of a process"), True)
+    sentence = f"where {created} is created, {others}. {COMPLETING}"
+    yield same("where handles are counted", cells("handles of a process").partition(" Tested ")[2], sentence)
     yield same("the calls that count handles", sorted(tested), sorted({**HANDLE_CREATED, **HANDLE_TESTED}))
     tested = testing("view_count_test")
     *front, last = (words for call, words in VIEW_TESTED.items() if call in tested)
-    sentence = f"Tested {', '.join(front)}, and {last}"
+    sentence = f"{', '.join(front)}, and {last}"
     yield same("the calls that count views", sorted(tested), sorted(VIEW_TESTED))
-    yield same("where views are counted", sentence in cells("views of a process"), True)
-    named = CODE.findall(cells("of one read or write"))
-    yield same("the calls of one read or write", named, list(TRANSFERS))
+    yield same("where views are counted", cells("views of a process").partition(" Tested ")[2], sentence)
+    calls = "what one `{}` or `{}` reads, or one `{}` or `{}` writes".format(*TRANSFERS)
+    yield same("the calls of one read or write", cells("of one read or write"), calls)
     yield same("the calls whose bytes are counted", sorted(testing("is_transfer")), sorted(TRANSFERS))
 
 
@@ -346,8 +406,10 @@ def counts():
         rows = dict(table_of(PAGE, f"Counts for a {kind.lower()}"))
         yield same(f"what counts for a {kind.lower()}", sorted(rows), sorted(wanted))
         for what, example in rows.items():
-            sentence = COUNTS_ONCE.get(what, "")
-            yield same(f"how {what} counts for a {kind.lower()}", example[: len(sentence)], sentence)
+            if what in COUNTS_ONCE:
+                told, behind = (example + ". ").split(". ", 1) if kind == "Token" else (example, "")
+                yield same(f"how {what} counts for a {kind.lower()}", told, COUNTS_ONCE[what])
+                yield same(f"what else counts for a {kind.lower()}", behind, TOKENS if kind == "Token" else "")
     yield from counted_kinds()
 
 
@@ -398,17 +460,13 @@ def closing():
     wanted, last = [], ""
     for predicate, outcome in made:
         step, text = words[predicate]
-        wanted.append(["" if step == last else numbers[step], text, outcome_words(predicate, outcome, texts, statuses)])
+        does = outcome_words(predicate, outcome, texts, statuses) + BEHIND.get(predicate, "")
+        wanted.append(["" if step == last else numbers[step], text, does])
         last = step
     rows = table_below("Closing a port", "Step", "What ends")
     yield same("the steps of a closing", [row[:2] for row in rows], [row[:2] for row in wanted])
     for row, (_, text, does) in zip(rows, wanted):
-        others = STATUS.findall(row[2])[1:] if STATUS.match(does) else STATUS.findall(row[2])
-        wrong = [] if row[2].startswith(does) and not others else [f"it tells {row[2]}, wanted is {does}"]
-        yield f"{PAGE}: how {text} end", wrong
-    taken = [row[1] for row in rows if TAKEN_OUT in row[2]]
-    wanted = [text for _, text, _ in wanted if "received or not" in text and not text.startswith("connects")]
-    yield same("what is taken out", taken, wanted)
+        yield same(f"how {text} end", row[2], does)
 
 
 def ending():
@@ -417,13 +475,14 @@ def ending():
     rows = table_below("Threads and processes that end", "Step", "What ends")
     yield from stands("lpc_model", END_THREADS, "the steps of an ending")
     yield from stands("lpc_model", END_PROCESS, "the steps of a process's end")
+    yield from stands("lpc_model", DYING, "how a thread dies")
+    yield from stands("lpc_model", END_CLIENT, "what becomes of a connect whose thread dies")
     names = list(dict.fromkeys(step for step, _, _ in ENDING))
     steps = [row[0] for row in rows if row[0]]
     yield same("the steps of an ending", steps, [f"{at}. {it}" for at, it in enumerate(names, 1)])
     yield same("what ends with a thread", [row[1] for row in rows], [what for _, what, _ in ENDING])
-    for (_, what, how), (_, _, named) in zip(rows, ENDING):
-        found = list(dict.fromkeys(STATUS.findall(how)))
-        yield same(f"how {what} ends", found, [statuses[it] for it in named])
+    for (_, what, how), (_, _, wanted) in zip(rows, ENDING):
+        yield same(f"how {what} ends", how, wanted.format(**statuses))
 
 
 def exceptions():
