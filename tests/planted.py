@@ -118,6 +118,9 @@ PLANTED = (
     (told_scripts.lines, SCRIPTS, r"`24 NtCreateThread self 28`", "`24 NtCreateThread it 28`"),
     (told_scripts.lines, SCRIPTS, r"up to 16 further words", "up to 15 further words"),
     (told_scripts.lines, SCRIPTS, r"NtReadRequestData H MSG INDEX LEN`", "NtReadRequestData H MSG LEN INDEX`"),
+    (told_scripts.classes, SCRIPTS, r"or the exception port \(8\)", "or the exception port (9)"),
+    (told_scripts.word_forms, SCRIPTS, r"`0X18` is none", "`0x18` is none"),
+    (told_scripts.lines, SCRIPTS, r"`boot 20 24 alice`", "`boots 20 24 alice`"),
     (told_scripts.examples, SCRIPTS, r"`d:0`, `m:41:42`", "`d:00`, `m:41:42`"),
     (told_scripts.examples, SCRIPTS, r"`24 NtListenPort 08`", "`24 NtListenPort 8`"),
     (told_scripts.examples, SCRIPTS, r"a byte outside 32 to 126 \|", "a byte outside 32 to 127 |"),
@@ -148,6 +151,11 @@ PLANTED = (
     (told_worlds.next_calls, "docs/RESIDENT.md", r"(got the handle h \|) `NtCompleteConnectPort h`", r"\1 `NtClose h`"),
     (told_worlds.next_calls, "docs/RESIDENT.md", r"`c0000035` where a server is", "`c000000b` where a server is"),
     (told_worlds.next_calls, "docs/RESIDENT.md", r"`busy` where the thread waits;", "`busy` where it ended;"),
+    (told_worlds.names, "docs/STATES.md", r"the handle 4 of process 20", "the handle 20 of process 40"),
+    (told_worlds.requests, "docs/RESIDENT.md", r"C0000034: no text has the", "C0000044: no text has the"),
+    (told_worlds.requests, "docs/RESIDENT.md", r"console \| as with 3 \|", "console | as with 1 |"),
+    (told_worlds.holders, "docs/CLOSING.md", r"whose connection port it is \| 3", "whose connection port it is | 4"),
+    (told_worlds.holders, "docs/CLOSING.md", r"the datagram of 36 and its own", "the datagram of 28 and its own"),
     (told_worlds.changing, "docs/SECURITY.md", r"with its next request, by the tracking", "no, C000021F"),
 )
 

@@ -92,7 +92,7 @@ STATED = "exercises/07-a-connection"
 STATED_ROWS, KEY_COUNT = 23, 66
 # The calls that refuse nothing, and so have no table of refusals.
 UNREFUSED = ("raise",)
-CLAIM_COUNT, TOLD_COUNT = 73, 661
+CLAIM_COUNT, TOLD_COUNT = 73, 692
 NAMED_IN = {
     "ARCHITECTURE.md": 700,
     "DECISIONS.md": 150,

@@ -116,7 +116,24 @@ def word_forms():
     yield said_in("TOKEN", cell("TOKEN"), [f"1 to {most['name']} letters, digits or `_`"])
     ids = f"a Number from 1 to {most['number']}"
     yield said_in("PID, TID", cell("PID, TID"), [ids])
+    yield from word_examples(cell)
     yield from fixed_words(cell, texts)
+
+
+def word_examples(cell):
+    """The words of two cells that are told whole, and the examples of others."""
+    yield same(f"{PAGE}: INFO", cell("INFO"), "the bytes of a connect: `-` or `d:` for none, or `d:HEX`")
+    yield said_in("QOS", cell("QOS"), ["`q:L:s` (static) or `q:L:d` (dynamic)", "or `-` for `q:2:d`"])
+    (none,) = re.findall(r"`(\w+)` is none", cell("Number"))
+    for name, line, spans in (
+        ("Number", "24 NtClose {}", [it for it in CODE.findall(cell("Number")) if it not in ("0x", none)]),
+        ("PID, TID", "{}", CODE.findall(cell("PID, TID"))),
+        ("SID", "token t {}", [it for it in CODE.findall(cell("SID, USER, GROUP")) if len(it) > 4]),
+    ):
+        wrong = [it for it in spans if reading.kind_of(line.format(it))]
+        yield f"{PAGE}: the examples of {name}", [f"{it} is none" for it in wrong] + ["there is none"] * (not spans)
+    found = reading.kind_of(f"24 NtClose {none}") == reading.kinds()["Number"]
+    yield f"{PAGE}: what is no Number", [] if found else [f"{none} is one"]
 
 
 def fixed_words(cell, texts):
@@ -180,11 +197,28 @@ def lines():
         more = int(further[1] or 1) if further else 0
         counted = len(words) - (2 if words[0] == "TID" else 1)
         wrong = [] if (counted, counted + more) == (least, most) else [f"it takes {least} to {most} words"]
-        examples = [it for it in CODE.findall(does) if name in it.split()]
+        examples = [it for it in CODE.findall(does) if " " in it]
+        wrong += [f"{it} is no line of it" for it in examples if name not in it.split()]
         wrong += [f"{it} has a fault of kind {reading.kind_of(it)}" for it in examples if reading.kind_of(it)]
         form = [it for it in forms.named(name) if it[0] != "["]
         wrong += [f"its form is {form}"] * (form != [form_word(it, does) for it in words])
         yield f"{PAGE}: the line {line}", wrong
+
+
+def classes():
+    """The classes that the table of lines names, against the definitions."""
+    texts, rows = definitions.bodies("lpc_model"), dict(table_of(PAGE, "Line", "Words"))
+    number = lambda name: texts[name][1].rpartition(" ")[2]
+    for line, sentence in {
+        "`TID NtSetInformationProcess H CLASS PORT`": f"sets the debug port (CLASS {number('DEBUG_CLASS')}) or the "
+        f"exception port ({number('EXCEPTION_CLASS')}) of a process.",
+        "`TID NtSetInformationThread CLASS null`": f"with CLASS {number('THREAD_IMPERSONATION_TOKEN')} has the thread "
+        "act as itself again:",
+        "`TID NtQueryInformationToken H CLASS`": f"tells a token's user ({number('TOKEN_USER')}), its groups "
+        f"({number('TOKEN_GROUPS')}), or the level at which a thread acted with it "
+        f"({number('TOKEN_IMPERSONATION_LEVEL')}):",
+    }.items():
+        yield said_in(f"the classes of {line}", rows.get(line, ""), [sentence])
 
 
 def form_word(word, does):
@@ -289,7 +323,7 @@ def exercises():
         yield same(f"{page}: the index", [row[0] for row in table_of(page, "Exercise", "Shows")], wanted)
 
 
-GROUPS = read_as_worked, word_forms, message_forms, lines, examples, entries, faults, exercises
+GROUPS = read_as_worked, word_forms, message_forms, lines, classes, examples, entries, faults, exercises
 
 
 def checks():

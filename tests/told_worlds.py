@@ -5,7 +5,7 @@ import re
 import definitions
 import pages
 from pages import CODE, table_of, tables
-from told import stands, suite_told
+from told import handles_behind, stands, suite_told
 
 # How docs/STATES.md calls what a definition prints.
 SHAPES = {
@@ -172,12 +172,16 @@ def names():
     told = [CODE.findall(row[0])[0].split()[0] for row in rows]
     others = {"process", "thread", "port", "section", "token"}
     yield same("STATES.md: the names", sorted(told), sorted({*ROWS} - others))
-    for name, *_ in rows:
+    for name, row_of, _ in rows:
         (text,) = CODE.findall(name)
         kind = text.split()[0]
         pattern = pattern_of("message_name" if kind == "message" else f"{kind}_row", texts)
-        good = re.fullmatch(pattern, text)
-        yield f"STATES.md: the name {text}", [] if good else [f"it is printed as {pattern}"]
+        wrong = [] if re.fullmatch(pattern, text) else [f"it is printed as {pattern}"]
+        # What the words say of numbers is said of those of the name, parted or whole; 0 is that of what sent nothing.
+        known = {*re.findall(r"\d+", text), *re.findall(r"\d+\.\d+", text), "0"}
+        numbers = re.findall(r"\d+\.\d+|\b\d+\b", CODE.sub("", row_of))
+        wrong += [f"it names {it}" for it in numbers if it not in known]
+        yield f"STATES.md: the name {text}", wrong
     begins = table_of("STATES.md", "It begins", "What it says")
     lines = [line for _, body in texts.values() for line in body.splitlines() if "told_as n (" in line]
     words = [it for line in lines for it in re.findall(r'codes "(\w+)"', line)]
@@ -290,6 +294,51 @@ def next_calls():
         yield f"RESIDENT.md: {line}", missing + [f"it doesn't say {success}"] * (success not in answer)
 
 
+def requests():
+    """The table of docs/RESIDENT.md on apis: their numbers, the statuses that each may answer, in order, and which one
+    does what another one does."""
+    texts, statuses = definitions.bodies("lpc_subsys"), definitions.profile()[1]
+    apis = dict(re.findall(r"api == (\d+) then (\w+)", texts["asked_by"][1]))
+    replies = dict(re.findall(r"^reply_by known texts console level \(?(\w+).*? = (.*)$", texts["reply_by"][1], re.M))
+    asks = {api: next(it for it in replies if re.search(rf"\b{it}\b", texts[name][1])) for api, name in apis.items()}
+    rows = {row[0]: row[1:] for row in table_of("RESIDENT.md", "Api", "Arguments")}
+    yield same("RESIDENT.md: the apis", list(rows), list(apis))
+    for api, name in apis.items():
+        # A number that is out of bounds, or a part of a view that isn't there, asks for nothing.
+        bounded = re.search(r"part_of_view|nat_le \(word_at", texts[name][1])
+        wanted = [statuses["INVALID_PARAMETER"]] * bool(bounded)
+        wanted += [statuses[it] for it in re.findall(r"granted_or (\w+)", replies[asks[api]])]
+        told = re.findall(r"[0-9A-F]{8}", rows[api][2])
+        told = [it for at, it in enumerate(told) if it not in told[:at]]
+        yield same(f"RESIDENT.md: what api {api} refuses", told, list(dict.fromkeys(wanted)))
+        others = [it for it, what in asks.items() if what == asks[api] and int(it) < int(api)]
+        found = re.findall(r"as with (\d+)", " ".join(rows[api]))
+        yield same(f"RESIDENT.md: as what api {api} is", sorted(set(found)), others)
+    nothing = [api for api, name in apis.items() if "length arguments == 0" in texts[name][1]]
+    yield same("RESIDENT.md: what takes nothing", [it for it, row in rows.items() if row[0] == "nothing"], nothing)
+
+
+def holders():
+    """The tables of docs/CLOSING.md on what holds a port: as many as it tells, and threads and handles of its example
+    that do what is told of them."""
+    script, transcript = pages.example("closing-client")
+    front = [it.split() for it in script[:20]]
+    asked = {it[0] for it in front if it[1:2] == ["NtRequestWaitReplyPort"]}
+    sent = {it[0] for it in front if it[1:2] == ["NtRequestPort"]}
+    _, handles = handles_behind(script, transcript, 21)
+    text = (pages.DOCS / "CLOSING.md").read_text(encoding="utf-8")
+    for _, head, rows in tables(text):
+        for port, held, count in rows if head == ["Port", "Held by", "Pointers"] else ():
+            parts = [it for part in held.split("; ") for it in re.split(r",? and ", part)]
+            wrong = [f"{len(parts)} do"] * (str(len(parts)) != count)
+            for what, known in ("wait", asked), ("request", asked), ("datagram", sent):
+                wrong += [f"{it} has none" for it in re.findall(rf"{what} of (\d+)", held) if it not in known]
+            stand = {"connection port": ("20", 4), "server port": ("20", 8), "client port": ("32", 8)}[port]
+            wrong += [f"it has handle {stand[1]}"] * (
+                re.findall(r"handle (\d+)", held) not in ([], [str(stand[1])]) or stand[1] not in handles[stand[0]])
+            yield f"CLOSING.md: what holds the {port}, {held[:30]}", wrong
+
+
 def changing():
     """The row of docs/SECURITY.md on a client that acts for somebody, against the suite's case of that."""
     cases = dict(re.findall(r"^  \| (Static|Dynamic) ↦ (\w+)", definitions.bodies("lpc_model")["tracked"][1], re.M))
@@ -303,7 +352,7 @@ def changing():
     yield same("SECURITY.md: a client that changes", told, wanted)
 
 
-GROUPS = keys, names, going, closings, next_calls, changing
+GROUPS = keys, names, going, closings, next_calls, requests, holders, changing
 
 
 def checks():
