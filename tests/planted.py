@@ -143,6 +143,7 @@ PLANTED = (
     (told_worlds.names, "docs/STATES.md", r"\| `view 32/00010000`", "| `view 32/65536`"),
     (told_worlds.going, "docs/VIEWS.md", r"(process ends) \| both stay \| both go", r"\1 | both go | both go"),
     (told_worlds.going, "docs/VIEWS.md", r"(thread ends before the accept \| its own) goes", r"\1 stays"),
+    (told_worlds.going, "docs/VIEWS.md", r"both stay until the server port closes", "both stay"),
     (told_worlds.going, "docs/VIEWS.md", r"the server's comes \| both come", "both come | the server's comes"),
     (told_worlds.closings, "docs/CLOSING.md", r"the connection port's queue go on; what", "its queue go on; what"),
     (told_worlds.closings, "docs/CLOSING.md", r"\| all stay \|", "| the same |"),

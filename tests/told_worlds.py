@@ -50,7 +50,12 @@ GOES = {
     "the server port closes, or the server's process ends": ("server", (("close_port", "drop_owned b"),), False),
     "the client port closes, or the client's process ends": ("client", (("close_port", "drop_owned b"),), False),
 }
-# A closed port's kinds by how their row begins, and who may close beside a debug port of that kind.
+# What these rows say besides: why the views go, or how long they stay.
+BECAUSE = {
+    "the server port closes before the completion": (", since the connect ends", "", ""),
+    "the client's thread ends before the completion": ("", " until the server port closes", ""),
+}
+# What may close of a debug port: it, its other end, its connection port.
 CLOSERS = ("it", "other", "connection")
 # What a server on a thread does next: by the names of the definitions the words of the last call's outcome.
 DEEDS = {
@@ -202,8 +207,9 @@ def going():
         client = goes["client" not in lets_go.split()]
         server = goes["server" not in lets_go.split()]
         wanted = [f"its own {client}", "there are none", "ends"] if before else [client, server, ""]
-        found = [re.split(r", since| until", it)[0] for it in rows.get(what, ())]
-        yield same(f"VIEWS.md: {what}", found, wanted)
+        if what in BECAUSE:
+            wanted = [f"{it}{why}" for it, why in zip(wanted, BECAUSE[what])]
+        yield same(f"VIEWS.md: {what}", rows.get(what), wanted)
     yield same("VIEWS.md: an accept", rows.get("the connect is accepted"), ["the server's comes", "both come", "ends"])
     one = ["that one goes", "that one goes", "stays"]
     yield same("VIEWS.md: an unmap", rows.get("a process unmaps one of them"), one)
