@@ -47,6 +47,7 @@ import running
 import states
 import tables
 import tally
+import wrong_bodies
 
 ROOT = pathlib.Path(__file__).resolve().parent.parent
 # What `.ci/run` runs, in order. Who adds a part adds it here.
@@ -603,7 +604,7 @@ def growths():
 
 def stands(place, cell):
     """Whether what a row names as false of a wrong body of `lpc_homes` stands there."""
-    return not list(tables.wrong_with("lpc_homes", place, cell))
+    return not list(wrong_bodies.wrong_with("lpc_homes", place, cell))
 
 
 def clauses():
@@ -612,9 +613,9 @@ def clauses():
         yield f"false of {place}: {cell}", lambda: same(stands(place, cell), True)
     for place, cell in NO_CLAUSES:
         yield f"false of {place}, which isn't there: {cell}", lambda: same(stands(place, cell), False)
-    found = tables.edits()
+    found = wrong_bodies.edits()
     for edit, place in PLACES.items():
-        yield f"the place of {edit[1]}", lambda: same(tables.place_of(edit[0], found[edit]), place)
+        yield f"the place of {edit[1]}", lambda: same(wrong_bodies.place_of(edit[0], found[edit]), place)
 
 
 @contextlib.contextmanager

@@ -6,6 +6,11 @@ def enough(name, count, least):
     return f"{name}: {least} checks at least", [] if count >= least else [f"{count} were made"]
 
 
+def pinned(what, found, wanted):
+    """The check that as many were read as there are."""
+    return f"there are {wanted} {what}", [] if found == wanted else [f"{found} were read"]
+
+
 def counted(name, checks, least):
     """The checks of a group, and that it made as many as there are."""
     count = 0
