@@ -1,3 +1,4 @@
 pub mod Named
+pub mod Near
 pub mod Numbered
 pub mod Tally

@@ -2,6 +2,7 @@
 #![tactic(auto)]
 
 mod named;
+mod near;
 mod numbered;
 mod tally;
 

@@ -1,33 +1,42 @@
 // Values under numbers that differ.
-ghost use Rattle.std.specs.Prelude.{◌≡◌, ◌-◌, ◌<◌, ◌≤◌, ◌++◌, ◌∷◌, [], false, length, OnErr, OnOk};
+ghost use Rattle.std.specs.Prelude.{◌≡◌, ◌-◌, ◌<◌, ◌≤◌, ◌++◌, ◌∷◌, [], false, length, option_map, slice_get, OnErr, OnOk};
 ghost use Rattle.std.specs.List.{position};
 ghost use Rattle.lpc_base.specs.Room.{grown_room};
 ghost use Rattle.lpc_base.specs.Rows.{has};
 ghost use Rattle.lpc_numbers.specs.Numbered.{is_at, value_at};
 
+use crate::near::Near;
 use indexmap::IndexMap;
 use lpc_base::OutOfMemory;
 use std::alloc::Global;
 use std::marker::Model;
+
+// So far reach the small numbers, and further by so many for each that may come: scripts mostly number by fours, and
+// processes and threads in turn.
+const SMALL_NUMBERS: usize = 1024;
+
+const NUMBERS_EACH: usize = 8;
 
 /// Values under numbers that differ, in the order in which they came. A number leads to its value and to its place
 /// without a search. So many further ones as there is room for go in without memory.
 #[derive(Drop)]
 pub struct Numbered<V: Copy> {
     map: IndexMap<u32, V>,
+    near: Near,
     room: usize,
 }
 
 impl<V: Copy> Model for Numbered<V> {
     ghost use Rattle.std.specs.Prelude.{◌≤◌};
     ghost use Rattle.indexmap.specs.IndexMap.{spare};
+    ghost use Rattle.lpc_numbers.specs.Near.{IsNear};
     ghost use Rattle.lpc_numbers.specs.Numbered.{Numbered};
 
     ghost Value = { Numbered V };
 
     ghost view = { λ s. record { entries = s.map.entries; room = s.room } };
 
-    ghost invariant = { λ s. s.room ≤ spare s.map };
+    ghost invariant = { λ s. (s.room ≤ spare s.map) × IsNear s.map.entries s.near };
 }
 
 impl<V: Copy> Numbered<V> {
@@ -38,6 +47,7 @@ impl<V: Copy> Numbered<V> {
     {
         Numbered {
             map: IndexMap::new(alloc),
+            near: Near::new(alloc),
             room: 0,
         }
     }
@@ -63,6 +73,7 @@ impl<V: Copy> Numbered<V> {
         match self.map.reserve(wanted) {
             Ok(()) => {
                 self.room = wanted;
+                self.near.widen(SMALL_NUMBERS.saturating_add(wanted.saturating_mul(NUMBERS_EACH)));
                 Ok(())
             }
             Err(_) => Err(OutOfMemory),
@@ -76,6 +87,7 @@ impl<V: Copy> Numbered<V> {
         ensures entries { self.new.entries ≡ self.old.entries ++ (number, value) ∷ [] }
         ensures room { self.new.room ≡ self.old.room - 1 }
     {
+        self.near.note(number, self.map.len());
         match self.map.insert(number, value) {
             Ok(_) => self.room -= 1,
             Err(_) => unreachable!(),
@@ -100,20 +112,37 @@ impl<V: Copy> Numbered<V> {
     pub fn place(&self, number: u32) -> Option<usize>
         ensures { result ≡ position (is_at number) self.now.entries }
     {
-        self.map.get_index_of(&number)
+        match self.near.rank(number) {
+            Some(0) => None,
+            Some(rank) => Some(rank as usize - 1),
+            None => self.map.get_index_of(&number),
+        }
     }
 
     /// The value under a number.
     pub fn get(&self, number: u32) -> Option<V>
         ensures { result ≡ value_at self.now.entries number }
     {
-        self.map.get(&number).copied()
+        match self.place(number) {
+            Some(place) => self.value(place),
+            None => None,
+        }
+    }
+
+    // The value at a place.
+    fn value(&self, place: usize) -> Option<V>
+        ensures { result ≡ option_map (λ e. e.1) (slice_get self.now.entries place) }
+    {
+        match self.map.get_index(place) {
+            Some((_, value)) => Some(*value),
+            None => None,
+        }
     }
 
     /// The number has a value.
     pub fn has(&self, number: u32) -> bool
         ensures { result ≡ has (is_at number) self.now.entries }
     {
-        self.map.contains_key(&number)
+        self.place(number).is_some()
     }
 }
