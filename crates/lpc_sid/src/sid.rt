@@ -38,6 +38,18 @@ impl Sid {
         Some(Sid { authority, subs })
     }
 
+    /// The same SID once more. It takes no memory.
+    pub fn copy(&self) -> Sid
+        ensures { result ≡ self.now }
+    {
+        let mut subs = ArrayVec::new();
+        subs.try_extend_from_slice(self.subs.as_slice()).unwrap();
+        Sid {
+            authority: self.authority,
+            subs,
+        }
+    }
+
     /// Writes the spelling of the SID behind nothing: `S-1-`, the authority, and each number preceded by `-`, in decimal
     /// without leading zeros. It is 189 bytes at most.
     #[tactic(auto, unfolding(crate::specs::Spelling::spelling))]

@@ -39,7 +39,14 @@ impl Token {
     pub fn copy(&self) -> Token
         ensures { result ≡ self.now }
     {
-        self.clone().unwrap()
+        let mut groups = ArrayVec::new();
+        for group in self.groups.as_slice() {
+            groups.push(group.copy());
+        }
+        Token {
+            user: self.user.copy(),
+            groups,
+        }
     }
 
     /// A SID is the token's user or one of its groups.

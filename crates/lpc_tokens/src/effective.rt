@@ -30,7 +30,10 @@ impl Impersonation {
     pub fn copy(&self) -> Impersonation
         ensures { result ≡ self.now }
     {
-        self.clone().unwrap()
+        Impersonation {
+            token: self.token.copy(),
+            level: self.level,
+        }
     }
 }
 
@@ -39,7 +42,10 @@ impl Effective {
     pub fn copy(&self) -> Effective
         ensures { result ≡ self.now }
     {
-        self.clone().unwrap()
+        Effective {
+            token: self.token.copy(),
+            level: self.level,
+        }
     }
 
     /// The level that the token counts as: its own, and for a process's own token the highest.
