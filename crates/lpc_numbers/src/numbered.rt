@@ -109,17 +109,28 @@ impl<V: Copy> Numbered<V> {
     }
 
     /// Where a number stands in the order in which they came.
+    // Inlined with what it calls, since each line asks for several rows by their numbers, mostly small ones.
+    #[inline(always)]
     pub fn place(&self, number: u32) -> Option<usize>
         ensures { result ≡ position (is_at number) self.now.entries }
     {
         match self.near.rank(number) {
             Some(0) => None,
             Some(rank) => Some(rank as usize - 1),
-            None => self.map.get_index_of(&number),
+            None => self.far_place(number),
         }
     }
 
+    // The same, through the map.
+    #[inline(never)]
+    fn far_place(&self, number: u32) -> Option<usize>
+        ensures { result ≡ position (is_at number) self.now.entries }
+    {
+        self.map.get_index_of(&number)
+    }
+
     /// The value under a number.
+    #[inline(always)]
     pub fn get(&self, number: u32) -> Option<V>
         ensures { result ≡ value_at self.now.entries number }
     {
@@ -130,6 +141,7 @@ impl<V: Copy> Numbered<V> {
     }
 
     // The value at a place.
+    #[inline(always)]
     fn value(&self, place: usize) -> Option<V>
         ensures { result ≡ option_map (λ e. e.1) (slice_get self.now.entries place) }
     {

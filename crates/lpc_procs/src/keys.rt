@@ -16,6 +16,7 @@ pub struct Use {
 }
 
 /// The key that the process of a number has, or had; for a number that was never used the key that is never given.
+#[inline(always)]
 pub fn process_key(used: &Numbered<Key>, pid: u32) -> Key
     ensures { result ≡ kept.process_key used.now.entries pid }
 {
@@ -36,6 +37,7 @@ pub fn process_rank(used: &Numbered<Key>, pid: u32) -> u32
 }
 
 /// The key that the thread of a number has, or had; for a number that was never used the key that is never given.
+#[inline(always)]
 pub fn thread_key(used: &Numbered<Use>, tid: u32) -> Key
     ensures { result ≡ kept.thread_key used.now.entries tid }
 {

@@ -1,6 +1,0 @@
-use Rattle.std.proofs.Common.{◌∙◌}
-use Rattle.lpc_numbers.proofs.Lookups.{placed}
-use Rattle.lpc_numbers.proofs.numbered.Numbered.place.Goals as goal
-
-pub returns-in-None : goal.returns-in-None
-returns-in-None g c = rw (← c.self.view_is) (c.get_index_of.ensures.index ∙ placed c.args.number c.self.inside.map.entries)
