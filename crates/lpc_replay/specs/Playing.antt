@@ -14,6 +14,7 @@ use Rattle.lpc_model.specs.Residents.{Resident, State}
 use Rattle.lpc_subsys.specs.Clients.{ClientRow}
 use Rattle.lpc_residents.specs.Kept.{kept, state_of}
 use Rattle.lpc_base.specs.Streams.{Adds, Told}
+use Rattle.lpc_states.specs.Rows.{rows_text}
 use Rattle.lpc_replay.specs.declared.form.Form.{Form}
 use Rattle.lpc_replay.specs.declared.play.Ending.{Ending}
 use Rattle.lpc_replay.specs.declared.play.Ending.TheVariants as ending
@@ -100,6 +101,10 @@ pub record AreCounted (calls lines told : ℕ) : Type 0 where
   pub limit : lines ≤ LINES_LIMIT
   pub calls_counted : calls ≤ lines
   pub told_counted : told ≤ lines * 2 ^ 64
+
+-- where a text is said to be that of the rows of a world, it is
+abbrev pub ShowsRows : Bool → List ℕ → World → Type 0
+ShowsRows are_last text w = are_last ≡ true → text ≡ rows_text w
 
 -- the place behind lines, none where one of them is faulty
 abbrev pub after_line : Progress → Result (Option ScriptLine) LineFault → (Progress → Option Progress) → Option Progress

@@ -10,7 +10,7 @@ ghost use Rattle.lpc_model.specs.Run.{line_step, numbered_line, said_done, state
 ghost use Rattle.lpc_residents.specs.Kept.{kept, state_of};
 ghost use Rattle.lpc_replay.specs.declared.form.Form.TheVariants.{States};
 ghost use Rattle.lpc_replay.specs.Forms.{line_told};
-ghost use Rattle.lpc_replay.specs.Playing.{RunsLine, begin, entries_told, last_text};
+ghost use Rattle.lpc_replay.specs.Playing.{RunsLine, ShowsRows, begin, entries_told, last_text};
 
 use crate::form::Form;
 use crate::step::step;
@@ -25,13 +25,15 @@ use lpc_states::print_changes;
 use lpc_transcript::{print, print_end, print_stop};
 use std::alloc::Global;
 use std::marker::Model;
+use std::mem::swap;
 
-/// The rows of the world before a line and behind it, as the form of states prints them. What they hold between lines
-/// is of no use.
+/// The rows of the world, as the form of states prints them: as they stood last, and room for those behind the next line.
 #[derive(Drop)]
 struct Snapshots {
-    before: Vec<u8>,
-    after: Vec<u8>,
+    rows: Vec<u8>,
+    // The rows stand so still. Where they don't, what these hold is of no use.
+    are_last: bool,
+    next: Vec<u8>,
 }
 
 /// A script as far as it has run, and the text that is to be sent next.
@@ -48,7 +50,7 @@ pub struct Playback {
 }
 
 impl Model for Playback {
-    ghost use Rattle.lpc_replay.specs.Playing.{AreCounted, Played};
+    ghost use Rattle.lpc_replay.specs.Playing.{AreCounted, Played, ShowsRows};
 
     ghost Value = { Played };
 
@@ -59,7 +61,8 @@ impl Model for Playback {
       text = p.text.items;
     } };
 
-    ghost invariant = { λ p. AreCounted p.machine.calls p.lines p.told };
+    ghost invariant = { λ p. AreCounted p.machine.calls p.lines p.told
+        × ShowsRows p.snapshots.are_last p.snapshots.rows.items p.machine.rows };
 }
 
 impl Playback {
@@ -77,8 +80,9 @@ impl Playback {
             residents: Residents::new(alloc),
             out,
             snapshots: Snapshots {
-                before: Vec::new(alloc),
-                after: Vec::new(alloc),
+                rows: Vec::new(alloc),
+                are_last: false,
+                next: Vec::new(alloc),
             },
             text: Vec::new(alloc),
             lines: 0,
@@ -251,6 +255,10 @@ fn tell_states(
     requires few { machine.old.calls < LINES_LIMIT }
     requires ids { IfSome said.now (λ line. has_ids (line_of line) ≡ true) }
     requires named { IfSome said.now (λ line. has_short_name (line_of line) ≡ true) }
+    requires shown { ShowsRows snapshots.old.are_last
+        snapshots.old.rows.items machine.old.rows }
+    ensures shown { ShowsRows snapshots.new.are_last
+        snapshots.new.rows.items machine.new.rows }
     ensures rows { let s = state_of machine.old.rows residents.old in
         OnOk result (machine.new.rows
         ≡ (state_behind kept s (option_map line_of said.now)).world) }
@@ -268,12 +276,17 @@ fn tell_states(
         IfOk result (λ told. told ≡ length step.entries) }
     ensures calls { machine.new.calls ≤ machine.old.calls + 1 }
 {
-    snapshots.before.clear();
-    print_rows(machine.world(), &mut snapshots.before)?;
+    if !snapshots.are_last {
+        snapshots.rows.clear();
+        print_rows(machine.world(), &mut snapshots.rows)?;
+    }
+    snapshots.are_last = false;
     let told = tell(machine, residents, out, number, said, text)?;
-    snapshots.after.clear();
-    print_rows(machine.world(), &mut snapshots.after)?;
-    print_changes(number, &snapshots.before, &snapshots.after, text)?;
+    snapshots.next.clear();
+    print_rows(machine.world(), &mut snapshots.next)?;
+    print_changes(number, &snapshots.rows, &snapshots.next, text)?;
+    swap(&mut snapshots.rows, &mut snapshots.next);
+    snapshots.are_last = true;
     Ok(told)
 }
 
@@ -292,6 +305,10 @@ fn tell_in(
     requires few { machine.old.calls < LINES_LIMIT }
     requires ids { IfSome said.now (λ line. has_ids (line_of line) ≡ true) }
     requires named { IfSome said.now (λ line. has_short_name (line_of line) ≡ true) }
+    requires shown { ShowsRows snapshots.old.are_last
+        snapshots.old.rows.items machine.old.rows }
+    ensures shown { ShowsRows snapshots.new.are_last
+        snapshots.new.rows.items machine.new.rows }
     ensures rows { let s = state_of machine.old.rows residents.old in
         OnOk result (machine.new.rows
         ≡ (state_behind kept s (option_map line_of said.now)).world) }
@@ -310,7 +327,10 @@ fn tell_in(
     ensures calls { machine.new.calls ≤ machine.old.calls + 1 }
 {
     match form {
-        Form::Transcript => tell(machine, residents, out, number, said, text),
+        Form::Transcript => {
+            snapshots.are_last = false;
+            tell(machine, residents, out, number, said, text)
+        }
         Form::States => tell_states(machine, residents, out, number, said, snapshots, text),
     }
 }
