@@ -1,3 +1,6 @@
+pub mod Short
+pub mod Pairs
+pub mod Placed
 pub mod Begins
 pub mod Parts
 pub mod Figures

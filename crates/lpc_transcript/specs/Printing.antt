@@ -1,5 +1,6 @@
 -- What is printed, and what stands of a text while more of it is printed.
-use Rattle.std.specs.Prelude.{◌≡◌, ℕ, ◌+◌, ◌<◌, List, ◌++◌, codes, decimal, length, map, OnOk, Result, take, Vec, vec_capacity, vec_items}
+use Rattle.std.specs.Prelude.{◌≡◌, ℕ, ◌+◌, ◌/◌, ◌%◌, ◌<◌, List, [], ◌∷◌, ◌++◌, codes, decimal, length, map, OnOk, Result, slice_index, take, Vec, vec_capacity, vec_items}
+use Rattle.hex.specs.Hex.{lower_digits}
 use Rattle.lpc_base.specs.declared.status.Status.{Status}
 use Rattle.lpc_sid.specs.Spelling.{spelling}
 use Rattle.lpc_sid.specs.declared.sid.Sid.{Sid}
@@ -23,6 +24,18 @@ Puts before now more result = OnOk result (now ≡ before ++ more)
 -- there is no room for so much behind the text
 abbrev pub LacksRoom : {Z : Type 0} → Vec ℕ Z → List ℕ → Type 0
 LacksRoom into more = vec_capacity into < length (vec_items into) + length more
+
+-- what was gathered so far: the text, and behind it what a buffer has up to this place
+abbrev pub gathered : {Z : Type 0} → Vec ℕ Z → List ℕ → ℕ → List ℕ
+gathered into buffer at = vec_items into ++ take at buffer
+
+-- there is no room for what was gathered and so much behind it
+abbrev pub Overfills : {Z : Type 0} → Vec ℕ Z → List ℕ → ℕ → List ℕ → Type 0
+Overfills into buffer at more = vec_capacity into < length (gathered into buffer at) + length more
+
+-- a byte as two hexadecimal digits
+abbrev pub pair_of : ℕ → List ℕ
+pair_of byte = slice_index lower_digits (byte / 16) ∷ slice_index lower_digits (byte % 16) ∷ []
 
 -- what stands in place of marks: these bytes where a memory read stands, and these groups where those of a token do
 abbrev pub aside_of : List ℕ → List Sid → Aside

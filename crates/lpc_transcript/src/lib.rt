@@ -2,8 +2,10 @@
 #![tactic(auto)]
 
 mod fields;
+mod gather;
 mod laws;
 mod sids;
+mod spell;
 mod text;
 mod words;
 

@@ -1,31 +1,43 @@
 // The text of entries, and the last line of a transcript.
-ghost use Rattle.std.specs.Prelude.{◌≡◌, ◌≤◌, take, OnOk, OnErr, vec_capacity};
+ghost use Rattle.std.specs.Prelude.{◌≡◌, ◌+◌, ◌<◌, ◌≤◌, ◌++◌, take, IfOk, OnOk, OnErr, vec_capacity};
 ghost use Rattle.lpc_model.specs.Script.{kind_number};
 ghost use Rattle.lpc_model.specs.Text.{entries_text, end_text, stop_text};
-ghost use Rattle.lpc_transcript.specs.Printing.{BeginsWith, LacksRoom, Puts, aside_of, line_of, lines_of, rest_of};
+ghost use Rattle.lpc_transcript.specs.Printing.{BeginsWith, LacksRoom, Overfills, Puts, aside_of, gathered, line_of, lines_of, rest_of};
 
-use crate::fields::put_fields;
-use crate::words::{
-    put, put_by, put_death, put_directive, put_ended, put_long_number, put_number, put_state,
+use crate::fields::gather_fields;
+use crate::gather::make_room;
+use crate::spell::{
+    ROOM, write_by, write_byte, write_death, write_directive, write_ended, write_number,
+    write_state, write_text,
 };
+use crate::words::{put, put_long_number, put_number};
 use lpc_base::OutOfMemory;
 use lpc_model::{Entries, Entry, LineFault};
 use lpc_sid::Sid;
 
+/// The most bytes of a line's number and of what stands before the fields of an entry, and one more, with which a line
+/// ends.
+const FRONT_LIMIT: usize = 82;
+
 // What stands behind the line's number, with these bytes where a memory read stands, and these groups where those of a
-// token do.
-#[tactic(auto, using(std::proofs::Common::append_assoc, crate::proofs::Begins::begins_before))]
-fn put_rest(
+// token do. One more byte has room behind it.
+#[tactic(auto, using(std::proofs::Common::append_assoc, crate::proofs::Begins::begins_itself))]
+#[inline(always)]
+fn gather_rest(
     into: &mut Vec<u8>,
+    buffer: &mut [u8; ROOM],
+    at: usize,
     entry: &Entry,
     read: &[u8],
     groups: &[Sid],
-) -> Result<(), OutOfMemory>
-    ensures ok { Puts into.old.items into.new.items
-        (rest_of (aside_of read.now groups.now) entry.now) result }
-    ensures err { OnErr result (BeginsWith into.new.items into.old.items) }
+) -> Result<usize, OutOfMemory>
+    requires { at + 60 < ROOM }
+    ensures ok { IfOk result (λ end. gathered into.new buffer.new end
+        ≡ gathered into.old buffer.old at ++ rest_of (aside_of read.now groups.now) entry.now) }
+    ensures room { IfOk result (λ end. end < ROOM) }
+    ensures front { BeginsWith into.new.items into.old.items }
     ensures capacity { vec_capacity into.old ≤ vec_capacity into.new }
-    ensures wanting { OnErr result (LacksRoom into.old
+    ensures wanting { OnErr result (Overfills into.old buffer.old at
         (rest_of (aside_of read.now groups.now) entry.now)) }
 {
     match entry {
@@ -35,13 +47,13 @@ fn put_rest(
             status,
             fields,
         } => {
-            put_ended(into, *tid, *call, *status)?;
-            put_fields(into, fields, read, groups)
+            let ended = write_ended(buffer, at, *tid, *call, *status);
+            gather_fields(into, buffer, ended, fields, read, groups)
         }
         Entry::Waits { tid, call, fields } => {
-            put_by(into, *tid, *call)?;
-            put(into, b" wait")?;
-            put_fields(into, fields, read, groups)
+            let by = write_by(buffer, at, *tid, *call);
+            let waits = write_text(buffer, by, b" wait");
+            gather_fields(into, buffer, waits, fields, read, groups)
         }
         Entry::Wakes {
             tid,
@@ -49,39 +61,46 @@ fn put_rest(
             status,
             fields,
         } => {
-            put(into, b"*")?;
-            put_ended(into, *tid, *call, *status)?;
-            put_fields(into, fields, read, groups)
+            let star = write_byte(buffer, at, b'*');
+            let ended = write_ended(buffer, star, *tid, *call, *status);
+            gather_fields(into, buffer, ended, fields, read, groups)
         }
-        Entry::Busy { tid } => put_state(into, *tid, b" busy"),
-        Entry::NoThread { tid } => put_state(into, *tid, b" nothread"),
-        Entry::Died { tid, status } => put_death(into, *tid, *status),
-        Entry::Directive { word, status } => put_directive(into, *word, *status),
+        Entry::Busy { tid } => Ok(write_state(buffer, at, *tid, b" busy")),
+        Entry::NoThread { tid } => Ok(write_state(buffer, at, *tid, b" nothread")),
+        Entry::Died { tid, status } => Ok(write_death(buffer, at, *tid, *status)),
+        Entry::Directive { word, status } => Ok(write_directive(buffer, at, *word, *status)),
     }
 }
 
-#[tactic(auto, using(std::proofs::Common::append_assoc, crate::proofs::Begins::begins_before), unfolding(lpc_model::specs::Text::entry_text))]
-fn put_entry(
+#[tactic(auto, using(std::proofs::Common::append_assoc, crate::proofs::Begins::begins_after), unfolding(lpc_model::specs::Text::entry_text))]
+#[inline(always)]
+fn gather_entry(
     into: &mut Vec<u8>,
+    buffer: &mut [u8; ROOM],
+    at: usize,
     line: u32,
     entry: &Entry,
     read: &[u8],
     groups: &[Sid],
-) -> Result<(), OutOfMemory>
-    ensures ok { Puts into.old.items into.new.items
-        (line_of line (aside_of read.now groups.now) entry.now) result }
-    ensures err { OnErr result (BeginsWith into.new.items into.old.items) }
+) -> Result<usize, OutOfMemory>
+    requires { at ≤ ROOM }
+    ensures ok { IfOk result (λ end. gathered into.new buffer.new end
+        ≡ gathered into.old buffer.old at
+        ++ line_of line (aside_of read.now groups.now) entry.now) }
+    ensures room { IfOk result (λ end. end ≤ ROOM) }
+    ensures front { BeginsWith into.new.items into.old.items }
     ensures capacity { vec_capacity into.old ≤ vec_capacity into.new }
-    ensures wanting { OnErr result (LacksRoom into.old
+    ensures wanting { OnErr result (Overfills into.old buffer.old at
         (line_of line (aside_of read.now groups.now) entry.now)) }
 {
-    put_number(into, u64::from(line))?;
-    put(into, b" ")?;
-    put_rest(into, entry, read, groups)?;
-    put(into, b"\n")
+    let start = make_room(into, buffer, at, FRONT_LIMIT)?;
+    let number = write_number(buffer, start, u64::from(line));
+    let space = write_byte(buffer, number, b' ');
+    let rest = gather_rest(into, buffer, space, entry, read, groups)?;
+    Ok(write_byte(buffer, rest, b'\n'))
 }
 
-#[tactic(auto, using(std::proofs::Common::append_assoc, crate::proofs::Begins::begins_before), unfolding(lpc_model::specs::Text::entries_text))]
+#[tactic(auto, using(std::proofs::Common::append_assoc, crate::proofs::Begins::begins_after, crate::proofs::Begins::begins_itself), unfolding(lpc_model::specs::Text::entries_text))]
 fn put_entries(
     into: &mut Vec<u8>,
     line: u32,
@@ -96,10 +115,12 @@ fn put_entries(
     ensures wanting { OnErr result (LacksRoom into.old
         (lines_of line (aside_of read.now groups.now) entries.now)) }
 {
+    let mut buffer = [0u8; ROOM];
+    let mut end = 0;
     for entry in entries {
-        put_entry(into, line, entry, read, groups)?;
+        end = gather_entry(into, &mut buffer, end, line, entry, read, groups)?;
     }
-    Ok(())
+    put(into, &buffer[..end])
 }
 
 // After want of memory takes away what was printed since the text was so long.

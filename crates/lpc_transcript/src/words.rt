@@ -1,13 +1,13 @@
-// The words of a transcript's line, each put behind the text so far. Each wants for memory only where there was no room
-// for it behind the text; what stood before still begins the text then. The text's capacity never shrinks. Those that
-// each line's text is made of are inlined, since a call of one costs as much as the few bytes that it puts.
-ghost use Rattle.std.specs.Prelude.{◌≡◌, ◌≤◌, ◌++◌, decimal, OnErr, vec_capacity};
+// The words of a text, each put behind the text so far. Each wants for memory only where there was no room for it
+// behind the text; what stood before still begins the text then. The text's capacity never shrinks. Numbers and digits
+// are inlined, since a call of one costs as much as the few bytes that it puts.
+ghost use Rattle.std.specs.Prelude.{◌≡◌, ◌≤◌, decimal, length, take, OnErr, vec_capacity};
 ghost use Rattle.hex.specs.Hex.{encode_lower};
-ghost use Rattle.lpc_model.specs.Text.{eight_digits, kind_text, by_text, status_text};
-ghost use Rattle.lpc_transcript.specs.Printing.{BeginsWith, LacksRoom, Puts, died_text, directive_text, ended_text, front_of};
+ghost use Rattle.lpc_model.specs.Text.{eight_digits, kind_text};
+ghost use Rattle.lpc_transcript.specs.Printing.{BeginsWith, LacksRoom, Puts, front_of};
 
-use lpc_base::{OutOfMemory, Status};
-use lpc_model::{CallName, FieldName, ObjectKind, Word};
+use lpc_base::OutOfMemory;
+use lpc_model::{FieldName, ObjectKind};
 
 /// Appends bytes as they stand.
 ///
@@ -98,116 +98,32 @@ pub fn kind_name(kind: ObjectKind) -> &'static [u8]
     }
 }
 
-/// What a field begins with: a space, its name as transcripts spell it, and an equals sign.
-pub(crate) fn field_front(name: FieldName) -> &'static [u8]
-    ensures { result.now ≡ front_of name }
+/// What a field begins with: a space, its name as transcripts spell it, and an equals sign. Spaces behind it make it a
+/// row of sixteen bytes, which is copied at once. Answers the row, and how many bytes count.
+pub(crate) fn field_front(name: FieldName) -> (&'static [u8; 16], usize)
+    ensures front { take result.1 result.0.now ≡ front_of name }
+    ensures count { result.1 ≡ length (front_of name) }
 {
     match name {
-        FieldName::H => b" h=",
-        FieldName::FirstThread => b" thread=",
-        FieldName::Id => b" id=",
-        FieldName::Ctx => b" ctx=",
-        FieldName::Msg => b" msg=",
-        FieldName::Data => b" data=",
-        FieldName::Max => b" max=",
-        FieldName::Info => b" info=",
-        FieldName::ObjectType => b" type=",
-        FieldName::Access => b" access=",
-        FieldName::Handles => b" handles=",
-        FieldName::Pointers => b" pointers=",
-        FieldName::Base => b" base=",
-        FieldName::Size => b" size=",
-        FieldName::Target => b" target=",
-        FieldName::ViewBase => b" vbase=",
-        FieldName::ViewSize => b" vsize=",
-        FieldName::User => b" user=",
-        FieldName::Groups => b" groups=",
-        FieldName::Level => b" level=",
+        FieldName::H => (b" h=             ", 3),
+        FieldName::FirstThread => (b" thread=        ", 8),
+        FieldName::Id => (b" id=            ", 4),
+        FieldName::Ctx => (b" ctx=           ", 5),
+        FieldName::Msg => (b" msg=           ", 5),
+        FieldName::Data => (b" data=          ", 6),
+        FieldName::Max => (b" max=           ", 5),
+        FieldName::Info => (b" info=          ", 6),
+        FieldName::ObjectType => (b" type=          ", 6),
+        FieldName::Access => (b" access=        ", 8),
+        FieldName::Handles => (b" handles=       ", 9),
+        FieldName::Pointers => (b" pointers=      ", 10),
+        FieldName::Base => (b" base=          ", 6),
+        FieldName::Size => (b" size=          ", 6),
+        FieldName::Target => (b" target=        ", 8),
+        FieldName::ViewBase => (b" vbase=         ", 7),
+        FieldName::ViewSize => (b" vsize=         ", 7),
+        FieldName::User => (b" user=          ", 6),
+        FieldName::Groups => (b" groups=        ", 8),
+        FieldName::Level => (b" level=         ", 7),
     }
-}
-
-/// A thread and its call.
-#[tactic(auto, using(std::proofs::Common::append_assoc, crate::proofs::Begins::begins_before))]
-#[inline(always)]
-pub(crate) fn put_by(into: &mut Vec<u8>, tid: u32, call: CallName) -> Result<(), OutOfMemory>
-    ensures ok { Puts into.old.items into.new.items (by_text tid call) result }
-    ensures err { OnErr result (BeginsWith into.new.items into.old.items) }
-    ensures capacity { vec_capacity into.old ≤ vec_capacity into.new }
-    ensures wanting { OnErr result (LacksRoom into.old (by_text tid call)) }
-{
-    put_number(into, u64::from(tid))?;
-    put(into, b" ")?;
-    put(into, call.name())
-}
-
-#[tactic(auto, using(std::proofs::Common::append_assoc, crate::proofs::Begins::begins_before))]
-fn put_status(into: &mut Vec<u8>, status: Status) -> Result<(), OutOfMemory>
-    ensures ok { Puts into.old.items into.new.items (status_text status) result }
-    ensures err { OnErr result (BeginsWith into.new.items into.old.items) }
-    ensures capacity { vec_capacity into.old ≤ vec_capacity into.new }
-    ensures wanting { OnErr result (LacksRoom into.old (status_text status)) }
-{
-    put(into, b" ")?;
-    put_digits(into, status.0)
-}
-
-/// A thread, its call and the status with which the call ended.
-#[tactic(auto, using(std::proofs::Common::append_assoc, crate::proofs::Begins::begins_before))]
-#[inline(always)]
-pub(crate) fn put_ended(
-    into: &mut Vec<u8>,
-    tid: u32,
-    call: CallName,
-    status: Status,
-) -> Result<(), OutOfMemory>
-    ensures ok { Puts into.old.items into.new.items (ended_text tid call status) result }
-    ensures err { OnErr result (BeginsWith into.new.items into.old.items) }
-    ensures capacity { vec_capacity into.old ≤ vec_capacity into.new }
-    ensures wanting { OnErr result (LacksRoom into.old (ended_text tid call status)) }
-{
-    put_by(into, tid, call)?;
-    put_status(into, status)
-}
-
-/// A thread that made no call, and why.
-#[tactic(auto, using(std::proofs::Common::append_assoc, crate::proofs::Begins::begins_before))]
-pub(crate) fn put_state(into: &mut Vec<u8>, tid: u32, state: &[u8]) -> Result<(), OutOfMemory>
-    ensures ok { Puts into.old.items into.new.items (decimal tid ++ state.now) result }
-    ensures err { OnErr result (BeginsWith into.new.items into.old.items) }
-    ensures capacity { vec_capacity into.old ≤ vec_capacity into.new }
-    ensures wanting { OnErr result (LacksRoom into.old (decimal tid ++ state.now)) }
-{
-    put_number(into, u64::from(tid))?;
-    put(into, state)
-}
-
-/// A thread that died, and the status with which it did.
-#[tactic(auto, using(std::proofs::Common::append_assoc, crate::proofs::Begins::begins_before))]
-pub(crate) fn put_death(into: &mut Vec<u8>, tid: u32, status: Status) -> Result<(), OutOfMemory>
-    ensures ok { Puts into.old.items into.new.items (died_text tid status) result }
-    ensures err { OnErr result (BeginsWith into.new.items into.old.items) }
-    ensures capacity { vec_capacity into.old ≤ vec_capacity into.new }
-    ensures wanting { OnErr result (LacksRoom into.old (died_text tid status)) }
-{
-    put(into, b"~")?;
-    put_number(into, u64::from(tid))?;
-    put(into, b" died")?;
-    put_status(into, status)
-}
-
-/// A directive and its status.
-#[tactic(auto, using(std::proofs::Common::append_assoc, crate::proofs::Begins::begins_before))]
-pub(crate) fn put_directive(
-    into: &mut Vec<u8>,
-    word: Word,
-    status: Status,
-) -> Result<(), OutOfMemory>
-    ensures ok { Puts into.old.items into.new.items (directive_text word status) result }
-    ensures err { OnErr result (BeginsWith into.new.items into.old.items) }
-    ensures capacity { vec_capacity into.old ≤ vec_capacity into.new }
-    ensures wanting { OnErr result (LacksRoom into.old (directive_text word status)) }
-{
-    put(into, b"- ")?;
-    put(into, word.name())?;
-    put_status(into, status)
 }
