@@ -5,7 +5,7 @@ use Rattle.lpc_base.specs.Rows.{when}
 use Rattle.lpc_base.specs.declared.birth.Birth.{Birth}
 use Rattle.lpc_model.specs.declared.entry.Entry.{Entry}
 use Rattle.lpc_model.specs.World.{World, MessageRow}
-use Rattle.lpc_model.specs.Message.{asks}
+use Rattle.lpc_model.specs.Message.{asks, message_of}
 use Rattle.lpc_model.specs.Basics.{Basic, Marks, Receives, Takes, Tells, Wakes, basic, entries_of, world_after}
 use Rattle.lpc_model.specs.Sweep.{loosened}
 use Rattle.lpc_model.specs.declared.entry.CallName.{CallName}
@@ -50,12 +50,12 @@ taken-by : (w : World) (es : List Entry) (loose : Bool) (own : Entry) (replied :
     ≡ record { world = world_after (world_after (basic w (Takes m.queue)) (replied_steps w replied)) (received-if m a); entries = (es ++ own ∷ []) ++ entries_of (replied_steps w replied); loose = true }
 taken-by w es loose own None m true = λ i. record { world = world_after (basic w (Takes m.queue)) (received-if m true); entries = append-one es own [] i; loose = true }
 taken-by w es loose own None m false = λ i. record { world = basic w (Takes m.queue); entries = append-one es own [] i; loose = true }
-taken-by w es loose own (Some r) m a = reply-holds (TakesBehind w es loose own m a) (waiter w r.thread) r.message (λ s fields. behind-wake w es loose own m a _ _ s fields) (behind-mark w es loose own m a _)
+taken-by w es loose own (Some r) m a = reply-holds (TakesBehind w es loose own m a) (waiter w r.thread) (message_of r.message.now) (λ s fields. behind-wake w es loose own m a _ _ s fields) (behind-mark w es loose own m a _)
 
 -- behind a message that was taken, a reply leaves the mark that a row went
 still-loose : (w : World) (es : List Entry) (replied : Option Replied) → (left_by w es true (replied_steps w replied)).loose ≡ true
 still-loose w es None = refl
-still-loose w es (Some r) = reply-holds (λ b. loosened true (b ∷ []) ≡ true) (waiter w r.thread) r.message (λ s fields. refl) refl
+still-loose w es (Some r) = reply-holds (λ b. loosened true (b ∷ []) ≡ true) (waiter w r.thread) (message_of r.message.now) (λ s fields. refl) refl
 
 -- what a taken message leaves, behind a reply
 pub taken : (w : World) (es : List Entry) (loose : Bool) (own : Entry) (replied : Option Replied) (m : MessageRow) (a : Bool) (pulled answered after : World) (list : List Entry) (mark last_mark : Bool)

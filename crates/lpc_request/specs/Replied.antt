@@ -1,10 +1,12 @@
 -- Replies, and the reply that a receive makes first.
 use Rattle.std.specs.Prelude.{◌≡◌, ℕ, ◌+◌, ◌≤◌, true, false, List, [], ◌∷◌, length, Option, Some, None}
 use Rattle.lpc_base.specs.Rows.{first, has}
+use Rattle.lpc_base.specs.declared.limits.TheConstants.{MESSAGE_LIMIT}
 use Rattle.lpc_model.specs.World.{World}
 use Rattle.lpc_model.specs.Basics.{Basic}
 use Rattle.lpc_model.specs.Found.{is_mark, is_queued, waits_as}
 use Rattle.lpc_model.specs.Listed.{Listed}
+use Rattle.lpc_model.specs.Message.{message_of}
 use Rattle.lpc_model.specs.Request as request
 use Rattle.lpc_model.specs.Request.{reply}
 use Rattle.lpc_model.specs.declared.message.Message.{Message}
@@ -25,16 +27,17 @@ Returns tid answered m old new before after =
 -- the steps of a reply that is made, none where there is none
 abbrev pub replied_steps : World → Option Replied → List Basic
 replied_steps w None = []
-replied_steps w (Some r) = reply (waiter w r.thread) r.message ∷ []
+replied_steps w (Some r) = reply (waiter w r.thread) (message_of r.message.now) ∷ []
 
 abbrev pub RepliesFirst : Option Replied → Kept → Kept → Listed → Listed → Type 0
 RepliesFirst replied old new before after = Took (replied_steps old.rows replied) old new before after
 
--- the thread waits, no message of its own stands in a queue, and its event, if it waits with one, isn't marked
+-- the thread waits, no message of its own stands in a queue, and its event, if it waits with one, isn't marked; the
+-- message is no longer than a message may be
 abbrev pub may_be_told : World → Option Replied → Type 0
 may_be_told w None = Unit {0}
 may_be_told w (Some r) =
-    (has (waits_as r.thread) w.waits ≡ true) × ((has_queued w r.thread ≡ false) × (has (is_mark r.thread) w.marks ≡ false))
+    (has (waits_as r.thread) w.waits ≡ true) × ((has_queued w r.thread ≡ false) × ((has (is_mark r.thread) w.marks ≡ false) × (length r.message.now ≤ MESSAGE_LIMIT)))
 
 -- all but waits and marks is as it was
 abbrev pub KeepsButWaits : World → World → Type 0

@@ -3,6 +3,7 @@ use Rattle.std.specs.Prelude.{ℕ, List, Result}
 use Rattle.lpc_base.specs.declared.status.Status.{Status}
 use Rattle.lpc_message.specs.declared.kind.TheConstants.{DATAGRAM, REQUEST}
 use Rattle.lpc_model.specs.Listed.{Listed}
+use Rattle.lpc_model.specs.Message.{message_of}
 use Rattle.lpc_model.specs.Request as request
 use Rattle.lpc_model.specs.declared.message.Message.{Message}
 use Rattle.lpc_procs.specs.declared.rows.Caller.{Caller}
@@ -16,7 +17,7 @@ use Rattle.lpc_rows.specs.Callers.{shown_caller}
 
 -- a message that may be sent, with the rows of its port and its queue
 abbrev pub shown : Kept → Sendable → request.Sendable
-shown w s = record { port = port_at w s.port; message = s.message; queue = birth_at w s.queue }
+shown w s = record { port = port_at w s.port; message = message_of s.message.now; queue = birth_at w s.queue }
 
 -- the tests of a message that a thread sends on a handle, and those of a datagram
 abbrev pub may_send : Kept → ℕ → ℕ → List ℕ → Result request.Sendable Status

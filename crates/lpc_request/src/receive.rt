@@ -19,24 +19,25 @@ ghost use Rattle.lpc_steps.specs.Settling.{CanSettle};
 use crate::reply::return_reply;
 use lpc_base::Status;
 use lpc_base::status::SUCCESS;
-use lpc_model::{CallName, Entries, Entry, Fields, Message, Outcome, kept, receipt, refuse};
+use lpc_message::{MessageRef, read_header};
+use lpc_model::{CallName, Entries, Entry, Fields, Outcome, refuse};
 use lpc_procs::Caller;
 use lpc_slots::Key;
-use lpc_steps::{port_at, read_message, receive_test, reply_test, wants_answer};
+use lpc_steps::{asks_for_answer, bytes_receipt, port_at, read_message, receive_test, reply_test};
 use lpc_waits::{Wait, WaitKind};
 use lpc_world::World;
 
-/// A reply that a receive makes first: the thread that asked, and the message.
+/// A reply that a receive makes first: the thread that asked, and the message, where it lies.
 #[derive(Drop)]
-pub struct Replied {
+pub struct Replied<'a> {
     /// The number of the thread that asked.
     pub thread: u32,
     /// The message of the reply.
-    pub message: Message,
+    pub message: MessageRef<'a>,
 }
 
 /// Makes the reply, where there is one.
-fn make_reply(world: &mut World, replied: &Option<Replied>, out: &mut Entries)
+fn make_reply(world: &mut World, replied: &Option<Replied<'_>>, out: &mut Entries)
     requires spare { 1 ≤ out.old.spare }
     requires told { may_be_told world.old.rows replied.now }
     ensures takes { RepliesFirst replied.now world.old world.new out.old out.new }
@@ -60,7 +61,7 @@ fn wait_for_message(
     by: &Caller,
     port: Key,
     queue: Key,
-    replied: &Option<Replied>,
+    replied: &Option<Replied<'_>>,
     out: &mut Entries,
 )
     requires spare { 2 ≤ out.old.spare }
@@ -105,7 +106,7 @@ fn take_or_wait(
     by: &Caller,
     port: Key,
     queue: Key,
-    replied: &Option<Replied>,
+    replied: &Option<Replied<'_>>,
     out: &mut Entries,
 ) -> Outcome
     requires spare { 2 ≤ out.old.spare }
@@ -126,16 +127,17 @@ fn take_or_wait(
 {
     match world.ports_pull(queue) {
         Some(taken) => {
-            let message = Message::from_bytes(taken.bytes.as_slice());
+            let asked = asks_for_answer(taken.bytes.as_slice());
+            let client = read_header(taken.bytes.as_slice()).client;
             out.push(Entry::Answer {
                 tid: by.number,
                 call: CallName::NtReplyWaitReceivePort,
                 status: SUCCESS,
-                fields: receipt(taken.context, &message),
+                fields: bytes_receipt(taken.context, taken.bytes),
             });
             make_reply(world, replied, out);
-            if wants_answer(&message) {
-                world.waits_receive(message.header.client.thread, queue);
+            if asked {
+                world.waits_receive(client.thread, queue);
             }
             Outcome::Answered(SUCCESS)
         }
@@ -198,9 +200,9 @@ fn reply_and_receive(
     ensures spare { out.old.spare ≤ out.new.spare + 2 }
 {
     let port = port_at(world, tid, handle)?;
-    let message = kept(&read_message(reply)?);
+    let message = read_message(reply)?;
     let queue = receive_test(world, port)?;
-    let thread = reply_test(world, port, message.header)?;
+    let thread = reply_test(world, port, message.header())?;
     let replied = Some(Replied { thread, message });
     Ok(take_or_wait(world, by, port, queue, &replied, out))
 }

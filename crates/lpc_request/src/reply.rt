@@ -1,14 +1,15 @@
 // The reply to a request.
-ghost use Rattle.std.specs.Prelude.{[], ◌∷◌, ◌≡◌, ◌≤◌, ◌<◌, take, true, false, ◌+◌};
+ghost use Rattle.std.specs.Prelude.{[], ◌∷◌, ◌≡◌, ◌≤◌, ◌<◌, length, take, true, false, ◌+◌};
 ghost use Rattle.byteorder.specs.Endian.{little_bytes};
 ghost use Rattle.lpc_base.specs.Rows.{has};
-ghost use Rattle.lpc_base.specs.declared.limits.TheConstants.{LINES_LIMIT};
+ghost use Rattle.lpc_base.specs.declared.limits.TheConstants.{LINES_LIMIT, MESSAGE_LIMIT};
 ghost use Rattle.lpc_base.specs.declared.status.TheConstants.{DBG_CONTINUE};
 ghost use Rattle.lpc_model.specs.Found.{is_mark, waits_as};
 ghost use Rattle.lpc_model.specs.Request as request;
 ghost use Rattle.lpc_model.specs.Settle.{has_event};
 ghost use Rattle.lpc_model.specs.Lines.{reply_port};
 ghost use Rattle.lpc_model.specs.Message as kept;
+ghost use Rattle.lpc_model.specs.Message.{message_of};
 ghost use Rattle.lpc_request.specs.Called.{Answered};
 ghost use Rattle.lpc_request.specs.Replied.{KeepsButWaits, MakesWaits, Returns};
 ghost use Rattle.lpc_rows.specs.Called.{Served};
@@ -18,23 +19,29 @@ ghost use Rattle.lpc_rows.specs.Callers.{as_caller};
 ghost use Rattle.lpc_rows.specs.Ready.{HasRoom, caller, is_ready, waiter};
 ghost use Rattle.lpc_steps.specs.Settling.{CanSettle};
 
+use arrayvec::ArrayVec;
 use byteorder::{ByteOrder, LittleEndian};
 use lpc_base::Status;
 use lpc_base::status::{DBG_CONTINUE, SUCCESS};
-use lpc_message::kind;
-use lpc_model::{CallName, Entries, Entry, Fields, Message, Outcome, kept, message_field, refuse};
+use lpc_message::{Header, MessageRef, kind};
+use lpc_model::{CallName, Entries, Entry, Fields, Outcome, refuse};
 use lpc_procs::Caller;
-use lpc_steps::{port_at, read_message, reply_test, wake};
+use lpc_steps::{bytes_field, end_waiting, port_at, read_message, reply_test, wake, written};
 use lpc_world::World;
 
-/// A message as a reply returns it: type 2 and no section, all else as it is.
-pub fn as_reply(message: &Message) -> Message
-    ensures { result ≡ kept.as_reply message.now }
+/// The bytes of a message as a reply returns it: type 2 and no section, all else as it is.
+#[inline(always)]
+fn as_reply(message: &MessageRef<'_>) -> ArrayVec<u8, 256>
+    requires bound { length message.now.now ≤ MESSAGE_LIMIT }
+    ensures message { message_of result.items ≡ kept.as_reply (message_of message.now.now) }
+    ensures long { 24 ≤ length result.items }
 {
-    let mut reply = message.copy();
-    reply.header.kind = kind::REPLY;
-    reply.header.section_size = 0;
-    reply
+    let header = Header {
+        kind: kind::REPLY,
+        section_size: 0,
+        ..message.header()
+    };
+    written(header, message.body())
 }
 
 #[tactic(auto, unfolding(lpc_model::specs::Request::nt_reply_port))]
@@ -57,8 +64,8 @@ fn reply(
     ensures spare { out.old.spare ≤ out.new.spare + 2 }
 {
     let port = port_at(world, tid, handle)?;
-    let message = kept(&read_message(message)?);
-    let answered = reply_test(world, port, message.header)?;
+    let message = read_message(message)?;
+    let answered = reply_test(world, port, message.header())?;
     send_reply(world, tid, by, answered, &message, out);
     Ok(Outcome::Answered(SUCCESS))
 }
@@ -80,25 +87,22 @@ fn continue_bytes() -> [u8; 4]
 }
 
 /// The data of a message begin with these four bytes.
-fn handles_event(message: &Message) -> bool
-    ensures { result ≡ request.handles_event message.now }
+fn handles_event(message: &MessageRef<'_>) -> bool
+    ensures { result ≡ request.handles_event (message_of message.now.now) }
 {
-    let data = front(
-        message.body.as_slice(),
-        usize::from(message.header.data_size),
-    );
+    let data = front(message.body(), usize::from(message.header().data_size));
     front(data, 4) == continue_bytes().as_slice()
 }
 
 /// A reply to an event wakes the thread of its exception, or marks the event as not handled.
-fn reply_to_event(world: &mut World, answered: u32, message: &Message, out: &mut Entries)
+fn reply_to_event(world: &mut World, answered: u32, message: &MessageRef<'_>, out: &mut Entries)
     requires spare { 1 ≤ out.old.spare }
     requires waits { has (waits_as answered) world.old.rows.waits ≡ true }
     requires event { has_event world.old.rows answered ≡ true }
     requires left { has_queued world.old.rows answered ≡ false }
     requires unmarked { has (is_mark answered) world.old.rows.marks ≡ false }
     ensures takes { let x = waiter world.old.rows answered in
-        Took (request.reply_to_event x message.now ∷ []) world.old world.new out.old out.new }
+        Took (request.reply_to_event x (message_of message.now.now) ∷ []) world.old world.new out.old out.new }
     ensures births { world.new.births ≡ world.old.births }
     ensures calls { world.new.calls ≡ world.old.calls }
     ensures capacity { world.new.capacity ≡ world.old.capacity }
@@ -117,15 +121,21 @@ fn reply_to_event(world: &mut World, answered: u32, message: &Message, out: &mut
 
 /// A reply to a request wakes the thread that asked, with the reply's message; one to an event wakes the thread of its
 /// exception, or marks the event as not handled.
-// Inlined, so that the message is copied to the entry and no further.
+// Inlined, so that the bytes are copied to the entry and no further.
 #[inline(always)]
-pub(crate) fn return_reply(world: &mut World, answered: u32, message: &Message, out: &mut Entries)
+pub(crate) fn return_reply(
+    world: &mut World,
+    answered: u32,
+    message: &MessageRef<'_>,
+    out: &mut Entries,
+)
     requires spare { 1 ≤ out.old.spare }
     requires waits { has (waits_as answered) world.old.rows.waits ≡ true }
     requires left { has_queued world.old.rows answered ≡ false }
     requires unmarked { has (is_mark answered) world.old.rows.marks ≡ false }
+    requires bound { length message.now.now ≤ MESSAGE_LIMIT }
     ensures takes { let x = waiter world.old.rows answered in
-        Took (request.reply x message.now ∷ []) world.old world.new out.old out.new }
+        Took (request.reply x (message_of message.now.now) ∷ []) world.old world.new out.old out.new }
     ensures births { world.new.births ≡ world.old.births }
     ensures calls { world.new.calls ≡ world.old.calls }
     ensures capacity { world.new.capacity ≡ world.old.capacity }
@@ -137,13 +147,15 @@ pub(crate) fn return_reply(world: &mut World, answered: u32, message: &Message, 
 {
     match world.raised(answered) {
         Some(_) => reply_to_event(world, answered, message, out),
-        None => wake(
-            world,
-            answered,
-            SUCCESS,
-            message_field(&as_reply(message)),
-            out,
-        ),
+        None => {
+            let call = end_waiting(world, answered);
+            out.push(Entry::Wakes {
+                tid: answered,
+                call,
+                status: SUCCESS,
+                fields: bytes_field(as_reply(message)),
+            });
+        }
     }
 }
 
@@ -153,7 +165,7 @@ fn send_reply(
     tid: u32,
     by: &Caller,
     answered: u32,
-    message: &Message,
+    message: &MessageRef<'_>,
     out: &mut Entries,
 )
     requires spare { 2 ≤ out.old.spare }
@@ -161,7 +173,8 @@ fn send_reply(
     requires waits { has (waits_as answered) world.old.rows.waits ≡ true }
     requires left { has_queued world.old.rows answered ≡ false }
     requires unmarked { has (is_mark answered) world.old.rows.marks ≡ false }
-    ensures takes { Returns tid answered message.now world.old world.new out.old out.new }
+    requires bound { length message.now.now ≤ MESSAGE_LIMIT }
+    ensures takes { Returns tid answered (message_of message.now.now) world.old world.new out.old out.new }
     ensures keeps { MakesWaits 0 world.old world.new }
     ensures calls { world.new.calls ≡ world.old.calls }
     ensures capacity { world.new.capacity ≡ world.old.capacity }

@@ -1,9 +1,10 @@
 // The calls that send.
-ghost use Rattle.std.specs.Prelude.{◌≡◌, ◌≤◌, ◌<◌, true, false, IfOk, OnErr, ◌+◌, OnOk, IsErr};
+ghost use Rattle.std.specs.Prelude.{◌≡◌, ◌≤◌, ◌<◌, true, false, IfOk, OnErr, ◌+◌, OnOk, IsErr, length};
 ghost use Rattle.lpc_base.specs.Rows.{has};
-ghost use Rattle.lpc_base.specs.declared.limits.TheConstants.{LINES_LIMIT};
+ghost use Rattle.lpc_base.specs.declared.limits.TheConstants.{LINES_LIMIT, MESSAGE_LIMIT};
 ghost use Rattle.lpc_model.specs.Found.{is_live_thread, is_thread, waits_as};
 ghost use Rattle.lpc_model.specs.Lines.{request_port, request_wait_reply_port};
+ghost use Rattle.lpc_model.specs.Message.{message_of};
 ghost use Rattle.lpc_model.specs.Request as request;
 ghost use Rattle.lpc_steps.specs.Clauses.{IsUnderName};
 ghost use Rattle.lpc_request.specs.Called.{Asked};
@@ -15,40 +16,45 @@ ghost use Rattle.lpc_rows.specs.Names.{stands};
 ghost use Rattle.lpc_rows.specs.Ready.{HasRoom, caller, is_ready};
 ghost use Rattle.lpc_rows.specs.Callers.{as_caller, shown_caller};
 
+use arrayvec::ArrayVec;
 use lpc_base::status::{PORT_DISCONNECTED, SUCCESS};
 use lpc_base::{OutOfMemory, Status};
-use lpc_message::{ClientId, kind};
-use lpc_model::{CallName, Entries, Entry, Message, Outcome, identifier_field, kept, refuse};
+use lpc_message::{ClientId, Header, MessageRef, kind};
+use lpc_model::{CallName, Entries, Entry, Outcome, identifier_field, refuse};
 use lpc_procs::Caller;
 use lpc_slots::Key;
-use lpc_steps::{context, deliver, port_at, read_message, route, wait_with};
+use lpc_steps::{context, deliver_bytes, port_at, read_message, route, wait_with_bytes, written};
 use lpc_waits::{Wait, WaitKind};
 use lpc_world::World;
 
-/// A message that may be sent on a port, and the queue that it will enter.
+/// A message that may be sent on a port, where it lies, and the queue that it will enter.
 #[derive(Drop)]
-pub struct Sendable {
+pub struct Sendable<'a> {
     /// The port on which it is sent.
     pub port: Key,
     /// The queue that it will enter.
     pub queue: Key,
     /// The message as the call was given it.
-    pub message: Message,
+    pub message: MessageRef<'a>,
 }
 
 /// The tests of a message that is sent: the handle, the message, no route.
-// Inlined, since what it hands back holds a message.
-#[inline(always)]
-fn send_test(world: &World, tid: u32, handle: u32, bytes: &[u8]) -> Result<Sendable, Status>
+fn send_test<'a>(
+    world: &World,
+    tid: u32,
+    handle: u32,
+    bytes: &'a [u8],
+) -> Result<Sendable<'a>, Status>
     requires { is_ready world.now.rows tid ≡ true }
     ensures found { Answers result (shown world.now) (may_send world.now tid handle bytes.now) }
     ensures port { IfOk result (λ s. stands world.now.births.ports s.port ≡ true) }
     ensures queue { IfOk result (λ s. stands world.now.births.ports s.queue ≡ true) }
     ensures name { IfOk result
         (λ s. IsUnderName world.now s.port) }
+    ensures bound { IfOk result (λ s. length s.message.now ≤ MESSAGE_LIMIT) }
 {
     let port = port_at(world, tid, handle)?;
-    let message = kept(&read_message(bytes)?);
+    let message = read_message(bytes)?;
     let Some(queue) = route(world, port) else {
         return Err(PORT_DISCONNECTED);
     };
@@ -59,20 +65,26 @@ fn send_test(world: &World, tid: u32, handle: u32, bytes: &[u8]) -> Result<Senda
     })
 }
 
-/// The message as its sender's call sends it: its type, its sender, the identifier that the sender draws and no section
-/// are written over.
-fn sent_by(by: &Caller, kind: u16, message: &Message) -> Message
-    ensures { result ≡ request.sent_by (shown_caller by.now) kind message.now }
+/// The bytes of the message as its sender's call sends it: its type, its sender, the identifier that the sender draws
+/// and no section are written over.
+#[inline(always)]
+fn sent_by(by: &Caller, kind: u16, message: &MessageRef<'_>) -> ArrayVec<u8, 256>
+    requires bound { length message.now.now ≤ MESSAGE_LIMIT }
+    ensures message { message_of result.items
+        ≡ request.sent_by (shown_caller by.now) kind (message_of message.now.now) }
+    ensures long { 24 ≤ length result.items }
 {
-    let mut sent = message.copy();
-    sent.header.kind = kind;
-    sent.header.client = ClientId {
-        process: by.process,
-        thread: by.number,
+    let header = Header {
+        kind,
+        client: ClientId {
+            process: by.process,
+            thread: by.number,
+        },
+        message_id: by.next_identifier,
+        section_size: 0,
+        ..message.header()
     };
-    sent.header.message_id = by.next_identifier;
-    sent.header.section_size = 0;
-    sent
+    written(header, message.body())
 }
 
 // NtRequestPort
@@ -83,9 +95,10 @@ fn send_datagram(
     by: &Caller,
     port: Key,
     queue: Key,
-    message: &Message,
+    message: &MessageRef<'_>,
     out: &mut Entries,
 )
+    requires bound { length message.now.now ≤ MESSAGE_LIMIT }
     requires spare { 2 ≤ out.old.spare }
     requires budget { HasWholeBudget world.old }
     requires thread { has (is_thread by.now.number) world.old.rows.threads ≡ true }
@@ -93,7 +106,7 @@ fn send_datagram(
     requires queue { stands world.old.births.ports queue ≡ true }
     requires name { IsUnderName world.old port }
     requires room { 0 < world.old.room.messages }
-    ensures takes { Sends by.now port queue message.now world.old world.new out.old out.new }
+    ensures takes { Sends by.now port queue (message_of message.now.now) world.old world.new out.old out.new }
     ensures calls { world.new.calls ≡ world.old.calls }
     ensures capacity { world.new.capacity ≡ world.old.capacity }
     ensures spare { out.old.spare ≤ out.new.spare + 2 }
@@ -107,17 +120,23 @@ fn send_datagram(
         fields: identifier_field(by.next_identifier),
     });
     world.procs_draw_identifier(by.number);
-    deliver(world, queue, port, context, &sent, out);
+    deliver_bytes(world, queue, port, context, sent.as_slice(), out);
 }
 
 /// The tests of a datagram: those of a message that is sent, and 32 datagrams that aren't received.
-fn datagram_test(world: &World, tid: u32, handle: u32, bytes: &[u8]) -> Result<Sendable, Status>
+fn datagram_test<'a>(
+    world: &World,
+    tid: u32,
+    handle: u32,
+    bytes: &'a [u8],
+) -> Result<Sendable<'a>, Status>
     requires { is_ready world.now.rows tid ≡ true }
     ensures found { Answers result (shown world.now) (may_post world.now tid handle bytes.now) }
     ensures port { IfOk result (λ s. stands world.now.births.ports s.port ≡ true) }
     ensures queue { IfOk result (λ s. stands world.now.births.ports s.queue ≡ true) }
     ensures name { IfOk result
         (λ s. IsUnderName world.now s.port) }
+    ensures bound { IfOk result (λ s. length s.message.now ≤ MESSAGE_LIMIT) }
 {
     let sent = send_test(world, tid, handle, bytes)?;
     lpc_steps::datagram_test(world, sent.port)?;
@@ -178,9 +197,10 @@ fn send_request(
     by: &Caller,
     port: Key,
     queue: Key,
-    message: &Message,
+    message: &MessageRef<'_>,
     out: &mut Entries,
 )
+    requires bound { length message.now.now ≤ MESSAGE_LIMIT }
     requires spare { 2 ≤ out.old.spare }
     requires budget { HasWholeBudget world.old }
     requires thread { has (is_thread by.now.number) world.old.rows.threads ≡ true }
@@ -189,7 +209,7 @@ fn send_request(
     requires port { stands world.old.births.ports port ≡ true }
     requires queue { stands world.old.births.ports queue ≡ true }
     requires name { IsUnderName world.old port }
-    ensures takes { Requests by.now port queue message.now world.old world.new out.old out.new }
+    ensures takes { Requests by.now port queue (message_of message.now.now) world.old world.new out.old out.new }
     ensures calls { world.new.calls ≡ world.old.calls }
     ensures capacity { world.new.capacity ≡ world.old.capacity }
     ensures spare { out.old.spare ≤ out.new.spare + 2 }
@@ -201,7 +221,7 @@ fn send_request(
         call: CallName::NtRequestWaitReplyPort,
         fields: identifier_field(by.next_identifier),
     });
-    wait_with(
+    wait_with_bytes(
         world,
         by.number,
         Wait {
@@ -212,10 +232,10 @@ fn send_request(
             identifier: by.next_identifier,
             received: false,
         },
-        &sent,
+        sent.as_slice(),
     );
     world.procs_draw_identifier(by.number);
-    deliver(world, queue, port, context, &sent, out);
+    deliver_bytes(world, queue, port, context, sent.as_slice(), out);
 }
 
 #[tactic(auto, unfolding(lpc_model::specs::Request::nt_request_wait_reply_port))]

@@ -7,7 +7,7 @@ use Rattle.std.proofs.lemmas.List.{append-nil}
 use Rattle.lpc_base.specs.declared.birth.Birth.{Birth}
 use Rattle.lpc_base.specs.Rows.{each, first, has, which, without}
 use Rattle.lpc_model.specs.declared.entry.Entry.{Entry}
-use Rattle.lpc_model.specs.Basics.{Basic, Marks, Withdraws, basic, entries_of, world_after}
+use Rattle.lpc_model.specs.Basics.{Basic, Marks, Withdraws, basic, world_after}
 use Rattle.lpc_model.specs.Close.{is_event_on, is_unmarked_event, mark_event}
 use Rattle.lpc_model.specs.Found.{is_mark, is_the, pair_of, waits_as}
 use Rattle.lpc_model.specs.World.{WaitRow, World}
@@ -21,7 +21,6 @@ use Rattle.lpc_steps.specs.declared.marking.Marking.TheVariants.{Queued, Sent, S
 use Rattle.lpc_steps.proofs.Composed.{left-append, left_further}
 use Rattle.lpc_steps.proofs.Endings.{which-none, which-rest}
 use Rattle.lpc_steps.proofs.NextEnding.{turned}
-use Rattle.lpc_rows.proofs.Finished.{own-waiter}
 
 -- a mark more
 marked-more : (n tid : ℕ) (marks : List ℕ) → has (is_mark n) (marks ++ tid ∷ []) ≡ has (is_mark n) marks || (n == tid)

@@ -1,4 +1,5 @@
-use Rattle.std.proofs.Common.{rules, ◌≡◌, [], ◌∷◌, None, Some, ap, sym, ◌∙◌}
+use Rattle.std.proofs.Common.{◌≡◌, [], ◌∷◌, None, Some, ap, refl, sym, ◌∙◌}
+use Rattle.lpc_model.specs.Message.{message_of}
 use Rattle.lpc_model.specs.Raise.{raised_in}
 use Rattle.lpc_model.specs.World.{WaitRow}
 use Rattle.lpc_rows.specs.Does.{left_by}
@@ -16,15 +17,15 @@ pub returns-in-Some-clause-takes : goal.returns-in-Some-clause-takes
 returns-in-Some-clause-takes c =
     let x : WaitRow = waiter c.args.world.now.rows c.args.answered in
     let at : raised_in x ≡ Some (shown_raised c.in-Some.field-0) = sym (raised-of c.args.world.now.rows c.args.answered c.requires.waits) ∙ sym c.in-Some.ensures.raised in
-    c.reply_to_event.ensures.takes ∙ ap (λ b. left_by c.args.world.now.rows c.args.out.now.list c.args.world.now.loose (b ∷ [])) (sym (to-event x c.args.message.now (shown_raised c.in-Some.field-0) at))
+    c.reply_to_event.ensures.takes ∙ ap (λ b. left_by c.args.world.now.rows c.args.out.now.list c.args.world.now.loose (b ∷ [])) (sym (to-event x (message_of c.args.message.now.now) (shown_raised c.in-Some.field-0) at))
 
 pub returns-in-None-clause-takes : goal.returns-in-None-clause-takes
 returns-in-None-clause-takes c =
     let x : WaitRow = waiter c.args.world.now.rows c.args.answered in
     let none : raised_in x ≡ None = sym (raised-of c.args.world.now.rows c.args.answered c.requires.waits) ∙ sym c.in-None.ensures.raised in
-    rw (to-request x c.args.message.now none) (search rules)
+    rw (to-request x (message_of c.args.message.now.now) none, c.end_waiting-call.ensures.thread, c.push.ensures.list, c.bytes_field.ensures, c.as_reply.ensures.message, c.end_waiting-call.ensures.call, c.end_waiting-call.ensures.step.rows, c.end_waiting-call.ensures.loose) refl
 
 pub returns-in-None-clause-keeps : goal.returns-in-None-clause-keeps
 returns-in-None-clause-keeps c =
     let x : WaitRow = waiter c.args.world.now.rows c.args.answered in
-    waking-makes c.args.world.now c.wake.new.world x.thread c.wake.ensures.step.rows c.wake.ensures.step.made
+    waking-makes c.args.world.now c.end_waiting-call.new.world c.args.answered c.end_waiting-call.ensures.step.rows c.end_waiting-call.ensures.step.made
