@@ -1,15 +1,13 @@
 -- What is left where the messages that pass a test go one after the other.
-use Rattle.std.proofs.Common.{◌≡◌, ◌+◌, ◌<◌, ◌||◌, ℕ, List, [], ◌∷◌, Bool, true, false, Option, Some, None, OnSome, is_some, length, option_map, refl, sym, ap, subst, ◌∙◌, true≢false, arith}
+use Rattle.std.proofs.Common.{◌≡◌, ◌+◌, ◌<◌, ◌||◌, ℕ, List, [], ◌∷◌, Bool, true, false, Option, Some, None, is_some, length, option_map, refl, sym, ap, subst, ◌∙◌, arith, IsSome}
 use Rattle.lpc_base.specs.Rows.{count, first, has, without, without_first}
 use Rattle.lpc_base.proofs.RowWords.{count-none, without-none}
-use Rattle.lpc_slots.specs.Table.{keys_of}
+use Rattle.lpc_slots.specs.Table.{at_key, keys_of}
 use Rattle.lpc_slots.specs.Chain.{IsDistinct}
 use Rattle.lpc_slots.specs.declared.Key.{Key}
 use Rattle.lpc_slots.proofs.Same.{first_stands, without_first_same}
 use Rattle.lpc_ports.specs.Table.{PortTable, QueuedMessage, key_of_first, row_at, without_message, without_messages, without_one}
-use Rattle.lpc_ports.specs.Lent.{queued_of}
-use Rattle.lpc_ports.proofs.Ordered.{all_apart, none_first}
-use Rattle.lpc_ports.specs.declared.messages.Block.{Block}
+use Rattle.lpc_ports.proofs.Ordered.{all_apart}
 
 module _ {X : Type 0} (test : X → Bool) where
   without-rest : (xs : List X) → without test (without_first test xs) ≡ without test xs
@@ -65,10 +63,13 @@ module _ (test : Key × QueuedMessage → Bool) where
     pub fewer : length new.messages < length s.messages
     fewer = subst (λ (t : PortTable). length t.messages < length s.messages) (sym left) (length-rest test s.messages one)
 
+  some_mapped : {A B : Type 0} (f : A → B) (o : Option A) → is_some o ≡ true → is_some (option_map f o) ≡ true
+  some_mapped f None there = there
+  some_mapped f (Some x) there = refl
+
   -- the first message that passes goes
-  pub lost : (s new : PortTable) (key : Key) (found : Option Block) → IsDistinct (keys_of s.messages) → option_map queued_of found ≡ row_at s.messages key → OnSome found (new ≡ without_message s key) → key_of_first test s.messages ≡ Some key → new ≡ without_one test s
-  lost s new key None apart is table oldest = absurd (true≢false (sym (first_stands test s.messages key oldest) ∙ ap is_some (none_first key s.messages (sym is))))
-  lost s new key (Some block) apart is table oldest = table ∙ (λ i. record s {
+  pub lost : (s new : PortTable) (key : Key) → IsDistinct (keys_of s.messages) → (IsSome (row_at s.messages key) → new ≡ without_message s key) → key_of_first test s.messages ≡ Some key → new ≡ without_one test s
+  lost s new key apart table oldest = table (some_mapped (λ (row : Key × QueuedMessage). row.1) (first (at_key key) s.messages) (first_stands test s.messages key oldest)) ∙ (λ i. record s {
     messages = without_first_same test s.messages key (all_apart s.messages apart) oldest i;
     message_room = s.message_room + 1;
   })

@@ -161,10 +161,6 @@ pub gone : (old new : Table Block) (key : Key) (found : Option Block) → found 
 gone old new key None is some table rows = absurd (let e : false ≡ true = ap is_some is ∙ some in cc)
 gone old new key (Some value) is some table rows = (table, rows)
 
-pub on_some : {A : Type 0} {P : Type 0} (o : Option A) → P → OnSome o P
-on_some None p = tt
-on_some (Some x) p = p
-
 pub away_gone : (key : Key) (rows : List (Key × QueuedMessage)) → IsAway (Some key) (keys_of (without (at_key key) rows))
 away_gone key [] = tt
 away_gone key (row ∷ rows) =

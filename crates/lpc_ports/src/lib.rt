@@ -1,7 +1,7 @@
 //! Ports, and the messages that stand in their queues.
 #![tactic(auto)]
 
-ghost use Rattle.std.specs.Prelude.{◌≡◌, ◌||◌, ◌<◌, ◌-◌, ◌≤◌, ◌^◌, ◌+◌, length, OnOk, OnErr, OnSome, IfNone, Some, None, IsSome, option_copied, option_map, slice_get};
+ghost use Rattle.std.specs.Prelude.{◌≡◌, ◌||◌, ◌<◌, ◌-◌, ◌≤◌, ◌^◌, ◌+◌, length, OnOk, OnErr, Some, None, IsSome, option_copied, option_map, slice_get};
 ghost use Rattle.lpc_base.specs.Room.{grown_room};
 ghost use Rattle.lpc_base.specs.Rows.{count, first, has};
 ghost use Rattle.lpc_base.specs.declared.limits.TheConstants.{MESSAGE_LIMIT};
@@ -518,10 +518,9 @@ impl Ports {
         ensures oldest_connect { LeavesOthers is_connect_in
             self.old.messages message self.new.messages }
     {
-        match self.take(message) {
-            Some(block) => block.message,
-            None => unreachable!(),
-        }
+        let pulled = self.message(message).copy();
+        self.take(message);
+        pulled
     }
 
     /// Takes the messages that ask for an answer and name this thread as their client from their queues, and answers
@@ -677,20 +676,22 @@ impl Ports {
     }
 
     // Takes a message out of both its chains and away, where it stands in a queue. Its room is spare then.
-    fn take(&mut self, message: Key) -> Option<Block>
-        ensures value { option_map queued_of result ≡ row_at self.old.messages message }
-        ensures table { OnSome result (self.new ≡ without_message self.old message) }
-        ensures none { IfNone result (self.new ≡ self.old) }
+    // It isn't answered, since its row is large: who wants it copies it before.
+    fn take(&mut self, message: Key)
+        ensures table { IsSome (row_at self.old.messages message) →
+            self.new ≡ without_message self.old message }
         ensures apart { IsDistinct (keys_of self.old.messages) }
     {
-        let block = self.blocks.get(message)?;
+        let Some(block) = self.blocks.get(message) else {
+            return;
+        };
         let queue = block.queue;
         let sender = block.message.sender;
         let datagram = block.message.is_datagram();
         self.totals.remove_message(&block.message);
         unlink_queued(&mut self.ports, &mut self.blocks, queue, message);
         unlink_sent(&mut self.ports, &mut self.blocks, sender, message, datagram);
-        self.blocks.remove(message)
+        self.blocks.remove(message);
     }
 
     // The block of a message that stands in a queue.

@@ -6,6 +6,7 @@ ghost use Rattle.lpc_message.specs.Layout.{half_at};
 ghost use Rattle.lpc_ports.specs.Table.{asks, client_thread, is_of_type, tells_event};
 
 use arrayvec::ArrayVec;
+use lpc_base::held;
 use lpc_message::kind::{
     CONNECTION_REQUEST, DATAGRAM, DEBUG_EVENT, EXCEPTION, PORT_CLOSED, REQUEST,
 };
@@ -29,6 +30,17 @@ pub struct Message {
 }
 
 impl Message {
+    /// A copy.
+    pub(crate) fn copy(&self) -> Message
+        ensures { result ≡ self.now }
+    {
+        Message {
+            bytes: held(&self.bytes),
+            sender: self.sender,
+            context: self.context,
+        }
+    }
+
     /// Its type is that of a datagram.
     pub(crate) fn is_datagram(&self) -> bool
         ensures { result ≡ is_of_type DATAGRAM self.now }
