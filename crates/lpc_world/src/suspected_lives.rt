@@ -53,6 +53,15 @@ impl SuspectedLives {
         }
     }
 
+    /// No thread and no process is suspected any longer.
+    pub(crate) fn clear(&mut self)
+        ensures { self.new ≡ no_lives }
+    {
+        self.threads.clear();
+        self.processes.clear();
+        self.any = false;
+    }
+
     /// A thread is suspected, and any thread and process where there is no place for it.
     pub(crate) fn suspect_thread(&mut self, birth: Birth)
         ensures { self.new ≡ suspecting_thread birth self.old }

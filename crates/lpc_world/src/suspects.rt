@@ -50,6 +50,14 @@ impl Suspects {
         }
     }
 
+    /// No port is suspected any longer.
+    pub(crate) fn clear(&mut self)
+        ensures { self.new ≡ record { keys = []; any = false } }
+    {
+        self.keys.clear();
+        self.any = false;
+    }
+
     /// A port is suspected, and any port where there is no place for it.
     pub(crate) fn add(&mut self, port: Key)
         ensures { self.new ≡ suspecting port self.old }

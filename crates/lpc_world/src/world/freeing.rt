@@ -13,8 +13,8 @@ ghost use Rattle.lpc_rows.specs.Kept.{GainsNoLives, Roomy, owed_rows};
 ghost use Rattle.lpc_rows.specs.Names.{KeepsOthers, stands};
 ghost use Rattle.lpc_rows.specs.Clauses.{after, birth_at};
 
-use crate::suspected_lives::{LifeSuspect, SuspectedLives};
-use crate::suspects::{Suspect, Suspects};
+use crate::suspected_lives::LifeSuspect;
+use crate::suspects::Suspect;
 use crate::world::World;
 use lpc_base::Birth;
 use lpc_homes::Object;
@@ -138,8 +138,8 @@ impl World {
         ensures capacity { self.new.capacity ≡ self.old.capacity }
     {
         self.loose = false;
-        self.suspects = Suspects::none();
-        self.lives = SuspectedLives::nobody();
+        self.suspects.clear();
+        self.lives.clear();
     }
 
     /// Each token that stands has a handle, as far as the counts tell: true says so, and false says nothing. No token is
