@@ -1,5 +1,5 @@
 // What a line says. A call or directive is an entry of its names and a case of its words.
-ghost use Rattle.std.specs.Prelude.{◌≡◌, ◌≤◌, ◌&&◌, codes, length, IfOk, IfSome, IsTrue};
+ghost use Rattle.std.specs.Prelude.{◌≡◌, ◌≤◌, ◌&&◌, ◌∷◌, codes, length, true, Err, IfOk, IfSome, IsTrue, MatchResult};
 ghost use Rattle.std.specs.List.{list_all};
 ghost use Rattle.std.specs.Option.{option_copied, option_map};
 ghost use Rattle.lpc_base.specs.declared.limits.TheConstants.{LINE_LIMIT};
@@ -9,6 +9,7 @@ ghost use Rattle.lpc_model.specs.Lines.{call_of, line_of};
 ghost use Rattle.lpc_model.specs.Words.{is_id, words};
 ghost use Rattle.lpc_model.specs.Grammar.{call_words, directive_words, has_call_ids, has_ids};
 ghost use Rattle.lpc_model.specs.Grammar as grammar;
+ghost use Rattle.lpc_script.specs.Heads.{LiesIn, has_thread, line_behind, number_and_given, number_and_word};
 ghost use Rattle.lpc_words.specs.Gives.{Gives};
 
 use crate::access::given_dacl;
@@ -18,8 +19,8 @@ use crate::tokens::{process_and_token, quality, token_words};
 use lpc_base::limits::LINE_LIMIT;
 use lpc_model::{Call, CallName, Kind, Line, LineFault, ProcArg, ViewWord, Word};
 use lpc_words::{
-    call_name, directive_name, four_words, id, next_word, no_words, number, one_or_two_words,
-    one_word, three_parts, three_words, two_words,
+    call_name, directive_name, four_words, id, next_call, next_number, next_word, no_words, number,
+    one_or_two_words, one_word, three_parts, three_words, two_words,
 };
 
 /// The word `null`; `Word` for any other.
@@ -83,8 +84,73 @@ fn accept(word: &[u8]) -> Result<bool, LineFault>
 fn one_handle(text: &[u8]) -> Result<u32, LineFault>
     ensures { Gives (λ handle. handle) result (grammar.one_handle (words text.now)) }
 {
+    if let Some((_, handle, rest)) = next_number(text) {
+        no_words(rest)?;
+        return Ok(handle);
+    }
+    any_handle(text)
+}
+
+/// The same, where the number has any form.
+#[inline(never)]
+fn any_handle(text: &[u8]) -> Result<u32, LineFault>
+    ensures { Gives (λ handle. handle) result (grammar.one_handle (words text.now)) }
+{
     let word = one_word(text)?;
     number(word)
+}
+
+/// A number, and a word behind it.
+fn number_and_word(text: &[u8]) -> Result<(u32, &[u8]), LineFault>
+    ensures value { Gives (λ p. (p.0, p.1.now)) result (number_and_word (words text.now)) }
+    ensures length { IfOk result (λ p. length p.1.now ≤ length text.now) }
+{
+    if let Some((_, number, rest)) = next_number(text) {
+        let word = one_word(rest)?;
+        return Ok((number, word));
+    }
+    any_number_and_word(text)
+}
+
+/// The same, where the number has any form.
+#[inline(never)]
+fn any_number_and_word(text: &[u8]) -> Result<(u32, &[u8]), LineFault>
+    ensures value { Gives (λ p. (p.0, p.1.now)) result (number_and_word (words text.now)) }
+    ensures length { IfOk result (λ p. length p.1.now ≤ length text.now) }
+{
+    let (first, word) = two_words(text)?;
+    let number = number(first)?;
+    Ok((number, word))
+}
+
+/// A number, and perhaps a word behind it.
+fn number_and_given(text: &[u8]) -> Result<(u32, Option<&[u8]>), LineFault>
+    ensures value { Gives (λ p. (p.0, option_copied p.1)) result
+        (number_and_given (words text.now)) }
+    ensures length { IfOk result
+        (λ p. IfSome p.1 (λ word. length word.now ≤ length text.now)) }
+{
+    if let Some((_, number, rest)) = next_number(text) {
+        let Some((word, rest)) = next_word(rest) else {
+            return Ok((number, None));
+        };
+        no_words(rest)?;
+        return Ok((number, Some(word)));
+    }
+    any_number_and_given(text)
+}
+
+/// The same, where the number has any form.
+#[inline(never)]
+fn any_number_and_given(text: &[u8]) -> Result<(u32, Option<&[u8]>), LineFault>
+    ensures value { Gives (λ p. (p.0, option_copied p.1)) result
+        (number_and_given (words text.now)) }
+    ensures length { IfOk result
+        (λ p. IfSome p.1 (λ word. length word.now ≤ length text.now)) }
+{
+    let (first, word) = one_or_two_words(text)?;
+    let number = number(first)?;
+    Ok((number, word))
 }
 
 /// The rights of a further handle: a number, or none for `same`.
@@ -211,8 +277,7 @@ fn handle_and_message<'a>(
     requires { length text.now ≤ LINE_LIMIT }
     ensures { Gives (λ p. (p.0, p.1.now)) result (grammar.handle_and_message (words text.now)) }
 {
-    let (handle, message) = two_words(text)?;
-    let handle = number(handle)?;
+    let (handle, message) = number_and_word(text)?;
     let message = scratch.message(message)?;
     Ok((handle, message))
 }
@@ -242,8 +307,7 @@ fn handle_and_reply<'a>(
     ensures { Gives (λ p. (p.0, option_copied p.1)) result
         (grammar.handle_and_reply (words text.now)) }
 {
-    let (handle, reply) = one_or_two_words(text)?;
-    let handle = number(handle)?;
+    let (handle, reply) = number_and_given(text)?;
     let reply = given_message(reply, scratch)?;
     Ok((handle, reply))
 }
@@ -641,40 +705,6 @@ fn directive<'a>(
     }
 }
 
-/// The call of the thread whose number the front is.
-#[tactic(auto, unfolding(lpc_model::specs::Grammar::call_line))]
-fn call_line<'a>(
-    front: &[u8],
-    text: &'a [u8],
-    scratch: &'a mut Scratch,
-) -> Result<Line<'a>, LineFault>
-    requires { length text.now ≤ LINE_LIMIT }
-    ensures value { Gives line_of result (grammar.call_line front.now (words text.now)) }
-    ensures ids { IfOk result (λ line. IsTrue (has_ids (line_of line))) }
-{
-    let tid = id(front)?;
-    let Some((name, rest)) = next_word(text) else {
-        return Err(LineFault::Count);
-    };
-    let name = call_name(name).ok_or(LineFault::Call)?;
-    let call = call(name, rest, scratch)?;
-    Ok(Line::Run { tid, call })
-}
-
-/// The directive whose word the front is.
-#[tactic(auto, unfolding(lpc_model::specs::Grammar::directive_line))]
-fn directive_line<'a>(
-    front: &[u8],
-    text: &'a [u8],
-    scratch: &'a mut Scratch,
-) -> Result<Line<'a>, LineFault>
-    ensures value { Gives line_of result (grammar.directive_line front.now (words text.now)) }
-    ensures ids { IfOk result (λ line. IsTrue (has_ids (line_of line))) }
-{
-    let word = directive_name(front).ok_or(LineFault::Word)?;
-    directive(word, text, scratch)
-}
-
 fn starts_call(word: &[u8]) -> bool
     ensures { result ≡ grammar.starts_call word.now }
 {
@@ -687,6 +717,24 @@ fn starts_call(word: &[u8]) -> bool
 fn is_printable(text: &[u8]) -> bool
     ensures { result ≡ list_all grammar.is_printable text.now }
 {
+    let len = text.len();
+    if len < 8 {
+        return is_printable_run(text);
+    }
+    let mut printable = true;
+    let mut start = 0;
+    while start < len - 8 {
+        printable &= is_printable_run(&text[start..start + 8]);
+        start += 8;
+    }
+    // The last eight, of which some may have been looked at.
+    printable & is_printable_run(&text[len - 8..])
+}
+
+#[inline(always)]
+fn is_printable_run(text: &[u8]) -> bool
+    ensures { result ≡ list_all grammar.is_printable text.now }
+{
     let mut printable = true;
     // No byte ends it early, so that the compiler can look at many at once.
     for byte in text {
@@ -695,21 +743,111 @@ fn is_printable(text: &[u8]) -> bool
     printable
 }
 
+/// What a text begins with: the number of a thread and the name of its call, or the word of a directive, and what stands
+/// behind.
+enum Head<'a> {
+    Nothing,
+    Call {
+        tid: u32,
+        name: CallName,
+        rest: &'a [u8],
+    },
+    Directive {
+        word: Word,
+        rest: &'a [u8],
+    },
+}
+
+/// The call of the thread whose number the front is, by words of any form.
+#[inline(never)]
+fn call_head<'a>(front: &[u8], text: &'a [u8]) -> Result<Head<'a>, LineFault>
+    requires { grammar.starts_call front.now ≡ true }
+    ensures value { MatchResult result
+        (λ head. grammar.words_line (front.now ∷ words text.now) ≡ line_behind head)
+        (λ e. grammar.words_line (front.now ∷ words text.now) ≡ Err e) }
+    ensures id { IfOk result (λ head. IsTrue (has_thread head)) }
+    ensures rest { IfOk result (LiesIn text.now) }
+{
+    let tid = match id(front) {
+        Ok(tid) => tid,
+        Err(fault) => return Err(fault),
+    };
+    let Some((word, rest)) = next_word(text) else {
+        return Err(LineFault::Count);
+    };
+    let Some(name) = call_name(word) else {
+        return Err(LineFault::Call);
+    };
+    Ok(Head::Call { tid, name, rest })
+}
+
+/// What a text of any form begins with.
+#[inline(always)]
+fn any_head(text: &[u8]) -> Result<Head<'_>, LineFault>
+    ensures value { MatchResult result
+        (λ head. grammar.words_line (words text.now) ≡ line_behind head)
+        (λ e. grammar.words_line (words text.now) ≡ Err e) }
+    ensures id { IfOk result (λ head. IsTrue (has_thread head)) }
+    ensures rest { IfOk result (LiesIn text.now) }
+{
+    let Some((front, rest)) = next_word(text) else {
+        return Ok(Head::Nothing);
+    };
+    if starts_call(front) {
+        return call_head(front, rest);
+    }
+    let Some(word) = directive_name(front) else {
+        return Err(LineFault::Word);
+    };
+    Ok(Head::Directive { word, rest })
+}
+
+/// What a text begins with, where that has the form that most calls have. Each byte of it is read once.
+#[inline(always)]
+fn short_head(text: &[u8]) -> Option<Head<'_>>
+    ensures value { IfSome result
+        (λ head. grammar.words_line (words text.now) ≡ line_behind head) }
+    ensures id { IfSome result (λ head. IsTrue (has_thread head)) }
+    ensures rest { IfSome result (LiesIn text.now) }
+{
+    let (_, tid, rest) = next_number(text)?;
+    let (name, rest) = next_call(rest)?;
+    Some(Head::Call { tid, name, rest })
+}
+
+/// What a text begins with.
+#[inline(always)]
+fn read_head(text: &[u8]) -> Result<Head<'_>, LineFault>
+    ensures value { MatchResult result
+        (λ head. grammar.words_line (words text.now) ≡ line_behind head)
+        (λ e. grammar.words_line (words text.now) ≡ Err e) }
+    ensures id { IfOk result (λ head. IsTrue (has_thread head)) }
+    ensures rest { IfOk result (LiesIn text.now) }
+{
+    if let Some(head) = short_head(text) {
+        return Ok(head);
+    }
+    any_head(text)
+}
+
 /// What a text says by its words, none where it has no word, or its first fault.
+#[inline(always)]
 fn words_line<'a>(text: &'a [u8], scratch: &'a mut Scratch) -> Result<Option<Line<'a>>, LineFault>
     requires { length text.now ≤ LINE_LIMIT }
     ensures value { Gives (option_map line_of) result (grammar.words_line (words text.now)) }
     ensures ids { IfOk result (λ line. IfSome line (λ said. IsTrue (has_ids (line_of said)))) }
 {
-    let Some((front, rest)) = next_word(text) else {
-        return Ok(None);
-    };
-    if starts_call(front) {
-        let line = call_line(front, rest, scratch)?;
-        return Ok(Some(line));
+    match read_head(text)? {
+        Head::Nothing => Ok(None),
+        Head::Call { tid, name, rest } => {
+            let call = call(name, rest, scratch)?;
+            Ok(Some(Line::Run { tid, call }))
+        }
+        Head::Directive { word, rest } => {
+            let line = directive(word, rest, scratch)?;
+            Ok(Some(line))
+        }
     }
-    let line = directive_line(front, rest, scratch)?;
-    Ok(Some(line))
 }
 
 /// What a line says, none where it is a comment or has no word, or its first fault.

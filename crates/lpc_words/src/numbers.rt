@@ -1,12 +1,16 @@
 // The numbers that a word may spell.
-ghost use Rattle.std.specs.Prelude.{◌≡◌, ◌≤◌, IfOk, IsTrue};
-ghost use Rattle.lpc_model.specs.Words.{digits_word, decimal_word, hexadecimal_word, number_word, id_word, is_id};
+ghost use Rattle.std.specs.Prelude.{◌≡◌, ◌≤◌, ◌∷◌, length, true, IfOk, IfSome, IsTrue, Ok};
+ghost use Rattle.lpc_model.specs.Grammar.{starts_call};
+ghost use Rattle.lpc_model.specs.Words.{digits_word, decimal_word, hexadecimal_word, number_word, id_word, is_id, words};
 ghost use Rattle.lpc_words.specs.Gives.{Gives};
 
 use lpc_model::LineFault;
 
 /// The greatest number of a process or thread.
 const GREATEST_ID: u32 = 2_147_483_647;
+
+/// The greatest number that a digit may follow where nine are read at most.
+const MOST_BEFORE_LAST: u32 = 99_999_999;
 
 /// Digits of a base as a number of 32 bits; `Number` where a byte is no digit of it, or the number is above
 /// 4,294,967,295.
@@ -74,4 +78,37 @@ pub fn id(word: &[u8]) -> Result<u32, LineFault>
         return Err(LineFault::Number);
     }
     Ok(number)
+}
+
+/// The first word of a text, the number that it spells, and what stands behind it, where the text begins with one to
+/// nine decimal digits of which the first is no zero, and these are the word. None of any other text, also where its
+/// first word spells a number: it reads the form that most numbers have, and each byte once.
+pub fn next_number(text: &[u8]) -> Option<(&[u8], u32, &[u8])>
+    ensures words { IfSome result (λ p. words text.now ≡ p.0.now ∷ words p.2.now) }
+    ensures value { IfSome result (λ p. number_word p.0.now ≡ Ok p.1) }
+    ensures digit { IfSome result (λ p. starts_call p.0.now ≡ true) }
+    ensures id { IfSome result (λ p. IsTrue (is_id p.1)) }
+    ensures rest { IfSome result (λ p. length p.2.now ≤ length text.now) }
+{
+    let mut value: u32 = 0;
+    for i in 0..text.len() {
+        let byte = text[i];
+        if !byte.is_ascii_digit() {
+            if value == 0 || byte != b' ' {
+                return None;
+            }
+            return Some((&text[..i], value, &text[i + 1..]));
+        }
+        if value > MOST_BEFORE_LAST {
+            return None;
+        }
+        value = value * 10 + u32::from(byte - b'0');
+        if value == 0 {
+            return None;
+        }
+    }
+    if value == 0 {
+        return None;
+    }
+    Some((text, value, &[]))
 }
