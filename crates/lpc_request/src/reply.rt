@@ -102,7 +102,8 @@ fn reply_to_event(world: &mut World, answered: u32, message: &MessageRef<'_>, ou
     requires left { has_queued world.old.rows answered ≡ false }
     requires unmarked { has (is_mark answered) world.old.rows.marks ≡ false }
     ensures takes { let x = waiter world.old.rows answered in
-        Took (request.reply_to_event x (message_of message.now.now) ∷ []) world.old world.new out.old out.new }
+        Took (request.reply_to_event x (message_of message.now.now) ∷ [])
+        world.old world.new out.old out.new }
     ensures births { world.new.births ≡ world.old.births }
     ensures calls { world.new.calls ≡ world.old.calls }
     ensures capacity { world.new.capacity ≡ world.old.capacity }
@@ -135,7 +136,8 @@ pub(crate) fn return_reply(
     requires unmarked { has (is_mark answered) world.old.rows.marks ≡ false }
     requires bound { length message.now.now ≤ MESSAGE_LIMIT }
     ensures takes { let x = waiter world.old.rows answered in
-        Took (request.reply x (message_of message.now.now) ∷ []) world.old world.new out.old out.new }
+        Took (request.reply x (message_of message.now.now) ∷ [])
+        world.old world.new out.old out.new }
     ensures births { world.new.births ≡ world.old.births }
     ensures calls { world.new.calls ≡ world.old.calls }
     ensures capacity { world.new.capacity ≡ world.old.capacity }
@@ -174,7 +176,8 @@ fn send_reply(
     requires left { has_queued world.old.rows answered ≡ false }
     requires unmarked { has (is_mark answered) world.old.rows.marks ≡ false }
     requires bound { length message.now.now ≤ MESSAGE_LIMIT }
-    ensures takes { Returns tid answered (message_of message.now.now) world.old world.new out.old out.new }
+    ensures takes { Returns tid answered (message_of message.now.now)
+        world.old world.new out.old out.new }
     ensures keeps { MakesWaits 0 world.old world.new }
     ensures calls { world.new.calls ≡ world.old.calls }
     ensures capacity { world.new.capacity ≡ world.old.capacity }

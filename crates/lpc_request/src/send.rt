@@ -106,7 +106,8 @@ fn send_datagram(
     requires queue { stands world.old.births.ports queue ≡ true }
     requires name { IsUnderName world.old port }
     requires room { 0 < world.old.room.messages }
-    ensures takes { Sends by.now port queue (message_of message.now.now) world.old world.new out.old out.new }
+    ensures takes { Sends by.now port queue (message_of message.now.now)
+        world.old world.new out.old out.new }
     ensures calls { world.new.calls ≡ world.old.calls }
     ensures capacity { world.new.capacity ≡ world.old.capacity }
     ensures spare { out.old.spare ≤ out.new.spare + 2 }
@@ -209,7 +210,8 @@ fn send_request(
     requires port { stands world.old.births.ports port ≡ true }
     requires queue { stands world.old.births.ports queue ≡ true }
     requires name { IsUnderName world.old port }
-    ensures takes { Requests by.now port queue (message_of message.now.now) world.old world.new out.old out.new }
+    ensures takes { Requests by.now port queue (message_of message.now.now)
+        world.old world.new out.old out.new }
     ensures calls { world.new.calls ≡ world.old.calls }
     ensures capacity { world.new.capacity ≡ world.old.capacity }
     ensures spare { out.old.spare ≤ out.new.spare + 2 }

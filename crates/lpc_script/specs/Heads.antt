@@ -5,16 +5,16 @@ use Rattle.lpc_model.specs.Grammar.{call_words, directive_words, one_or_two_word
 use Rattle.lpc_model.specs.Lines.{ScriptLine, run}
 use Rattle.lpc_model.specs.Then.{◌>>=◌}
 use Rattle.lpc_model.specs.Words.{is_id, number_word, words}
-use Rattle.lpc_script.specs.declared.read.Head.{Head}
-use Rattle.lpc_script.specs.declared.read.Head.TheVariants.{Nothing, Call, Directive}
+use Rattle.lpc_script.specs.declared.head.Head.{Head}
+use Rattle.lpc_script.specs.declared.head.Head.TheVariants.{Nothing, Call, Directive}
 
 -- what a text says by what it begins with and the words behind that
-abbrev pub line_behind : Head → Result (Option ScriptLine) LineFault
-line_behind Nothing = Ok None
-line_behind (Call tid name rest) = do
+abbrev pub line_headed : Head → Result (Option ScriptLine) LineFault
+line_headed Nothing = Ok None
+line_headed (Call tid name rest) = do
   call ← call_words name (words rest.now)
   Ok (Some (run tid call))
-line_behind (Directive word rest) = do
+line_headed (Directive word rest) = do
   line ← directive_words word (words rest.now)
   Ok (Some line)
 

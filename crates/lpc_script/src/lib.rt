@@ -3,6 +3,7 @@
 
 mod access;
 mod exceptions;
+mod head;
 mod laws;
 mod line_buffer;
 mod read;

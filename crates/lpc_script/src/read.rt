@@ -1,5 +1,5 @@
 // What a line says. A call or directive is an entry of its names and a case of its words.
-ghost use Rattle.std.specs.Prelude.{◌≡◌, ◌≤◌, ◌&&◌, ◌∷◌, codes, length, true, Err, IfOk, IfSome, IsTrue, MatchResult};
+ghost use Rattle.std.specs.Prelude.{◌≡◌, ◌≤◌, ◌&&◌, codes, length, true, Err, IfOk, IfSome, IsTrue};
 ghost use Rattle.std.specs.List.{list_all};
 ghost use Rattle.std.specs.Option.{option_copied, option_map};
 ghost use Rattle.lpc_base.specs.declared.limits.TheConstants.{LINE_LIMIT};
@@ -9,18 +9,19 @@ ghost use Rattle.lpc_model.specs.Lines.{call_of, line_of};
 ghost use Rattle.lpc_model.specs.Words.{is_id, words};
 ghost use Rattle.lpc_model.specs.Grammar.{call_words, directive_words, has_call_ids, has_ids};
 ghost use Rattle.lpc_model.specs.Grammar as grammar;
-ghost use Rattle.lpc_script.specs.Heads.{LiesIn, has_thread, line_behind, number_and_given, number_and_word};
+ghost use Rattle.lpc_script.specs.Heads.{number_and_given, number_and_word};
 ghost use Rattle.lpc_words.specs.Gives.{Gives};
 
 use crate::access::given_dacl;
 use crate::exceptions::raise;
+use crate::head::{Head, read_head};
 use crate::scratch::Scratch;
 use crate::tokens::{process_and_token, quality, token_words};
 use lpc_base::limits::LINE_LIMIT;
 use lpc_model::{Call, CallName, Kind, Line, LineFault, ProcArg, ViewWord, Word};
 use lpc_words::{
-    call_name, directive_name, four_words, id, next_call, next_number, next_word, no_words, number,
-    one_or_two_words, one_word, three_parts, three_words, two_words,
+    four_words, id, next_number, next_word, no_words, number, one_or_two_words, one_word,
+    three_parts, three_words, two_words,
 };
 
 /// The word `null`; `Word` for any other.
@@ -705,15 +706,6 @@ fn directive<'a>(
     }
 }
 
-fn starts_call(word: &[u8]) -> bool
-    ensures { result ≡ grammar.starts_call word.now }
-{
-    match word {
-        [] => false,
-        [first, ..] => first.is_ascii_digit(),
-    }
-}
-
 fn is_printable(text: &[u8]) -> bool
     ensures { result ≡ list_all grammar.is_printable text.now }
 {
@@ -741,93 +733,6 @@ fn is_printable_run(text: &[u8]) -> bool
         printable &= *byte >= b' ' && *byte <= b'~';
     }
     printable
-}
-
-/// What a text begins with: the number of a thread and the name of its call, or the word of a directive, and what stands
-/// behind.
-enum Head<'a> {
-    Nothing,
-    Call {
-        tid: u32,
-        name: CallName,
-        rest: &'a [u8],
-    },
-    Directive {
-        word: Word,
-        rest: &'a [u8],
-    },
-}
-
-/// The call of the thread whose number the front is, by words of any form.
-#[inline(never)]
-fn call_head<'a>(front: &[u8], text: &'a [u8]) -> Result<Head<'a>, LineFault>
-    requires { grammar.starts_call front.now ≡ true }
-    ensures value { MatchResult result
-        (λ head. grammar.words_line (front.now ∷ words text.now) ≡ line_behind head)
-        (λ e. grammar.words_line (front.now ∷ words text.now) ≡ Err e) }
-    ensures id { IfOk result (λ head. IsTrue (has_thread head)) }
-    ensures rest { IfOk result (LiesIn text.now) }
-{
-    let tid = match id(front) {
-        Ok(tid) => tid,
-        Err(fault) => return Err(fault),
-    };
-    let Some((word, rest)) = next_word(text) else {
-        return Err(LineFault::Count);
-    };
-    let Some(name) = call_name(word) else {
-        return Err(LineFault::Call);
-    };
-    Ok(Head::Call { tid, name, rest })
-}
-
-/// What a text of any form begins with.
-#[inline(always)]
-fn any_head(text: &[u8]) -> Result<Head<'_>, LineFault>
-    ensures value { MatchResult result
-        (λ head. grammar.words_line (words text.now) ≡ line_behind head)
-        (λ e. grammar.words_line (words text.now) ≡ Err e) }
-    ensures id { IfOk result (λ head. IsTrue (has_thread head)) }
-    ensures rest { IfOk result (LiesIn text.now) }
-{
-    let Some((front, rest)) = next_word(text) else {
-        return Ok(Head::Nothing);
-    };
-    if starts_call(front) {
-        return call_head(front, rest);
-    }
-    let Some(word) = directive_name(front) else {
-        return Err(LineFault::Word);
-    };
-    Ok(Head::Directive { word, rest })
-}
-
-/// What a text begins with, where that has the form that most calls have. Each byte of it is read once.
-#[inline(always)]
-fn short_head(text: &[u8]) -> Option<Head<'_>>
-    ensures value { IfSome result
-        (λ head. grammar.words_line (words text.now) ≡ line_behind head) }
-    ensures id { IfSome result (λ head. IsTrue (has_thread head)) }
-    ensures rest { IfSome result (LiesIn text.now) }
-{
-    let (_, tid, rest) = next_number(text)?;
-    let (name, rest) = next_call(rest)?;
-    Some(Head::Call { tid, name, rest })
-}
-
-/// What a text begins with.
-#[inline(always)]
-fn read_head(text: &[u8]) -> Result<Head<'_>, LineFault>
-    ensures value { MatchResult result
-        (λ head. grammar.words_line (words text.now) ≡ line_behind head)
-        (λ e. grammar.words_line (words text.now) ≡ Err e) }
-    ensures id { IfOk result (λ head. IsTrue (has_thread head)) }
-    ensures rest { IfOk result (LiesIn text.now) }
-{
-    if let Some(head) = short_head(text) {
-        return Ok(head);
-    }
-    any_head(text)
 }
 
 /// What a text says by its words, none where it has no word, or its first fault.

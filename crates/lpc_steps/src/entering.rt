@@ -116,9 +116,11 @@ fn hand_over(
     requires long { 24 ≤ length bytes.now }
     requires bound { length bytes.now ≤ 256 }
     requires request { IsAwaited world.old.rows (message_of bytes.now) }
-    requires found { let m = row_with world.old.births queue sender context (message_of bytes.now) in
+    requires found { let m = row_with world.old.births
+        queue sender context (message_of bytes.now) in
         first (takes m) world.old.rows.waits ≡ Some (waiter world.old.rows tid) }
-    requires taker { let m = row_with world.old.births queue sender context (message_of bytes.now) in
+    requires taker { let m = row_with world.old.births
+        queue sender context (message_of bytes.now) in
         takes m (waiter world.old.rows tid) ≡ true }
     requires waits { has (waits_as tid) world.old.rows.waits ≡ true }
     requires left { has_queued world.old.rows tid ≡ false }

@@ -1,6 +1,6 @@
 use Rattle.std.proofs.Common.{◌∙◌, sym}
 use Rattle.lpc_script.proofs.Heads.{call_no_name, call_no_thread, call_says, call_unknown}
-use Rattle.lpc_script.proofs.read.call_head.Goals as goal
+use Rattle.lpc_script.proofs.head.call_head.Goals as goal
 
 pub returns-in-Err-clause-value : goal.returns-in-Err-clause-value
 returns-in-Err-clause-value c = call_no_thread _ _ _ c.requires c.in-Err.ensures.value

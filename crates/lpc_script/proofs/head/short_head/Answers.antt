@@ -1,5 +1,5 @@
 use Rattle.lpc_script.proofs.Heads.{call_says, id_said}
-use Rattle.lpc_script.proofs.read.short_head.Goals as goal
+use Rattle.lpc_script.proofs.head.short_head.Goals as goal
 
 pub returns-clause-value : goal.returns-clause-value
 returns-clause-value c =
