@@ -23,7 +23,7 @@ abbrev pub has_thread : Head → Bool
 has_thread (Call tid name rest) = is_id tid
 has_thread head = true
 
--- what stands behind is a part of the text
+-- what stands behind is no longer than the text
 abbrev pub LiesIn : List ℕ → Head → Type 0
 LiesIn text Nothing = Unit {0}
 LiesIn text (Call tid name rest) = length rest.now ≤ length text

@@ -24,7 +24,7 @@ pub(crate) enum Head<'a> {
     },
 }
 
-// A word is the number of a thread: it begins with a digit.
+// A first word is to be the number of a thread: it begins with a digit.
 fn starts_call(word: &[u8]) -> bool
     ensures { result ≡ grammar.starts_call word.now }
 {
@@ -78,7 +78,7 @@ fn any_head(text: &[u8]) -> Result<Head<'_>, LineFault>
     Ok(Head::Directive { word, rest })
 }
 
-/// What a text begins with, where that has the form that most calls have. Each byte of it is read once.
+/// What a text begins with, where that has the form that most calls have: no word is looked for first. None says nothing.
 #[inline(always)]
 fn short_head(text: &[u8]) -> Option<Head<'_>>
     ensures value { IfSome result

@@ -26,7 +26,7 @@ fn flush(into: &mut Vec<u8>, buffer: &[u8; ROOM], at: usize) -> Result<usize, Ou
     Ok(0)
 }
 
-/// Makes room in the buffer for so many more bytes.
+/// Makes room in the buffer for so many more bytes, and answers where it goes on.
 ///
 /// OutOfMemory comes only where there was no room for what was gathered; the text begins as it was then.
 #[inline(always)]
@@ -73,7 +73,7 @@ fn put_long(
     Ok(start)
 }
 
-/// Bytes as pairs of hexadecimal digits. One more byte has room behind them.
+/// Bytes as pairs of hexadecimal digits. One more byte has room behind them. Answers where the buffer goes on.
 ///
 /// OutOfMemory comes only where there was no room for them behind what was gathered; the text begins as it was then.
 #[inline(always)]
@@ -97,7 +97,7 @@ pub(crate) fn gather_read(
     put_long(into, buffer, at, bytes)
 }
 
-/// SIDs, parted by commas. One more byte has room behind them.
+/// SIDs, parted by commas. One more byte has room behind them. Answers where the buffer goes on.
 ///
 /// OutOfMemory comes only where there was no room for them behind what was gathered; the text begins as it was then.
 #[tactic(auto, using(std::proofs::Common::append_assoc, crate::proofs::Begins::begins_after))]

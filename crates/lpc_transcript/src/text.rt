@@ -15,8 +15,8 @@ use lpc_base::OutOfMemory;
 use lpc_model::{Entries, Entry, LineFault};
 use lpc_sid::Sid;
 
-/// The most bytes of a line's number and of what stands before the fields of an entry, and one more, with which a line
-/// ends.
+/// No line's number with what stands before the fields of an entry, and one more byte, with which a line ends, is
+/// longer: each number is reckoned with 20 digits.
 const FRONT_LIMIT: usize = 82;
 
 // What stands behind the line's number, with these bytes where a memory read stands, and these groups where those of a
