@@ -5,8 +5,8 @@ ghost use Rattle.lpc_numbers.specs.Near.{Notes, Widens};
 use std::alloc::Global;
 use std::marker::Model;
 
-/// The places of small numbers, each under its number: the fastest way to a row. Scripts mostly take the next number
-/// that is free, so that few are left out. A number past the last one here has to be looked for elsewhere.
+/// The places of small numbers, each under its number: the fastest way to a row. Scripts mostly number by fours from
+/// small numbers on, so that few are left out. A number past the last one here has to be looked for elsewhere.
 #[derive(Drop)]
 pub(crate) struct Near {
     // Under each number one more than its place, and 0 where it has none.
@@ -35,7 +35,7 @@ impl Near {
         }
     }
 
-    /// Reaches up to so many further numbers, where there is memory and none was left out.
+    /// Reaches further, as a rule by so many numbers, where there is memory and none was left out.
     pub fn widen(&mut self, more: usize)
         ensures { Widens self.old self.new }
     {
@@ -53,7 +53,8 @@ impl Near {
         self.ranks.get(number as usize).copied()
     }
 
-    /// Notes where a number stands that had no place. One that is past the last one here is left out. It takes no memory.
+    /// Notes where a number stands that had no place. One that is past the last one here is left out, and all are at a
+    /// place that 32 bits don't hold. It takes no memory.
     pub fn note(&mut self, number: u32, place: usize)
         ensures { Notes number place self.old self.new }
     {

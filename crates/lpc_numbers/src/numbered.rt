@@ -11,8 +11,8 @@ use lpc_base::OutOfMemory;
 use std::alloc::Global;
 use std::marker::Model;
 
-// So far reach the small numbers, and further by so many for each that may come: scripts mostly number by fours, and
-// processes and threads in turn.
+// So far the list of small numbers reaches further each time that room is made, and by so many more for each number that
+// may come: scripts mostly number by fours, and processes and threads in turn.
 const SMALL_NUMBERS: usize = 1024;
 
 const NUMBERS_EACH: usize = 8;
