@@ -1,5 +1,6 @@
--- Messages are accounted for: each that was posted stands in its queue, was received from it, was withdrawn with the wait
--- of its thread, or was lost when the queue's port closed. So is each that tells of a thread's end or of a closed port.
+-- Messages are accounted for: each that was posted stands in its queue, was received from it, was withdrawn with the
+-- wait of its thread or as its event was marked, or was lost when the queue's port closed. So is each that tells of a
+-- thread's end or of a closed port.
 use Rattle.std.specs.Prelude.{◌≡◌, ℕ, ◌+◌, ◌++◌, ◌&&◌, ◌==◌, Bool, true, false, List, [], ◌∷◌, Option, None, Some, option_and_then, option_map, Result, Ok, Err}
 use Rattle.std.specs.Str.{bytes_eq}
 use Rattle.lpc_base.specs.Rows.{count, which}
@@ -63,8 +64,8 @@ has_bytes bytes f = elim f.value [
 abbrev pub shows_bytes : List ℕ → Field → Bool
 shows_bytes bytes f = is_message f && has_bytes bytes f
 
--- the two fields of a receive show the context and the bytes, and the one of a listen the bytes of what has context 0; no
--- other call shows what was received
+-- the two fields of a receive show the context and the bytes, and the one of a listen the bytes of what has context 0;
+-- no other call shows what was received
 abbrev pub shows_message : Receipt → CallName → List Field → Bool
 shows_message r NtReplyWaitReceivePort (context ∷ bytes ∷ []) =
     shows_context r.context context && shows_bytes r.bytes bytes
@@ -94,8 +95,8 @@ received_on w (run tid (reply_wait_receive_port handle reply)) =
 received_on w (run tid (listen_port handle)) = option_and_then (λ by. birth_at (port_test w by handle)) (live_thread w tid)
 received_on w line = None
 
--- an entry shows such a message as received from the queue: that on which its thread waited before the line, or that of
--- the port that the line's receive names
+-- an entry shows such a message as received from the queue: that on which its thread waited before the line, or that
+-- of the port that the line's receive names, or the port that its listen names
 abbrev pub is_received : Receipt → World → ScriptLine → Entry → Bool
 is_received r w line (Wakes tid call status fields) =
     is_the r.queue (waited_on w tid) && shows_receipt r call status fields
@@ -115,9 +116,9 @@ receipts r w line =
     count (is_received r w line) (entries_of (own_steps line w)) + count (is_woken r v) (entries_of (settle v))
 
 -- Losses
--- how many such messages a step loses: those of a queue that it empties, whose port is closed, and a thread's own, which
--- it withdraws as the thread's wait ends or its event is marked. A thread's own are those that ask for an answer to it: so
--- every other message is lost only as its queue is emptied.
+-- how many such messages a step loses: those of a queue that it empties, whose port is closed, and a thread's own,
+-- which it withdraws as the thread's wait ends or its event is marked. A thread's own are those that ask for an answer
+-- to it: so every other message is lost only as its queue is emptied.
 abbrev pub loses : Receipt → World → Basic → ℕ
 loses r w (Empties queue) = count (has_receipt r) (queued_on w queue)
 loses r w (Withdraws who) = count (has_receipt r) (which (is_own_of who) w.messages)

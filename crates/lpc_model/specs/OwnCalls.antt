@@ -6,7 +6,7 @@ use Rattle.lpc_model.specs.declared.entry.CallName.TheVariants.{NtConnectPort, N
 use Rattle.lpc_model.specs.World.{Accepted, CallName, Connect, Event, Listen, Receive, Request, WaitKind, WaitRow, World}
 use Rattle.lpc_model.specs.Run.{run_of}
 
--- waits of the kind are those of the call
+-- a wait of the kind is made in this call
 abbrev pub is_kind_of : CallName → WaitKind → Bool
 is_kind_of NtRequestWaitReplyPort (Request m) = true
 is_kind_of NtReplyWaitReceivePort Receive = true

@@ -377,13 +377,14 @@ impl Fields {
         }
     }
 
-    // A value that stands in its place, and one that lies aside. Inlined, as all that makes or adds fields, so that
-    // they are written where the entry is to stand.
+    // A value that stands in its place, and one that lies aside. Inlined, as `none` and `add` are, so that fields are
+    // written where the entry is to stand.
     #[inline(always)]
     fn add_small(&mut self, name: FieldName, value: Short)
         requires room { length self.old < 6 }
         requires small { is_mark value ≡ false }
-        ensures { self.new ≡ self.old ++ record { name = name; value = small_value value } ∷ [] }
+        ensures { self.new
+            ≡ self.old ++ record { name = name; value = small_value value } ∷ [] }
     {
         self.list.push(Slot { name, value });
     }
@@ -441,7 +442,8 @@ impl Fields {
     /// The value of a field, none at or past the count.
     #[inline(always)]
     pub fn value(&self, at: usize) -> Option<Lent<'_>>
-        ensures { option_map value_lent result ≡ option_map (λ f. f.value) (slice_get self.now at) }
+        ensures { option_map value_lent result
+            ≡ option_map (λ f. f.value) (slice_get self.now at) }
     {
         match self.list.as_slice().get(at) {
             Some(slot) => Some(shown(slot.value, &self.aside)),

@@ -120,7 +120,8 @@ pub fn law_closings_are_told()
 /// is accepted: where no connect waits on it for that before the line, or one still does behind it,
 /// the context is the same, and another end is the one that it had. On a port that stands no connect
 /// begins to wait for that. Two ports that are each other's other end are so behind the line too,
-/// where both are open then.
+/// where both are open then. So it is with the step of each line in each lawful world, of a script's
+/// or of any other.
 pub fn law_ports_keep_what_they_are()
     ensures steps { StepsKeepPorts }
     ensures runs { (script : List ℕ) → RunKeepsPorts script }
@@ -173,13 +174,14 @@ pub fn law_views()
 /// stand in the queue, were shown as received from it by a receive or a listen that succeeded, were
 /// withdrawn as the wait of their thread ended or its event was marked, and were lost when the
 /// queue's port closed. So it is with requests, events, connection requests, datagrams, and what tells
-/// of closed ports and of threads that ended. A receive shows the context, and a listen none: what it
-/// shows is received with context 0, and each connection request that is posted, or stands in a
+/// of closed ports and of threads that ended. A receive shows the context, and a listen none: what a
+/// listen shows is received with context 0, and each connection request that is posted, or stands in a
 /// queue, has that. Each line empties the queues of the ports that lose their last handles in it, once
 /// for each, and no other: so no message is lost while its port is open. What settling shows as
 /// received was waited for when it began. A line withdraws the message of a thread only where it
 /// wakes or ends that thread, or marks its event. Each thread that waits does so in the call of its
-/// wait's kind: for a message in a receive, for a connection request in a listen.
+/// wait's kind: for an answer in a request, for a message in a receive, for a connection request in a
+/// listen, for either end of its connect in a connect, and with an event where it raised an exception.
 pub fn law_messages_are_accounted_for()
     ensures runs { (script : List ℕ) → RunAccountsForMessages script }
     ensures emptied { (script : List ℕ) → RunEmptiesWithHandles script }

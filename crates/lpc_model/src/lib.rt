@@ -16,7 +16,7 @@ pub use entry::{
 pub use fault::LineFault;
 pub use fields::{
     accept_fields, completion_fields, connect_fields, handle_field, identifier_field, info_field,
-    kept, message_field, object_fields, process_fields, receipt, refuse, view_fields,
+    kept, message_field, object_fields, process_fields, refuse, view_fields,
 };
 pub use laws::{
     law_closings_are_told, law_completion_refuses_cut_pairs, law_connected_ports_reach_each_other,
