@@ -24,10 +24,10 @@ has_thread (Call tid name rest) = is_id tid
 has_thread head = true
 
 -- what stands behind is no longer than the text
-abbrev pub LiesIn : List ℕ → Head → Type 0
-LiesIn text Nothing = Unit {0}
-LiesIn text (Call tid name rest) = length rest.now ≤ length text
-LiesIn text (Directive word rest) = length rest.now ≤ length text
+abbrev pub IsNoLonger : List ℕ → Head → Type 0
+IsNoLonger text Nothing = Unit {0}
+IsNoLonger text (Call tid name rest) = length rest.now ≤ length text
+IsNoLonger text (Directive word rest) = length rest.now ≤ length text
 
 -- a number and the word behind it
 abbrev pub number_and_word : List (List ℕ) → Result (ℕ × List ℕ) LineFault

@@ -2,7 +2,7 @@
 ghost use Rattle.std.specs.Prelude.{◌≡◌, ◌∷◌, true, Err, IfOk, IfSome, IsTrue, MatchResult};
 ghost use Rattle.lpc_model.specs.Grammar as grammar;
 ghost use Rattle.lpc_model.specs.Words.{words};
-ghost use Rattle.lpc_script.specs.Heads.{LiesIn, has_thread, line_headed};
+ghost use Rattle.lpc_script.specs.Heads.{IsNoLonger, has_thread, line_headed};
 
 use lpc_model::{CallName, LineFault, Word};
 use lpc_words::{call_name, directive_name, id, next_call, next_number, next_word};
@@ -42,7 +42,7 @@ fn call_head<'a>(front: &[u8], text: &'a [u8]) -> Result<Head<'a>, LineFault>
         (λ head. grammar.words_line (front.now ∷ words text.now) ≡ line_headed head)
         (λ e. grammar.words_line (front.now ∷ words text.now) ≡ Err e) }
     ensures id { IfOk result (λ head. IsTrue (has_thread head)) }
-    ensures rest { IfOk result (LiesIn text.now) }
+    ensures rest { IfOk result (IsNoLonger text.now) }
 {
     let tid = match id(front) {
         Ok(tid) => tid,
@@ -64,7 +64,7 @@ fn any_head(text: &[u8]) -> Result<Head<'_>, LineFault>
         (λ head. grammar.words_line (words text.now) ≡ line_headed head)
         (λ e. grammar.words_line (words text.now) ≡ Err e) }
     ensures id { IfOk result (λ head. IsTrue (has_thread head)) }
-    ensures rest { IfOk result (LiesIn text.now) }
+    ensures rest { IfOk result (IsNoLonger text.now) }
 {
     let Some((front, rest)) = next_word(text) else {
         return Ok(Head::Nothing);
@@ -84,7 +84,7 @@ fn short_head(text: &[u8]) -> Option<Head<'_>>
     ensures value { IfSome result
         (λ head. grammar.words_line (words text.now) ≡ line_headed head) }
     ensures id { IfSome result (λ head. IsTrue (has_thread head)) }
-    ensures rest { IfSome result (LiesIn text.now) }
+    ensures rest { IfSome result (IsNoLonger text.now) }
 {
     let (_, tid, rest) = next_number(text)?;
     let (name, rest) = next_call(rest)?;
@@ -98,7 +98,7 @@ pub(crate) fn read_head(text: &[u8]) -> Result<Head<'_>, LineFault>
         (λ head. grammar.words_line (words text.now) ≡ line_headed head)
         (λ e. grammar.words_line (words text.now) ≡ Err e) }
     ensures id { IfOk result (λ head. IsTrue (has_thread head)) }
-    ensures rest { IfOk result (LiesIn text.now) }
+    ensures rest { IfOk result (IsNoLonger text.now) }
 {
     if let Some(head) = short_head(text) {
         return Ok(head);
