@@ -34,13 +34,13 @@ use lpc_model::{
 };
 use lpc_ports::Creator;
 use lpc_procs::Caller;
-use lpc_sid::{Dacl, Token, access_check};
+use lpc_sid::{Dacl, access_check};
 use lpc_slots::Key;
 use lpc_steps::{
     base_of, deliver, handles_test, map_view, offer_test, view_test, wait_with, wanted_test,
 };
 use lpc_tokens::level::{DELEGATION, IMPERSONATION};
-use lpc_tokens::{Effective, Level, Qos, Security};
+use lpc_tokens::{Level, Qos, Security, TokenRef, effective_token};
 use lpc_views::View;
 use lpc_waits::{Offer, Wait, WaitKind};
 use lpc_world::World;
@@ -60,7 +60,7 @@ fn info_test(info: &[u8]) -> Result<(), Status>
 }
 
 /// The access list of a port, if it has one.
-fn access_list(world: &World, port: Key) -> Option<&Dacl>
+fn access_list<'a>(world: &'a World<'_>, port: Key) -> Option<&'a Dacl>
     requires { stands world.now.births.ports port ≡ true }
     ensures { option_copied result
         ≡ found.access_list world.now.rows (birth_at world.now port) }
@@ -79,7 +79,7 @@ fn access_list(world: &World, port: Key) -> Option<&Dacl>
 fn token_test(
     world: &World,
     level: Option<Level>,
-    token: &Token,
+    token: &TokenRef<'_>,
     connection: Key,
 ) -> Result<(), Status>
     requires { stands world.now.births.ports connection ≡ true }
@@ -89,7 +89,7 @@ fn token_test(
     if level.unwrap_or(DELEGATION) < IMPERSONATION {
         return Err(BAD_IMPERSONATION_LEVEL);
     }
-    if !access_check(token, access_list(world, connection), CONNECT_RIGHT) {
+    if !access_check(token.get(), access_list(world, connection), CONNECT_RIGHT) {
         return Err(ACCESS_DENIED);
     }
     Ok(())
@@ -113,29 +113,16 @@ fn access_test(world: &World, by: &Caller, connection: Key) -> Result<(), Status
 
 /// What a connect allows the server: the quality of service that it asks for, and with it the token with which its thread
 /// acts.
-fn allowed(world: &World, by: &Caller, quality: Qos) -> Security
+fn allowed<'t>(world: &World<'t>, by: &Caller, quality: Qos) -> Security<'t>
     requires live { has (is_live_thread by.now.number) world.now.rows.threads ≡ true }
     requires row { by.now ≡ as_caller (caller world.now.rows by.now.number) }
     requires process { has_process world.now.rows by.now.process ≡ true }
     ensures { let own = caller world.now.rows by.now.number in
         result ≡ Allows quality (found.acting_token world.now.rows own) }
 {
-    // Copied where it is handed back: each move of a token is one of 1,288 bytes.
-    match world.own_token(by.number) {
-        Some(own) => Security::Allows {
-            quality,
-            kept: Effective {
-                token: own.token.copy(),
-                level: Some(own.level),
-            },
-        },
-        None => Security::Allows {
-            quality,
-            kept: Effective {
-                token: world.process_token(by.process).copy(),
-                level: None,
-            },
-        },
+    Security::Allows {
+        quality,
+        kept: effective_token(world.process_token(by.process), world.own_token(by.number)),
     }
 }
 
@@ -393,12 +380,12 @@ fn start(
 }
 
 /// A connect begins, and its client port keeps what the connect allows.
-fn start_allowing(
-    world: &mut World,
+fn start_allowing<'t>(
+    world: &mut World<'t>,
     by: &Caller,
     connect: Connecting,
     message: &Message,
-    allowed: Security,
+    allowed: Security<'t>,
     out: &mut Entries,
 )
     requires spare { 2 ≤ out.old.spare }
@@ -418,7 +405,7 @@ fn start_allowing(
     requires asks { asks message.now ≡ true }
     requires client { message.now.header.client.thread ≡ by.now.number }
     ensures takes { let by = shown_caller by.now in
-        let steps = allowing_with world.old by connect message.now allowed in
+        let steps = allowing_with world.old by connect message.now allowed.entry in
         Took steps world.old world.new out.old out.new }
     ensures calls { world.new.calls ≡ world.old.calls }
     ensures capacity { world.new.capacity ≡ world.old.capacity }

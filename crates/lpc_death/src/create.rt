@@ -48,7 +48,7 @@ fn process_test(world: &World, by: u32, pid: u32, tid: u32) -> Result<(), Status
     handles_test(world, maker, 2)
 }
 
-/// `NtCreateProcess`: the caller makes a process, which gets a copy of the token of the caller's process, and then its
+/// `NtCreateProcess`: the caller makes a process, which gets the token of the caller's process, and then its
 /// first thread, and the caller's process gets a handle to each, in this order.
 ///
 /// Refusals, in this order: OBJECT_NAME_COLLISION where a number was ever used; QUOTA_EXCEEDED where the caller's

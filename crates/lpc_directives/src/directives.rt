@@ -18,6 +18,7 @@ use lpc_base::{Birth, OutOfMemory, Status};
 use lpc_names::{BindFault, status_of};
 use lpc_sid::Token;
 use lpc_steps::{thread_reserve, thread_test};
+use lpc_tokens::TokenRef;
 use lpc_world::World;
 
 /// What a directive makes has maker 0 and its own number as ordinal, and is of its own process.
@@ -57,12 +58,12 @@ fn token_test(world: &World, name: Option<&[u8]>) -> Result<(), Status>
 }
 
 /// The token that a `boot` names, which stands, and where it names none the local system's.
-fn boot_token(world: &World, name: Option<&[u8]>) -> Token
+fn boot_token<'t>(world: &World<'t>, name: Option<&[u8]>) -> TokenRef<'t>
     requires { IsOk (model.boot_token world.now.rows (option_copied name)) }
     ensures { model.boot_token world.now.rows (option_copied name.entry) ≡ Ok result }
 {
     let Some(name) = name else {
-        return Token::system();
+        return world.system_token();
     };
     match world.named_token(name) {
         Some(token) => token.copy(),
@@ -70,8 +71,7 @@ fn boot_token(world: &World, name: Option<&[u8]>) -> Token
     }
 }
 
-/// Why a `boot` makes no process: no token has the name that it gives, or a number was ever used. The token itself is
-/// looked up later: each move of one is one of some 1,400 bytes.
+/// Why a `boot` makes no process: no token has the name that it gives, or a number was ever used.
 #[tactic(auto, unfolding(lpc_model::specs::Machine::boot_line))]
 fn boot_test(world: &World, pid: u32, tid: u32, token: Option<&[u8]>) -> Result<(), Status>
     ensures refused { let line = boot_line world.now.rows pid tid (option_copied token.entry) in

@@ -32,12 +32,12 @@ fn is_server(world: &World, port: Key) -> bool
 /// The token as which a thread may act: that of a server port's client whose request a message names, or the first
 /// refusal.
 #[tactic(auto, unfolding(lpc_model::specs::Impersonation::nt_impersonate_client_of_port))]
-fn client_token(
-    world: &World,
+fn client_token<'t>(
+    world: &World<'t>,
     tid: u32,
     handle: u32,
     message: &[u8],
-) -> Result<Impersonation, Status>
+) -> Result<Impersonation<'t>, Status>
     requires { is_ready world.now.rows tid ≡ true }
     ensures { let found = service world.now.rows tid
         (impersonate_client_of_port handle message.now) in

@@ -62,7 +62,7 @@ pub(crate) fn served_client(world: &World, port: Key, header: Header) -> Option<
 /// What a port's security allows its server of a live thread that sent a request on it: nothing but on a client port;
 /// there the client's token, by static tracking the one that was kept at the connect, by dynamic tracking the one with
 /// which the thread acts now, each as far as the quality of service goes.
-fn allowed(world: &World, security: &Security, thread: u32) -> Option<Impersonation>
+fn allowed<'t>(world: &World<'t>, security: &Security<'t>, thread: u32) -> Option<Impersonation<'t>>
     requires { has (is_live_thread thread) world.now.rows.threads ≡ true }
     ensures { result ≡ impersonation.allowed world.now.rows security.now
         (caller world.now.rows thread) }
@@ -77,7 +77,7 @@ fn allowed(world: &World, security: &Security, thread: u32) -> Option<Impersonat
 }
 
 /// What the request with which a thread waits allows its server.
-pub(crate) fn allowed_by(world: &World, thread: u32) -> Option<Impersonation>
+pub(crate) fn allowed_by<'t>(world: &World<'t>, thread: u32) -> Option<Impersonation<'t>>
     requires { has (waits_as thread) world.now.rows.waits ≡ true }
     ensures { result ≡ impersonation.allowed_by world.now.rows (waiter world.now.rows thread) }
 {

@@ -30,7 +30,7 @@ const TOKEN_ACCESS: u32 = 1;
 
 /// The token as which a thread acts for a client: NO_TOKEN where it has none of its own, CANT_OPEN_ANONYMOUS where
 /// nobody may know its client by it.
-fn own_test(world: &World, tid: u32) -> Result<Impersonation, Status>
+fn own_test<'t>(world: &World<'t>, tid: u32) -> Result<Impersonation<'t>, Status>
     requires { is_ready world.now.rows tid ≡ true }
     ensures { result ≡ impersonation.own_test (caller world.now.rows tid) }
 {
@@ -47,7 +47,7 @@ fn own_test(world: &World, tid: u32) -> Result<Impersonation, Status>
 
 /// What the token shows that is made of the one as which a thread acts, unless it is refused.
 #[tactic(auto, unfolding(lpc_model::specs::Impersonation::nt_open_thread_token))]
-fn thread_content(world: &World, tid: u32) -> Result<Effective, Status>
+fn thread_content<'t>(world: &World<'t>, tid: u32) -> Result<Effective<'t>, Status>
     requires { is_ready world.now.rows tid ≡ true }
     ensures found { let by = caller world.now.rows tid in
         let found = service world.now.rows tid open_thread_token in
@@ -67,7 +67,7 @@ fn thread_content(world: &World, tid: u32) -> Result<Effective, Status>
 
 /// What the token shows that is made of the one of a thread's process, unless it is refused.
 #[tactic(auto, unfolding(lpc_model::specs::Impersonation::nt_open_process_token))]
-fn process_content(world: &World, tid: u32) -> Result<Effective, Status>
+fn process_content<'t>(world: &World<'t>, tid: u32) -> Result<Effective<'t>, Status>
     requires { is_ready world.now.rows tid ≡ true }
     ensures found { let by = caller world.now.rows tid in
         let found = service world.now.rows tid open_process_token in
@@ -107,7 +107,13 @@ fn reserve(world: &mut World, by: &Caller) -> Result<(), OutOfMemory>
 }
 
 /// A token enters the world under the next birth of its maker, with a handle for the maker's process.
-fn open(world: &mut World, by: &Caller, call: CallName, content: Effective, out: &mut Entries)
+fn open<'t>(
+    world: &mut World<'t>,
+    by: &Caller,
+    call: CallName,
+    content: Effective<'t>,
+    out: &mut Entries,
+)
     requires spare { 1 ≤ out.old.spare }
     requires room { 0 < world.old.room.tokens }
     requires handles { HasHandleRoom world.old by.now.process }
@@ -115,7 +121,7 @@ fn open(world: &mut World, by: &Caller, call: CallName, content: Effective, out:
     requires thread { HasCaller world.old.rows by.now }
     requires table { has (is_table by.now.process) world.old.rows.handles ≡ true }
     requires few { tests.handle_load world.old.rows by.now.process < HANDLE_LIMIT }
-    ensures takes { let steps = opening world.old.rows (shown_caller by.now) call content in
+    ensures takes { let steps = opening world.old.rows (shown_caller by.now) call content.entry in
         Took steps world.old world.new out.old out.new }
     ensures calls { world.new.calls ≡ world.old.calls }
     ensures capacity { world.new.capacity ≡ world.old.capacity }

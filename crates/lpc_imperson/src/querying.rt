@@ -62,14 +62,14 @@ fn level_field(level: Level) -> Fields
 }
 
 /// What a token tells by a class: None for another class, and for the level of a process's token.
-fn told_of(row: &TokenRow, class: u32) -> Option<Told>
+fn told_of(row: &TokenRow<'_>, class: u32) -> Option<Told>
     ensures told { option_map told_fields result ≡ option_map (λ field. field ∷ [])
         (impersonation.told_of (row_shown row.now) class) }
     ensures plain { IfSome result (λ told. is_plain told ≡ true) }
 {
     match class {
-        TOKEN_USER => Some(Told::Fields(user_field(&row.token))),
-        TOKEN_GROUPS => Some(Told::Groups(row.token.copy().groups)),
+        TOKEN_USER => Some(Told::Fields(user_field(row.token.get()))),
+        TOKEN_GROUPS => Some(Told::Groups(row.token.get().copy().groups)),
         TOKEN_IMPERSONATION_LEVEL => match row.level {
             Some(level) => Some(Told::Fields(level_field(level))),
             None => None,
@@ -79,7 +79,11 @@ fn told_of(row: &TokenRow, class: u32) -> Option<Told>
 }
 
 /// The token that a handle of the thread's process names: the faults of the handle.
-fn token_test(world: &World, tid: u32, handle: u32) -> Result<&TokenRow, Status>
+fn token_test<'a, 't>(
+    world: &'a World<'t>,
+    tid: u32,
+    handle: u32,
+) -> Result<&'a TokenRow<'t>, Status>
     requires { is_ready world.now.rows tid ≡ true }
     ensures { let by = caller world.now.rows tid in
         Answers result (λ row. row_shown row.now)

@@ -63,6 +63,7 @@ use lpc_request::{
     nt_request_wait_reply_port,
 };
 use lpc_sweep::sweep;
+use lpc_tokens::TokenArena;
 use lpc_world::World;
 use std::alloc::Global;
 use std::marker::Model;
@@ -73,11 +74,11 @@ use std::marker::Model;
 /// made on it. Each of its waits is sound: what its thread waits for can still come, and hasn't come yet. Some row
 /// counts for each object that stands.
 #[derive(Drop)]
-pub struct Machine {
-    world: World,
+pub struct Machine<'t> {
+    world: World<'t>,
 }
 
-impl Model for Machine {
+impl<'t> Model for Machine<'t> {
     ghost use Rattle.lpc_machine.specs.Settled.{IsSettled};
     ghost use Rattle.lpc_rows.specs.Kept.{Kept};
 
@@ -412,19 +413,19 @@ fn take(world: &mut World, line: &Line<'_>, out: &mut Entries) -> Result<(), Out
     }
 }
 
-impl Machine {
-    /// A machine before its first line.
-    pub fn new(alloc: Global) -> Machine
+impl<'t> Machine<'t> {
+    /// A machine before its first line, whose tokens lie in this arena.
+    pub fn new(alloc: Global, arena: &'t TokenArena) -> Machine<'t>
         ensures rows { result.rows ≡ no_rows }
         ensures calls { result.calls ≡ 0 }
     {
         Machine {
-            world: World::empty(alloc),
+            world: World::empty(alloc, arena),
         }
     }
 
     /// The world as the lines so far have left it.
-    pub fn world(&self) -> &World
+    pub fn world(&self) -> &World<'t>
         ensures world { result.now ≡ self.now }
         ensures sound { HasSoundWaits result.now.rows }
         ensures held { HasHeldRows result.now.rows }

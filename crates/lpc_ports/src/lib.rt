@@ -38,7 +38,7 @@ pub struct Creator {
 
 /// A row of the table: a port.
 #[derive(Drop)]
-pub struct Port {
+pub struct Port<'t> {
     /// The name that it was made under.
     pub birth: Birth,
     /// Which of the four kinds it is.
@@ -54,7 +54,7 @@ pub struct Port {
     /// The connection is completed; false until it is set.
     pub completed: bool,
     /// Who may use the port, and what it allows; unsecured until it is set.
-    pub security: Security,
+    pub security: Security<'t>,
 }
 
 // There is a key, and it is this one.
@@ -72,8 +72,8 @@ fn is_the(key: Key, other: Option<Key>) -> bool
 /// A port has a row from `add` to `free`. Here it counts as open while it has one: whether a handle names it isn't
 /// known to this table. No call but `reserve` takes memory. This project's own.
 #[derive(Drop)]
-pub struct Ports {
-    ports: Slots<PortRow>,
+pub struct Ports<'t> {
+    ports: Slots<PortRow<'t>>,
     blocks: Slots<Block>,
     totals: Totals,
     // The rows tell how many ports name each port. That ends where a port is named that has no row, and where one goes
@@ -81,7 +81,7 @@ pub struct Ports {
     whole: bool,
 }
 
-impl Model for Ports {
+impl<'t> Model for Ports<'t> {
     ghost use Rattle.lpc_ports.specs.Table.{PortTable};
 
     ghost Value = { PortTable };
@@ -94,9 +94,9 @@ impl Model for Ports {
     ghost invariant = { λ s. IsKept s.ports s.blocks s.totals s.whole };
 }
 
-impl Ports {
+impl<'t> Ports<'t> {
     /// No ports and no messages, and no spare room.
-    pub fn new(alloc: Global) -> Ports
+    pub fn new(alloc: Global) -> Ports<'t>
         ensures { result ≡ nothing }
     {
         Ports {
@@ -183,7 +183,7 @@ impl Ports {
     }
 
     /// The port of a key: None exactly where the port has no row.
-    pub fn get(&self, port: Key) -> Option<&Port>
+    pub fn get(&self, port: Key) -> Option<&Port<'t>>
         ensures { option_copied result ≡ row_at self.now.ports port }
     {
         let row = self.ports.get(port)?;
@@ -207,7 +207,7 @@ impl Ports {
     }
 
     /// The port at a place, and its key. Places go from 0 in the order of making.
-    pub fn port_at(&self, place: usize) -> (Key, &Port)
+    pub fn port_at(&self, place: usize) -> (Key, &Port<'t>)
         requires { place < length self.now.ports }
         ensures { slice_get self.now.ports place ≡ Some (result.0, result.1.now) }
     {
@@ -290,7 +290,7 @@ impl Ports {
     }
 
     /// Who may use a port that has a row, and what it allows: unsecured until it is set.
-    pub fn security(&self, port: Key) -> &Security
+    pub fn security(&self, port: Key) -> &Security<'t>
         requires { IsSome (row_at self.now.ports port) }
         ensures { option_map (λ row. row.security) (row_at self.now.ports port) ≡ Some result.now }
     {
@@ -316,8 +316,8 @@ impl Ports {
     }
 
     /// Says of a port who may use it, and what it allows. What has no row gets none.
-    pub fn set_security(&mut self, port: Key, security: Security)
-        ensures { self.new ≡ with_changed self.old port (with_security security) }
+    pub fn set_security(&mut self, port: Key, security: Security<'t>)
+        ensures { self.new ≡ with_changed self.old port (with_security security.entry) }
     {
         if let Some(row) = self.ports.get_mut(port) {
             row.port.security = security;
@@ -616,7 +616,7 @@ impl Ports {
     }
 
     // The row of an open port.
-    fn row(&self, port: Key) -> &Port
+    fn row(&self, port: Key) -> &Port<'t>
         requires { IsSome (row_at self.now.ports port) }
         ensures { row_at self.now.ports port ≡ Some result.now }
     {

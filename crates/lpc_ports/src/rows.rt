@@ -11,9 +11,9 @@ use lpc_slots::{Chain, Key, Slots};
 
 /// A row of the table of ports: the port, its queue, and the messages that stand in queues and were sent on it.
 #[derive(Drop)]
-pub(crate) struct PortRow {
+pub(crate) struct PortRow<'t> {
     /// The port.
-    pub port: Port,
+    pub port: Port<'t>,
     /// The messages in its queue.
     pub queued: Chain<0>,
     /// The messages that were sent on it.

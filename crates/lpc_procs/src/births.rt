@@ -68,12 +68,12 @@ pub struct ChildOf {
     pub pid: u32,
 }
 
-impl Test<Counted> for ChildOf {
+impl<'t> Test<Counted<'t>> for ChildOf {
     ghost use Rattle.lpc_procs.specs.Kept.{is_peopled_child};
 
     ghost test = { λ asked p. is_peopled_child asked.pid p };
 
-    fn passes(&self, p: &Counted) -> bool {
+    fn passes(&self, p: &Counted<'t>) -> bool {
         is_peopled_child(p, self.pid)
     }
 }
@@ -85,12 +85,12 @@ pub struct ProcessNamed {
     pub birth: Birth,
 }
 
-impl Test<Counted> for ProcessNamed {
+impl<'t> Test<Counted<'t>> for ProcessNamed {
     ghost use Rattle.lpc_procs.specs.Kept.{has_name};
 
     ghost test = { λ asked p. has_name asked.birth p };
 
-    fn passes(&self, p: &Counted) -> bool {
+    fn passes(&self, p: &Counted<'t>) -> bool {
         is_name(p.row.birth, self.birth)
     }
 }
@@ -102,12 +102,12 @@ pub struct ThreadNamed {
     pub birth: Birth,
 }
 
-impl Test<ThreadRow> for ThreadNamed {
+impl<'t> Test<ThreadRow<'t>> for ThreadNamed {
     ghost use Rattle.lpc_procs.specs.Procs.{is_thread_born};
 
     ghost test = { λ asked t. is_thread_born asked.birth t };
 
-    fn passes(&self, t: &ThreadRow) -> bool {
+    fn passes(&self, t: &ThreadRow<'t>) -> bool {
         is_name(t.birth, self.birth)
     }
 }
@@ -126,12 +126,12 @@ pub struct LifeOf {
     pub birth: Birth,
 }
 
-impl Test<ThreadRow> for LifeOf {
+impl<'t> Test<ThreadRow<'t>> for LifeOf {
     ghost use Rattle.lpc_procs.specs.Procs.{is_life};
 
     ghost test = { λ asked t. is_life asked.birth t };
 
-    fn passes(&self, t: &ThreadRow) -> bool {
+    fn passes(&self, t: &ThreadRow<'t>) -> bool {
         is_life(t, self.birth)
     }
 }

@@ -54,12 +54,12 @@ pub struct Told {
     pub birth: Birth,
 }
 
-impl Test<Counted> for Told {
+impl<'t> Test<Counted<'t>> for Told {
     ghost use Rattle.lpc_procs.specs.Procs.{has_event_port};
 
     ghost test = { λ asked p. has_event_port asked.birth p.row };
 
-    fn passes(&self, p: &Counted) -> bool {
+    fn passes(&self, p: &Counted<'t>) -> bool {
         has_event_port(&p.row, self.birth)
     }
 }

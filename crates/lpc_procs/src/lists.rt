@@ -22,12 +22,12 @@ pub struct LivesIn {
     pub pid: u32,
 }
 
-impl Test<ThreadRow> for LivesIn {
+impl<'t> Test<ThreadRow<'t>> for LivesIn {
     ghost use Rattle.lpc_procs.specs.Procs.{lives_in};
 
     ghost test = { λ asked t. lives_in asked.pid t };
 
-    fn passes(&self, t: &ThreadRow) -> bool {
+    fn passes(&self, t: &ThreadRow<'t>) -> bool {
         t.process == self.pid && t.live
     }
 }

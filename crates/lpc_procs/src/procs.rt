@@ -17,8 +17,8 @@ use crate::{Number, ProcessRow, ThreadRow, lists};
 use arrayvec::ArrayVec;
 use lpc_base::{Birth, OutOfMemory};
 use lpc_numbers::{Named, Numbered, Tally};
-use lpc_sid::Token;
 use lpc_slots::{Key, Slots};
+use lpc_tokens::TokenRef;
 use std::alloc::Global;
 use std::marker::Model;
 
@@ -35,9 +35,9 @@ const SPARE_TAGS: usize = 64;
 /// is told, of registrations and of such ports by the tags of their names, and of the live processes that each made;
 /// nor that the threads of each process stand together once more, so that those of one are found without a look at the
 /// others.
-pub struct Procs {
-    processes: Slots<Counted>,
-    threads: Slots<ThreadRow>,
+pub struct Procs<'t> {
+    processes: Slots<Counted<'t>>,
+    threads: Slots<ThreadRow<'t>>,
     process_names: Named,
     thread_names: Named,
     used_processes: Numbered<Key>,
@@ -52,7 +52,7 @@ pub struct Procs {
     told_tags: Tally,
 }
 
-impl Model for Procs {
+impl<'t> Model for Procs<'t> {
     ghost use Rattle.std.specs.Prelude.{min};
     ghost use Rattle.lpc_procs.specs.Procs.{Table};
     ghost use Rattle.lpc_procs.specs.Kept.{IsStored, process_rows, rows_in, used_rows};
@@ -76,7 +76,7 @@ impl Model for Procs {
 }
 
 // Written out, so that a proof about what holds these tables lets them go in one step, and not map by map.
-impl Drop for Procs {
+impl<'t> Drop for Procs<'t> {
     fn drop(self) {
         let Procs {
             processes: _,
@@ -97,9 +97,9 @@ impl Drop for Procs {
     }
 }
 
-impl Procs {
+impl<'t> Procs<'t> {
     /// No process, no thread, no number used and no room. It takes no memory, and keeps the allocator for `reserve`.
-    pub fn new(alloc: Global) -> Procs
+    pub fn new(alloc: Global) -> Procs<'t>
         ensures empty { result ≡ nothing }
     {
         Procs {
@@ -159,10 +159,10 @@ impl Procs {
         self.used_threads.reserve(threads)
     }
 
-    /// Adds a process under a number that no process ever had, made by the process `maker` or by a directive, with a
-    /// copy of the token. No port is told of its exceptions, and it isn't to end. There is spare room for it, and the
-    /// number is from 1 to 2,147,483,647.
-    pub fn add_process(&mut self, pid: u32, maker: Option<u32>, birth: Birth, token: &Token)
+    /// Adds a process under a number that no process ever had, made by the process `maker` or by a directive, with this
+    /// token. No port is told of its exceptions, and it isn't to end. There is spare room for it, and the number is from
+    /// 1 to 2,147,483,647.
+    pub fn add_process(&mut self, pid: u32, maker: Option<u32>, birth: Birth, token: &TokenRef<'t>)
         requires room { 0 < self.old.process_room }
         requires number { IsNumber pid }
         requires new { procs.was_used self.old (Number.Process pid) ≡ false }

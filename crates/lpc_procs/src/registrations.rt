@@ -44,12 +44,12 @@ pub struct Untold {
     pub pid: u32,
 }
 
-impl Test<ThreadRow> for Untold {
+impl<'t> Test<ThreadRow<'t>> for Untold {
     ghost use Rattle.lpc_procs.specs.Procs.{is_untold};
 
     ghost test = { λ asked t. is_untold asked.pid t };
 
-    fn passes(&self, t: &ThreadRow) -> bool {
+    fn passes(&self, t: &ThreadRow<'t>) -> bool {
         is_untold(t, self.pid)
     }
 }
@@ -114,12 +114,12 @@ pub struct Registers {
     pub birth: Birth,
 }
 
-impl Test<ThreadRow> for Registers {
+impl<'t> Test<ThreadRow<'t>> for Registers {
     ghost use Rattle.lpc_procs.specs.Procs.{has_registered};
 
     ghost test = { λ asked t. has_registered asked.birth t };
 
-    fn passes(&self, t: &ThreadRow) -> bool {
+    fn passes(&self, t: &ThreadRow<'t>) -> bool {
         has_birth(&t.registered, self.birth)
     }
 }

@@ -2,9 +2,8 @@
 use arrayvec::ArrayVec;
 use lpc_base::Birth;
 use lpc_base::limits::REGISTRATION_LIMIT;
-use lpc_sid::Token;
 use lpc_slots::Key;
-use lpc_tokens::Impersonation;
+use lpc_tokens::{Impersonation, TokenRef};
 
 /// The number of a process or of a thread. The two are spaces of their own: one number may name a process and a thread.
 #[derive(Clone, Copy)]
@@ -17,7 +16,7 @@ pub enum Number {
 
 /// A process.
 #[derive(Drop)]
-pub struct ProcessRow {
+pub struct ProcessRow<'t> {
     /// From 1 to 2147483647.
     pub number: u32,
     /// The number of the process that made it, none where a directive did.
@@ -25,7 +24,7 @@ pub struct ProcessRow {
     /// The name that it was made under.
     pub birth: Birth,
     /// Who it is.
-    pub token: Token,
+    pub token: TokenRef<'t>,
     /// The port that is told of its exceptions before its frame handlers are, and again behind them; None until it is
     /// set.
     pub debug_port: Option<Registration>,
@@ -37,9 +36,9 @@ pub struct ProcessRow {
 
 /// A process, and beside it the count of its live threads.
 #[derive(Drop)]
-pub struct Counted {
+pub struct Counted<'t> {
     /// The process.
-    pub row: ProcessRow,
+    pub row: ProcessRow<'t>,
     /// How many live threads are of it.
     pub live: usize,
 }
@@ -84,7 +83,7 @@ pub struct Registration {
 
 /// A thread.
 #[derive(Drop)]
-pub struct ThreadRow {
+pub struct ThreadRow<'t> {
     /// From 1 to 2147483647.
     pub number: u32,
     /// The number of its process.
@@ -100,7 +99,7 @@ pub struct ThreadRow {
     /// The ports that are to be told of its end, in the order in which it registered them.
     pub registered: ArrayVec<Registration, REGISTRATION_LIMIT>,
     /// The token as which it acts for a client; None where it acts with that of its process.
-    pub own: Option<Impersonation>,
+    pub own: Option<Impersonation<'t>>,
 }
 
 /// What a call knows of the thread that makes it: the thread's row, but for its registrations and the token as which it

@@ -30,7 +30,7 @@ pub(crate) fn transfer_test(len: usize) -> Result<(), Status>
 /// The bytes at an address of a thread's process: INVALID_PARAMETER for none or more than 4096, ACCESS_VIOLATION where
 /// no one view holds them.
 #[tactic(auto, unfolding(lpc_model::specs::Memory::nt_read_virtual_memory))]
-fn read_test(world: &World, tid: u32, address: u32, len: u32) -> Result<&[u8], Status>
+fn read_test<'a>(world: &'a World<'_>, tid: u32, address: u32, len: u32) -> Result<&'a [u8], Status>
     requires { is_ready world.now.rows tid ≡ true }
     ensures found { let found = service world.now.rows tid (read_virtual_memory address len) in
         MatchResult result

@@ -16,6 +16,7 @@ use crate::sending::send_all;
 use lpc_base::{Failed, OutOfMemory, Sink, Source};
 use lpc_model::LineFault;
 use lpc_script::Scratch;
+use lpc_tokens::TokenArena;
 use std::alloc::Global;
 
 /// How a script was replayed.
@@ -314,7 +315,8 @@ pub fn play<S: Source, K: Sink>(
 {
     let mut scratch = Scratch::new(alloc)?;
     let mut reader = Reader::new(alloc)?;
+    let arena = TokenArena::new(alloc);
     // The playback comes last, since its tables go last then: no other way out has to let them go.
-    let mut playback = Playback::new(alloc, form)?;
+    let mut playback = Playback::new(alloc, &arena, form)?;
     play_through(&mut playback, &mut scratch, &mut reader, source, sink)
 }

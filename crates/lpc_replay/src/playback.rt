@@ -22,6 +22,7 @@ use lpc_residents::Residents;
 use lpc_script::{Scratch, read_line};
 use lpc_snapshot::print_rows;
 use lpc_states::print_changes;
+use lpc_tokens::TokenArena;
 use lpc_transcript::{print, print_end, print_stop};
 use std::alloc::Global;
 use std::marker::Model;
@@ -38,9 +39,9 @@ struct Snapshots {
 
 /// A script as far as it has run, and the text that is to be sent next.
 #[derive(Drop)]
-pub struct Playback {
+pub struct Playback<'t> {
     form: Form,
-    machine: Machine,
+    machine: Machine<'t>,
     residents: Residents,
     out: Entries,
     snapshots: Snapshots,
@@ -49,7 +50,7 @@ pub struct Playback {
     told: u128,
 }
 
-impl Model for Playback {
+impl<'t> Model for Playback<'t> {
     ghost use Rattle.lpc_replay.specs.Playing.{AreCounted, Played, ShowsRows};
 
     ghost Value = { Played };
@@ -65,18 +66,22 @@ impl Model for Playback {
         × ShowsRows p.snapshots.are_last p.snapshots.rows.items p.machine.rows };
 }
 
-impl Playback {
-    /// Before the first line, of which this is to be sent.
+impl<'t> Playback<'t> {
+    /// Before the first line, of which this is to be sent. Tokens lie in this arena.
     ///
     /// OutOfMemory comes where memory for the entries' buffer is wanting; no clause tells more of when it does.
-    pub fn new(alloc: Global, form: Form) -> Result<Playback, OutOfMemory>
+    pub fn new(
+        alloc: Global,
+        arena: &'t TokenArena,
+        form: Form,
+    ) -> Result<Playback<'t>, OutOfMemory>
         ensures { IfOk result
             (λ p. p ≡ record { form = form; at = begin; entries = []; text = [] }) }
     {
         let out = Entries::new(alloc)?;
         Ok(Playback {
             form,
-            machine: Machine::new(alloc),
+            machine: Machine::new(alloc, arena),
             residents: Residents::new(alloc),
             out,
             snapshots: Snapshots {

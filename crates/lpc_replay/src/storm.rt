@@ -13,6 +13,7 @@ use lpc_base::status::{REPLY_MESSAGE_MISMATCH, SUCCESS};
 use lpc_model::{CallName, Entry, LineFault};
 use lpc_script::Scratch;
 use lpc_storm::{CLIENTS, ROUNDS_LIMIT, Rounds, StormLine, Summary, connecting, ending, opening};
+use lpc_tokens::TokenArena;
 use std::alloc::Global;
 use std::marker::Model;
 
@@ -21,17 +22,17 @@ const LINE_ROOM: usize = 80;
 
 /// A storm as far as it has run.
 #[derive(Drop)]
-struct Storm {
+struct Storm<'t> {
     line: Vec<u8>,
     scratch: Scratch,
     fault: Option<LineFault>,
     replies: u128,
     mismatches: u128,
     total: u32,
-    playback: Playback,
+    playback: Playback<'t>,
 }
 
-impl Model for Storm {
+impl<'t> Model for Storm<'t> {
     ghost use Rattle.std.specs.Prelude.{◌≡◌, ◌≤◌, ◌*◌, ◌^◌};
     ghost use Rattle.lpc_base.specs.declared.limits.TheConstants.{LINES_LIMIT};
     ghost use Rattle.lpc_replay.specs.Storming.{Tally};
@@ -118,16 +119,16 @@ fn summed(total: u32, bytes: &[u8]) -> u32
     total
 }
 
-impl Storm {
-    /// Before the first line.
-    fn new(alloc: Global) -> Result<Storm, OutOfMemory>
+impl<'t> Storm<'t> {
+    /// Before the first line. Tokens lie in this arena.
+    fn new(alloc: Global, arena: &'t TokenArena) -> Result<Storm<'t>, OutOfMemory>
         ensures { IfOk result (λ s. s ≡ calm) }
     {
         let Ok(line) = Vec::with_capacity(alloc, LINE_ROOM) else {
             return Err(OutOfMemory);
         };
         let scratch = Scratch::new(alloc)?;
-        let playback = Playback::new(alloc, Form::Transcript)?;
+        let playback = Playback::new(alloc, arena, Form::Transcript)?;
         Ok(Storm {
             line,
             scratch,
@@ -217,7 +218,8 @@ pub fn run_storm(alloc: Global, count: u32, seed: u32) -> Result<Summary, OutOfM
     requires { count ≤ 200000 }
     ensures { IfOk result (λ s. s ≡ summary.summary_of (storm.generated count seed)) }
 {
-    let mut storm = Storm::new(alloc)?;
+    let arena = TokenArena::new(alloc);
+    let mut storm = Storm::new(alloc, &arena)?;
     storm.run_lines(&opening())?;
     storm.connect(&CLIENTS)?;
     storm.run_rounds(count, seed)?;

@@ -7,12 +7,13 @@ ghost use Rattle.lpc_states.specs.Rows.{lines, process_row, thread_row};
 ghost use Rattle.lpc_states.specs.Values.{behind_comma, impersonation_text, listed, or_null, port_text};
 
 use crate::counts::put_counts;
+use crate::tokens::put_row_token;
 use lpc_base::{Birth, OutOfMemory};
 use lpc_model::ObjectKind;
 use lpc_procs::{ProcessRow, Registration, ThreadRow};
 use lpc_states::{
     put_decimal_under, put_flag_under, put_hex_or_null_under, put_leveled,
-    put_number_or_null_under, put_object, put_port_or_null_under, put_token_under,
+    put_number_or_null_under, put_object, put_port_or_null_under,
 };
 use lpc_tokens::Impersonation;
 use lpc_transcript::put;
@@ -28,7 +29,11 @@ fn event_port(port: Option<Registration>) -> Option<Birth>
     }
 }
 
-fn put_process(into: &mut Vec<u8>, world: &World, process: &ProcessRow) -> Result<(), OutOfMemory>
+fn put_process(
+    into: &mut Vec<u8>,
+    world: &World,
+    process: &ProcessRow<'_>,
+) -> Result<(), OutOfMemory>
     ensures ok { Puts into.old.items into.new.items
         (process_row world.now.rows (shown_process process.now)) result }
     ensures err { OnErr result (BeginsWith into.new.items into.old.items) }
@@ -39,7 +44,7 @@ fn put_process(into: &mut Vec<u8>, world: &World, process: &ProcessRow) -> Resul
     put_object(into, ObjectKind::Process, process.birth)?;
     put_decimal_under(into, b",\"number\":", process.number)?;
     put_number_or_null_under(into, b",\"maker\":", process.maker)?;
-    put_token_under(into, b",\"token\":", &process.token)?;
+    put_row_token(into, b",\"token\":", &process.token)?;
     put_port_or_null_under(into, b",\"debug_port\":", event_port(process.debug_port))?;
     put_port_or_null_under(
         into,
@@ -52,7 +57,7 @@ fn put_process(into: &mut Vec<u8>, world: &World, process: &ProcessRow) -> Resul
 }
 
 // The process at a place, in the order of making.
-fn process_at(world: &World, place: usize) -> &ProcessRow
+fn process_at<'a, 't>(world: &'a World<'t>, place: usize) -> &'a ProcessRow<'t>
     requires { place < length world.now.rows.processes }
     ensures { slice_get world.now.rows.processes place ≡ Some (shown_process result.now) }
 {
@@ -122,7 +127,7 @@ fn put_registrations(into: &mut Vec<u8>, ports: &[Registration]) -> Result<(), O
 }
 
 // The token as which a thread acts.
-fn put_own(into: &mut Vec<u8>, own: Option<&Impersonation>) -> Result<(), OutOfMemory>
+fn put_own(into: &mut Vec<u8>, own: Option<&Impersonation<'_>>) -> Result<(), OutOfMemory>
     ensures ok { Puts into.old.items into.new.items
         (or_null impersonation_text (option_copied own.entry)) result }
     ensures err { OnErr result (BeginsWith into.new.items into.old.items) }
@@ -136,7 +141,7 @@ fn put_own(into: &mut Vec<u8>, own: Option<&Impersonation>) -> Result<(), OutOfM
     }
 }
 
-fn put_thread(into: &mut Vec<u8>, world: &World, thread: &ThreadRow) -> Result<(), OutOfMemory>
+fn put_thread(into: &mut Vec<u8>, world: &World, thread: &ThreadRow<'_>) -> Result<(), OutOfMemory>
     ensures ok { Puts into.old.items into.new.items
         (thread_row world.now.rows (shown_thread thread.now)) result }
     ensures err { OnErr result (BeginsWith into.new.items into.old.items) }
@@ -159,7 +164,7 @@ fn put_thread(into: &mut Vec<u8>, world: &World, thread: &ThreadRow) -> Result<(
 }
 
 // The thread at a place, in the order of making.
-fn thread_at(world: &World, place: usize) -> &ThreadRow
+fn thread_at<'a, 't>(world: &'a World<'t>, place: usize) -> &'a ThreadRow<'t>
     requires { place < length world.now.rows.threads }
     ensures { slice_get world.now.rows.threads place ≡ Some (shown_thread result.now) }
 {

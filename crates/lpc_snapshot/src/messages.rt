@@ -77,7 +77,7 @@ fn put_message(
 }
 
 // The message at a place, in the order of sending, and its queue.
-fn message_at(world: &World, place: usize) -> (Key, &Message)
+fn message_at<'a>(world: &'a World<'_>, place: usize) -> (Key, &'a Message)
     requires { place < length world.now.rows.messages }
     ensures row { slice_get world.now.rows.messages place
         ≡ Some (pulled_row world.now.births result.0 result.1.now) }

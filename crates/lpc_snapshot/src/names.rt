@@ -90,7 +90,7 @@ fn put_binding(
 }
 
 // The name at a place, in the order of binding.
-fn binding_at(world: &World, place: usize) -> (&[u8], &Node<Key>)
+fn binding_at<'a>(world: &'a World<'_>, place: usize) -> (&'a [u8], &'a Node<Key>)
     requires { place < length world.now.rows.bindings }
     ensures row { slice_get world.now.rows.bindings place
         ≡ Some (shown_binding (birth_of world.now.births)

@@ -45,7 +45,7 @@ fn put_creator_or_null(into: &mut Vec<u8>, creator: Option<Creator>) -> Result<(
     }
 }
 
-fn put_port(into: &mut Vec<u8>, world: &World, key: Key, port: &Port) -> Result<(), OutOfMemory>
+fn put_port(into: &mut Vec<u8>, world: &World, key: Key, port: &Port<'_>) -> Result<(), OutOfMemory>
     requires stands { stands world.now.births.ports key ≡ true }
     requires name { name_of world.now.births.ports key ≡ (port.now).birth }
     requires refs { all_pass port_refs (object_stands world.now.births) (key, port.now) ≡ true }
@@ -76,7 +76,7 @@ fn put_port(into: &mut Vec<u8>, world: &World, key: Key, port: &Port) -> Result<
 }
 
 // The port at a place, in the order of making.
-fn port_at(world: &World, place: usize) -> (Key, &Port)
+fn port_at<'a, 't>(world: &'a World<'t>, place: usize) -> (Key, &'a Port<'t>)
     requires { place < length world.now.rows.ports }
     ensures row { slice_get world.now.rows.ports place
         ≡ Some (shown_port (birth_of world.now.births) (result.0, result.1.now)) }

@@ -54,7 +54,7 @@ fn put_section(
 }
 
 // The section at a place, in the order of making.
-fn section_at(world: &World, place: usize) -> (Key, &Section)
+fn section_at<'a>(world: &'a World<'_>, place: usize) -> (Key, &'a Section)
     requires { place < length world.now.rows.sections }
     ensures row { slice_get world.now.rows.sections place
         ≡ Some (shown_section (result.0, result.1.now)) }

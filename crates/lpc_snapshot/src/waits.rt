@@ -214,7 +214,7 @@ fn put_wait(into: &mut Vec<u8>, world: &World, row: &WaitRow) -> Result<(), OutO
 }
 
 // The wait at a place, in the order of waiting.
-fn wait_at(world: &World, place: usize) -> &WaitRow
+fn wait_at<'a>(world: &'a World<'_>, place: usize) -> &'a WaitRow
     requires { place < length world.now.rows.waits }
     ensures row { slice_get world.now.rows.waits place
         ≡ Some (shown_wait (birth_of world.now.births) (waiting_of result.now)) }

@@ -8,7 +8,7 @@ ghost use Rattle.lpc_states.specs.Values.{ace_text, allowed_text, behind_comma, 
 use crate::values::{put_flag_under, put_hex_under, put_number_or_null_under};
 use lpc_base::OutOfMemory;
 use lpc_sid::{Ace, Sid, Token};
-use lpc_tokens::{Effective, Level, Qos, Security, Tracking};
+use lpc_tokens::{Effective, Level, Qos, Security, TokenRef, Tracking};
 use lpc_transcript::{put, put_number, put_sid};
 
 #[tactic(auto, using(std::proofs::Common::append_assoc, lpc_transcript::proofs::Begins::begins_before))]
@@ -92,8 +92,8 @@ pub fn put_token_under(into: &mut Vec<u8>, key: &[u8], token: &Token) -> Result<
     put_token(into, token)
 }
 
-/// A token with the level of an impersonation token, none where it is a process's.
-pub fn put_leveled(
+// A token with the level of an impersonation token, wherever the token lies.
+fn put_token_and_level(
     into: &mut Vec<u8>,
     token: &Token,
     level: Option<Level>,
@@ -106,6 +106,20 @@ pub fn put_leveled(
     put_token_under(into, b"{\"token\":", token)?;
     put_number_or_null_under(into, b",\"level\":", level.map(u32::from))?;
     put(into, b"}")
+}
+
+/// A token with the level of an impersonation token, none where it is a process's.
+pub fn put_leveled(
+    into: &mut Vec<u8>,
+    token: &TokenRef<'_>,
+    level: Option<Level>,
+) -> Result<(), OutOfMemory>
+    ensures ok { Puts into.old.items into.new.items (leveled_text token.now level) result }
+    ensures err { OnErr result (BeginsWith into.new.items into.old.items) }
+    ensures capacity { vec_capacity into.old ≤ vec_capacity into.new }
+    ensures wanting { OnErr result (LacksRoom into.old (leveled_text token.now level)) }
+{
+    put_token_and_level(into, token.get(), level)
 }
 
 fn put_ace(into: &mut Vec<u8>, ace: &Ace) -> Result<(), OutOfMemory>

@@ -9,10 +9,10 @@ use lpc_message::kind::{
     CONNECTION_REQUEST, DATAGRAM, DEBUG_EVENT, EXCEPTION, PORT_CLOSED, REPLY, REQUEST,
 };
 use lpc_ports::{Creator, Message, PortKind, Ports};
-use lpc_sid::Dacl;
+use lpc_sid::{Dacl, Token};
 use lpc_slots::Key;
 use lpc_tokens::level::IMPERSONATION;
-use lpc_tokens::{Effective, Qos, Security, Tracking};
+use lpc_tokens::{Effective, Qos, Security, TokenRef, Tracking};
 use std::process::Abort;
 use std::test::Fail;
 
@@ -123,27 +123,45 @@ fn port_is_read_and_freed(rt: HostRuntime) -> Result<(), Fail> {
     Ok(())
 }
 
-// Who may use the port, and what it allows.
-fn is_secured(rt: &impl Abort, ports: &Ports, port: Key, security: &Security)
+// The port has the access list that lets nobody connect.
+fn is_guarded(rt: &impl Abort, ports: &Ports, port: Key)
     requires { IsSome (row_at ports.now.ports port) }
 {
-    assert!(rt; ports.security(port).copy() == *security);
+    match ports.security(port).copy() {
+        Security::Guarded(dacl) => assert!(rt; dacl == Dacl::default()),
+        Security::Unsecured | Security::Allows { .. } => assert!(rt; false),
+    }
+}
+
+// The port allows its server the guest's token.
+fn allows(rt: &impl Abort, ports: &Ports, port: Key)
+    requires { IsSome (row_at ports.now.ports port) }
+{
+    match ports.security(port) {
+        Security::Allows { quality, kept } => {
+            assert!(rt; quality.level == IMPERSONATION);
+            assert!(rt; quality.tracking == Tracking::Dynamic);
+            assert!(rt; *kept.token.get() == guest());
+            assert!(rt; kept.level == None);
+        }
+        Security::Unsecured | Security::Guarded(_) => assert!(rt; false),
+    }
 }
 
 // An access list that lets nobody connect.
-fn guard() -> Security {
+fn guard<'t>() -> Security<'t> {
     Security::Guarded(Dacl::default())
 }
 
 // What a client allows that asked for the level of impersonation, with the token that it has when the server asks.
-fn allowance() -> Security {
+fn allowance(token: &Token) -> Security<'_> {
     Security::Allows {
         quality: Qos {
             level: IMPERSONATION,
             tracking: Tracking::Dynamic,
         },
         kept: Effective {
-            token: guest(),
+            token: TokenRef::new(token),
             level: None,
         },
     }
@@ -152,14 +170,15 @@ fn allowance() -> Security {
 #[test]
 #[tactic(auto, using(lpc_slots::proofs::Keys::key_itself))]
 fn port_is_unsecured_until_it_is_secured(rt: HostRuntime) -> Result<(), Fail> {
+    let guest = guest();
     let mut ports = Ports::new(rt.alloc());
     ports.reserve(1, 0)?;
     let port = ports.add(PortKind::Client, birth(1), None);
-    is_secured(&rt, &ports, port, &Security::Unsecured);
+    assert!(rt; matches!(ports.security(port), Security::Unsecured));
     ports.set_security(port, guard());
-    is_secured(&rt, &ports, port, &guard());
-    ports.set_security(port, allowance());
-    is_secured(&rt, &ports, port, &allowance());
+    is_guarded(&rt, &ports, port);
+    ports.set_security(port, allowance(&guest));
+    allows(&rt, &ports, port);
     Ok(())
 }
 

@@ -9,8 +9,8 @@ use lpc_message::ClientId;
 use lpc_procs::{Number, Procs};
 use lpc_sid::Token;
 use lpc_slots::Key;
-use lpc_tokens::Impersonation;
 use lpc_tokens::level::IDENTIFICATION;
+use lpc_tokens::{Impersonation, TokenRef};
 use std::process::Abort;
 use std::test::Fail;
 
@@ -66,9 +66,10 @@ fn draws_a_birth(rt: &impl Abort, procs: &mut Procs)
 
 #[test]
 fn thread_of_a_directive_draws_from_one(rt: HostRuntime) -> Result<(), Fail> {
+    let guest = guest();
     let mut procs = Procs::new(rt.alloc());
     procs.reserve(1, 1)?;
-    procs.add_process(20, None, made(20), &guest());
+    procs.add_process(20, None, made(20), &TokenRef::new(&guest));
     shows_a_process_alone(&rt, &procs);
     procs.add_thread(20, 20, made(20));
     let first = procs.draw_identifier(20);
@@ -106,9 +107,10 @@ fn shows_its_row(rt: &impl Abort, procs: &Procs) {
 
 #[test]
 fn thread_lives_until_it_ends(rt: HostRuntime) -> Result<(), Fail> {
+    let guest = guest();
     let mut procs = Procs::new(rt.alloc());
     procs.reserve(1, 2)?;
-    procs.add_process(20, Some(16), made(20), &guest());
+    procs.add_process(20, Some(16), made(20), &TokenRef::new(&guest));
     procs.add_thread(24, 20, made(24));
     procs.add_thread(28, 20, made(28));
     shows_its_row(&rt, &procs);
@@ -133,9 +135,10 @@ fn shows_births(rt: &impl Abort, procs: &Procs)
 
 #[test]
 fn number_of_a_row_that_goes_stays_used(rt: HostRuntime) -> Result<(), Fail> {
+    let guest = guest();
     let mut procs = Procs::new(rt.alloc());
     procs.reserve(1, 1)?;
-    procs.add_process(20, Some(16), made(20), &guest());
+    procs.add_process(20, Some(16), made(20), &TokenRef::new(&guest));
     procs.add_thread(24, 20, made(24));
     shows_births(&rt, &procs);
     procs.end_thread(24);
@@ -168,9 +171,10 @@ fn counts_registered(rt: &impl Abort, procs: &Procs, all: usize, first: usize) {
 
 #[test]
 fn thread_registers_ports_until_they_are_taken_away(rt: HostRuntime) -> Result<(), Fail> {
+    let guest = guest();
     let mut procs = Procs::new(rt.alloc());
     procs.reserve(1, 1)?;
-    procs.add_process(20, None, made(20), &guest());
+    procs.add_process(20, None, made(20), &TokenRef::new(&guest));
     procs.add_thread(24, 20, made(24));
     procs.register(24, key(1), made(4));
     procs.register(24, key(2), made(8));
@@ -193,9 +197,10 @@ fn tells(rt: &impl Abort, procs: &Procs, port: Key, birth: Birth) {
 
 #[test]
 fn ended_thread_tells_its_ports_in_their_order(rt: HostRuntime) -> Result<(), Fail> {
+    let guest = guest();
     let mut procs = Procs::new(rt.alloc());
     procs.reserve(1, 1)?;
-    procs.add_process(20, None, made(20), &guest());
+    procs.add_process(20, None, made(20), &TokenRef::new(&guest));
     procs.add_thread(24, 20, made(24));
     procs.register(24, key(1), made(4));
     procs.register(24, key(2), made(8));
@@ -217,9 +222,10 @@ fn finds(rt: &impl Abort, procs: &Procs, live: Option<u32>) {
 
 #[test]
 fn what_lives_is_found_in_the_order_of_making(rt: HostRuntime) -> Result<(), Fail> {
+    let guest = guest();
     let mut procs = Procs::new(rt.alloc());
     procs.reserve(1, 2)?;
-    procs.add_process(20, None, made(20), &guest());
+    procs.add_process(20, None, made(20), &TokenRef::new(&guest));
     finds(&rt, &procs, None);
     procs.add_thread(28, 20, made(28));
     procs.add_thread(24, 20, made(24));
@@ -258,9 +264,10 @@ fn counts_children(rt: &impl Abort, procs: &Procs, live: usize) {
 
 #[test]
 fn what_has_ended_is_found_and_told_as_not_live(rt: HostRuntime) -> Result<(), Fail> {
+    let guest = guest();
     let mut procs = Procs::new(rt.alloc());
     procs.reserve(1, 1)?;
-    procs.add_process(20, Some(16), made(20), &guest());
+    procs.add_process(20, Some(16), made(20), &TokenRef::new(&guest));
     procs.add_thread(24, 20, made(24));
     finds_by_name(&rt, &procs, true);
     tells_lives(&rt, &procs, true);
@@ -277,10 +284,10 @@ fn shows_tokens(rt: &impl Abort, procs: &Procs, acts: bool)
     requires process { is_some (process_at procs.now 20) ≡ true }
     requires thread { is_some (thread_at procs.now 24) ≡ true }
 {
-    assert!(rt; *procs.token(20) == guest());
+    assert!(rt; *procs.token(20).get() == guest());
     match procs.own(24) {
         Some(own) => {
-            assert!(rt; acts && own.token == Token::system());
+            assert!(rt; acts && *own.token.get() == Token::system());
             assert!(rt; own.level == IDENTIFICATION);
         }
         None => assert!(rt; !acts),
@@ -288,21 +295,22 @@ fn shows_tokens(rt: &impl Abort, procs: &Procs, acts: bool)
 }
 
 // The local system as a client.
-fn client() -> Impersonation {
+fn client(system: &Token) -> Impersonation<'_> {
     Impersonation {
-        token: Token::system(),
+        token: TokenRef::new(system),
         level: IDENTIFICATION,
     }
 }
 
 #[test]
 fn thread_acts_with_a_token_of_its_own_until_it_is_taken_away(rt: HostRuntime) -> Result<(), Fail> {
+    let (guest, system) = (guest(), Token::system());
     let mut procs = Procs::new(rt.alloc());
     procs.reserve(1, 1)?;
-    procs.add_process(20, None, made(20), &guest());
+    procs.add_process(20, None, made(20), &TokenRef::new(&guest));
     procs.add_thread(24, 20, made(24));
     shows_tokens(&rt, &procs, false);
-    procs.set_own(24, Some(client()));
+    procs.set_own(24, Some(client(&system)));
     shows_tokens(&rt, &procs, true);
     procs.set_own(24, None);
     shows_tokens(&rt, &procs, false);
@@ -329,9 +337,10 @@ fn shows_its_debug_port(rt: &impl Abort, procs: &Procs)
 
 #[test]
 fn process_has_event_ports_until_it_lets_them_go(rt: HostRuntime) -> Result<(), Fail> {
+    let guest = guest();
     let mut procs = Procs::new(rt.alloc());
     procs.reserve(1, 0)?;
-    procs.add_process(20, None, made(20), &guest());
+    procs.add_process(20, None, made(20), &TokenRef::new(&guest));
     shows_event_ports(&rt, &procs, (false, false), 0);
     procs.set_debug_port(20, key(1), made(4));
     shows_event_ports(&rt, &procs, (true, false), 1);
@@ -363,10 +372,11 @@ fn shows_dooms(rt: &impl Abort, procs: &Procs, first: Option<u32>, second: Optio
 
 #[test]
 fn process_of_the_least_number_ends_next_with_its_first_code(rt: HostRuntime) -> Result<(), Fail> {
+    let guest = guest();
     let mut procs = Procs::new(rt.alloc());
     procs.reserve(2, 2)?;
-    procs.add_process(28, None, made(28), &guest());
-    procs.add_process(20, None, made(20), &guest());
+    procs.add_process(28, None, made(28), &TokenRef::new(&guest));
+    procs.add_process(20, None, made(20), &TokenRef::new(&guest));
     procs.add_thread(32, 28, made(32));
     procs.add_thread(24, 20, made(24));
     assert!(rt; procs.least_doomed().is_none());

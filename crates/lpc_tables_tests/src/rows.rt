@@ -11,7 +11,7 @@ use lpc_ports::{PortKind, Ports};
 use lpc_procs::Procs;
 use lpc_sid::Token;
 use lpc_slots::{Key, Slots};
-use lpc_tokens::TokenNames;
+use lpc_tokens::{TokenArena, TokenNames, TokenRef};
 use lpc_waits::{Wait, WaitKind, WaitRow, Waits};
 use std::process::Abort;
 use std::test::Fail;
@@ -148,7 +148,8 @@ fn names_token(names: &mut TokenNames, name: &[u8], token: Token) -> Result<(), 
 
 #[test]
 fn token_names_are_read_in_order(rt: HostRuntime) -> Result<(), Fail> {
-    let mut names = TokenNames::new(rt.alloc());
+    let arena = TokenArena::new(rt.alloc());
+    let mut names = TokenNames::new(rt.alloc(), &arena);
     names_token(&mut names, b"guest", guest())?;
     names_token(&mut names, b"admin", Token::system())?;
     shows_name(&rt, &names, 0, b"guest", &guest());
@@ -220,9 +221,10 @@ fn shows_procs(rt: &impl Abort, procs: &Procs) {
 
 #[test]
 fn processes_and_threads_are_read_in_order(rt: HostRuntime) -> Result<(), Fail> {
+    let guest = guest();
     let mut procs = Procs::new(rt.alloc());
     procs.reserve(1, 2)?;
-    procs.add_process(20, None, made(20), &guest());
+    procs.add_process(20, None, made(20), &TokenRef::new(&guest));
     procs.add_thread(28, 20, made(28));
     procs.add_thread(24, 20, made(24));
     shows_procs(&rt, &procs);

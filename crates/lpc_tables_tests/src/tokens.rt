@@ -6,33 +6,54 @@ use crate::common::guest;
 use lpc_sid::Token;
 use lpc_tokens::level::{ANONYMOUS, DELEGATION, IDENTIFICATION, IMPERSONATION};
 use lpc_tokens::{
-    Effective, Impersonation, Level, Qos, TokenNames, Tracking, effective_token, pass_on,
+    Effective, Impersonation, Level, Qos, TokenArena, TokenNames, TokenRef, Tracking,
+    effective_token, pass_on,
 };
 use std::process::Abort;
 use std::test::Fail;
 
+// A thread acts with this token, of this level, which counts as that one.
+fn acts_with(
+    rt: &impl Abort,
+    acting: &Effective<'_>,
+    token: &Token,
+    own: Option<Level>,
+    level: Level,
+) {
+    assert!(rt; *acting.token.get() == *token);
+    assert!(rt; acting.level == own);
+    assert!(rt; acting.counts_as() == level);
+}
+
+// Without a token of its own it is its process's, and else the own one.
+fn acts_with_its_own_first<'t>(
+    rt: &impl Abort,
+    process: &TokenRef<'t>,
+    none: Option<&Impersonation<'t>>,
+    own: &Impersonation<'t>,
+) {
+    let plain = effective_token(process, none);
+    acts_with(rt, &plain, process.get(), None, DELEGATION);
+    let acting = effective_token(process, Some(own)).copy();
+    let level = Some(IDENTIFICATION);
+    acts_with(rt, &acting, own.token.get(), level, IDENTIFICATION);
+}
+
 #[test]
 fn thread_acts_with_its_own_token_first(rt: HostRuntime) {
-    let process = Token::system();
+    let (process, guest) = (Token::system(), guest());
     let own = Impersonation {
-        token: guest(),
+        token: TokenRef::new(&guest),
         level: IDENTIFICATION,
     };
-    let plain = effective_token(&process, None);
-    assert!(rt; plain.token == process);
-    assert!(rt; plain.level == None);
-    assert!(rt; plain.counts_as() == DELEGATION);
-    let acting = effective_token(&process, Some(&own.copy()));
-    assert!(rt; acting.copy() == acting);
-    assert!(rt; acting.token == guest());
-    assert!(rt; acting.level == Some(IDENTIFICATION));
-    assert!(rt; acting.counts_as() == IDENTIFICATION);
+    acts_with_its_own_first(&rt, &TokenRef::new(&process), None, &own.copy());
 }
 
 // Of a client with a token of this level, or its process's own, a connection of this level passes on that one.
 fn passes_on(rt: &impl Abort, asked: Level, own: Option<Level>, level: Level) {
+    let guest = guest();
     let client = Effective {
-        token: guest(),
+        token: TokenRef::new(&guest),
         level: own,
     };
     for tracking in [Tracking::Static, Tracking::Dynamic] {
@@ -41,7 +62,7 @@ fn passes_on(rt: &impl Abort, asked: Level, own: Option<Level>, level: Level) {
             tracking,
         };
         let passed = pass_on(&qos, &client);
-        assert!(rt; passed.token == guest());
+        assert!(rt; *passed.token.get() == guest);
         assert!(rt; passed.level == level);
     }
 }
@@ -78,7 +99,7 @@ fn names_token(
 // The token of a name is this one.
 fn finds(rt: &impl Abort, names: &TokenNames, name: &[u8], token: &Token) {
     match names.find(name) {
-        Some(found) => assert!(rt; *found == *token),
+        Some(found) => assert!(rt; *found.get() == *token),
         None => assert!(rt; false),
     }
 }
@@ -100,6 +121,7 @@ fn names_two(rt: &impl Abort, names: &mut TokenNames) -> Result<(), Fail> {
 
 #[test]
 fn token_is_found_by_its_name(rt: HostRuntime) -> Result<(), Fail> {
-    let mut names = TokenNames::new(rt.alloc());
+    let arena = TokenArena::new(rt.alloc());
+    let mut names = TokenNames::new(rt.alloc(), &arena);
     names_two(&rt, &mut names)
 }

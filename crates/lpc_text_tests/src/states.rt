@@ -8,7 +8,7 @@ use lpc_states::{
     put_hex_or_null, put_leveled, put_message_fields, put_name, put_number_or_null, put_object,
     put_port_kind, put_port_or_null, put_security, put_token,
 };
-use lpc_tokens::Security;
+use lpc_tokens::{Security, TokenRef};
 use std::alloc::Global;
 use std::process::Abort;
 use std::test::Fail;
@@ -87,7 +87,7 @@ fn a_token_shows_its_user(rt: HostRuntime) -> Result<(), Fail> {
     put_token(&mut text, &token)?;
     assert!(rt; text.as_slice() == SYSTEM);
     text.clear();
-    put_leveled(&mut text, &token, Some(2))?;
+    put_leveled(&mut text, &TokenRef::new(&token), Some(2))?;
     assert!(rt; text.as_slice() == LEVELED);
     Ok(())
 }

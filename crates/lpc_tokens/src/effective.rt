@@ -4,30 +4,29 @@ ghost use Rattle.std.specs.Option.{option_copied};
 ghost use Rattle.lpc_tokens.specs.Tokens.{counts_as, effective, passed_on};
 
 use crate::level::DELEGATION;
-use crate::{Level, Qos};
-use lpc_sid::Token;
+use crate::{Level, Qos, TokenRef};
 
 /// The token of a client, as a server thread has it.
-#[derive(Clone, Debug, Drop, PartialEq, Eq)]
-pub struct Impersonation {
+#[derive(Drop)]
+pub struct Impersonation<'t> {
     /// The client's token.
-    pub token: Token,
+    pub token: TokenRef<'t>,
     /// How far the thread may act as the client.
     pub level: Level,
 }
 
 /// The token with which a thread acts.
-#[derive(Clone, Debug, Drop, PartialEq, Eq)]
-pub struct Effective {
+#[derive(Drop)]
+pub struct Effective<'t> {
     /// The token.
-    pub token: Token,
+    pub token: TokenRef<'t>,
     /// The level of an impersonation token; None for a process's own token.
     pub level: Option<Level>,
 }
 
-impl Impersonation {
+impl<'t> Impersonation<'t> {
     /// The same once more. It takes no memory.
-    pub fn copy(&self) -> Impersonation
+    pub fn copy(&self) -> Impersonation<'t>
         ensures { result ≡ self.now }
     {
         Impersonation {
@@ -37,9 +36,9 @@ impl Impersonation {
     }
 }
 
-impl Effective {
+impl<'t> Effective<'t> {
     /// The same once more. It takes no memory.
-    pub fn copy(&self) -> Effective
+    pub fn copy(&self) -> Effective<'t>
         ensures { result ≡ self.now }
     {
         Effective {
@@ -57,7 +56,7 @@ impl Effective {
 }
 
 /// The token with which a thread acts: the one that it impersonates, else its process's.
-pub fn effective_token(primary: &Token, own: Option<&Impersonation>) -> Effective
+pub fn effective_token<'t>(primary: &TokenRef<'t>, own: Option<&Impersonation<'t>>) -> Effective<'t>
     ensures { result ≡ effective primary.now (option_copied own.entry) }
 {
     match own {
@@ -75,7 +74,7 @@ pub fn effective_token(primary: &Token, own: Option<&Impersonation>) -> Effectiv
 /// What a server gets of its client: the client's token, with the lesser of the level that the client allows and the one
 /// that its token counts as. So nobody gets further than the client itself. The books on NT tell the level that is
 /// asked for; that it is the lesser of two is this project's own.
-pub fn pass_on(qos: &Qos, client: &Effective) -> Impersonation
+pub fn pass_on<'t>(qos: &Qos, client: &Effective<'t>) -> Impersonation<'t>
     ensures value { result ≡ passed_on qos.now client.now }
     ensures asked { result.level ≤ qos.now.level }
     ensures own { result.level ≤ counts_as client.now }

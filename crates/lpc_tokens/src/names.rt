@@ -1,7 +1,9 @@
 // The names of tokens, by which processes that are yet to come are given theirs.
 ghost use Rattle.std.specs.Prelude.{◌≡◌, ◌+◌, ◌<◌, ◌≤◌, ◌++◌, ◌∷◌, [], length, option_copied, slice_get, None, Some, OnErr, OnOk};
+ghost use Rattle.lpc_sid.specs.WellKnown.{system_token};
 ghost use Rattle.lpc_tokens.specs.Names.{named};
 
+use crate::{TokenArena, TokenRef};
 use arrayvec::ArrayVec;
 use indexmap::IndexMap;
 use lpc_base::OutOfMemory;
@@ -13,23 +15,26 @@ use std::marker::Model;
 pub const TOKEN_NAME_LIMIT: usize = 32;
 
 /// The tokens that have names, in the order in which they got them. A name leads to its token without a search, and
-/// stays. So many further ones as there is room for go in without memory.
+/// stays; the tokens lie in an arena. So many further ones as there is room for go in without memory.
 ///
 /// A clause sees the names with their tokens, and the room.
 #[derive(Drop)]
-pub struct TokenNames {
-    names: IndexMap<ArrayVec<u8, TOKEN_NAME_LIMIT>, Token>,
+pub struct TokenNames<'t> {
+    names: IndexMap<ArrayVec<u8, TOKEN_NAME_LIMIT>, TokenRef<'t>>,
+    arena: &'t TokenArena,
+    // Places in the arena for tokens that are yet to come.
+    places: Vec<&'t mut Token>,
 }
 
-impl Model for TokenNames {
-    ghost use Rattle.std.specs.Prelude.{◌≡◌, map, true};
+impl<'t> Model for TokenNames<'t> {
+    ghost use Rattle.std.specs.Prelude.{◌≡◌, length, map, min, true};
     ghost use Rattle.indexmap.specs.IndexMap.{spare};
     ghost use Rattle.lpc_base.specs.Rows.{every};
     ghost use Rattle.lpc_tokens.specs.Names.{TokenNames, is_short, shown_name};
 
     ghost Value = { TokenNames };
 
-    ghost view = { λ s. record { rows = map shown_name s.names.entries; spare = spare s.names } };
+    ghost view = { λ s. record { rows = map shown_name s.names.entries; spare = min (spare s.names) (length s.places.items) } };
 
     ghost invariant = { λ s. every is_short (map shown_name s.names.entries) ≡ true };
 }
@@ -44,14 +49,41 @@ fn key_of(name: &[u8]) -> ArrayVec<u8, TOKEN_NAME_LIMIT>
     key
 }
 
-impl TokenNames {
-    /// No name and no room. It takes no memory, and keeps the allocator for `reserve`.
-    pub fn new(alloc: Global) -> TokenNames
+// Makes places in the arena until there are so many.
+fn make_places<'t>(
+    arena: &'t TokenArena,
+    places: &mut Vec<&'t mut Token>,
+    count: usize,
+) -> Result<(), OutOfMemory>
+    ensures enough { OnOk result (count ≤ length places.new.items) }
+    ensures wanting { OnErr result (length places.old.items < count) }
+    ensures kept { length places.old.items ≤ length places.new.items }
+{
+    while places.len() < count {
+        if places.push(arena.place()?).is_err() {
+            return Err(OutOfMemory);
+        }
+    }
+    Ok(())
+}
+
+impl<'t> TokenNames<'t> {
+    /// No name and no room, for tokens in this arena. It takes no memory, and keeps the allocator for `reserve`.
+    pub fn new(alloc: Global, arena: &'t TokenArena) -> TokenNames<'t>
         ensures { result.rows ≡ [] }
     {
         TokenNames {
             names: IndexMap::new(alloc),
+            arena,
+            places: Vec::new(alloc),
         }
+    }
+
+    /// The token of a process for which no other is named: the local system's.
+    pub fn system(&self) -> TokenRef<'t>
+        ensures { result ≡ system_token }
+    {
+        self.arena.system()
     }
 
     /// Makes room for so many further names. `OutOfMemory` comes only where the room isn't there; nothing has changed
@@ -62,7 +94,10 @@ impl TokenNames {
         ensures wanting { OnErr result (self.old.spare < more) }
         ensures spare { self.old.spare ≤ self.new.spare }
     {
-        self.names.reserve(more).map_err(|_| OutOfMemory)
+        if self.names.reserve(more).is_err() {
+            return Err(OutOfMemory);
+        }
+        make_places(self.arena, &mut self.places, more)
     }
 
     /// Gives a token a name, which no token has. There is room for it, and the name has at most 32 bytes.
@@ -74,7 +109,11 @@ impl TokenNames {
             ≡ self.old.rows ++ (record { name = name.now; token = token }) ∷ [] }
         ensures spare { self.old.spare ≤ self.new.spare + 1 }
     {
-        match self.names.insert(key_of(name), token) {
+        let Some(place) = self.places.pop() else {
+            unreachable!()
+        };
+        *place = token;
+        match self.names.insert(key_of(name), TokenRef::new(place)) {
             Ok(_) => {}
             Err(_) => unreachable!(),
         }
@@ -94,13 +133,13 @@ impl TokenNames {
             ≡ Some (record { name = result.0.now; token = result.1.now }) }
     {
         match self.names.get_index(place) {
-            Some((name, token)) => (name.as_slice(), token),
+            Some((name, token)) => (name.as_slice(), token.get()),
             None => unreachable!(),
         }
     }
 
     /// The token of a name: None exactly where no token has it.
-    pub fn find(&self, name: &[u8]) -> Option<&Token>
+    pub fn find(&self, name: &[u8]) -> Option<&TokenRef<'t>>
         ensures { option_copied result ≡ named self.now.rows name.now }
     {
         let names = &self.names;

@@ -6,8 +6,8 @@ use lpc_sid::Dacl;
 
 /// Who may use a port, and what it allows. Only a connection port may have an access list, and only a client port allows
 /// anything.
-#[derive(Clone, Debug, Drop, PartialEq, Eq)]
-pub enum Security {
+#[derive(Drop)]
+pub enum Security<'t> {
     /// Anyone may connect, and nothing is allowed.
     Unsecured,
     /// Who may connect to the port: those whom its access list lets.
@@ -17,13 +17,13 @@ pub enum Security {
         /// The quality of service that the connect asked for.
         quality: Qos,
         /// The token with which the client's thread acted then.
-        kept: Effective,
+        kept: Effective<'t>,
     },
 }
 
-impl Security {
+impl<'t> Security<'t> {
     /// The same once more. It takes no memory.
-    pub fn copy(&self) -> Security
+    pub fn copy(&self) -> Security<'t>
         ensures { result ≡ self.now }
     {
         match self {

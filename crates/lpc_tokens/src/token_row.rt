@@ -1,16 +1,15 @@
 // A token as an object.
 
-use crate::Level;
+use crate::{Level, TokenRef};
 use lpc_base::Birth;
-use lpc_sid::Token;
 
 /// A token as an object, to which handles lead. Its content never changes.
 #[derive(Drop)]
-pub struct TokenRow {
+pub struct TokenRow<'t> {
     /// The name that it was made under.
     pub birth: Birth,
     /// Its content.
-    pub token: Token,
+    pub token: TokenRef<'t>,
     /// The level of an impersonation token; None for a process's own token.
     pub level: Option<Level>,
 }

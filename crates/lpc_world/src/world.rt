@@ -51,9 +51,8 @@ use lpc_homes::{Object, Parts};
 use lpc_ports::{Creator, Message, Ports};
 use lpc_procs::Procs;
 use lpc_sections::Section;
-use lpc_sid::Token;
 use lpc_slots::{Key, Slots};
-use lpc_tokens::{TokenNames, TokenRow};
+use lpc_tokens::{TokenArena, TokenNames, TokenRef, TokenRow};
 use lpc_waits::{Wait, Waits};
 use std::alloc::Global;
 use std::marker::Model;
@@ -63,15 +62,15 @@ use std::marker::Model;
 ///
 /// Contracts see the rows of the definitions, in which an object is named by its birth, the births of keys, how many
 /// directive and service calls were made, and how many more rows go in without memory.
-pub struct World {
-    procs: Procs,
+pub struct World<'t> {
+    procs: Procs<'t>,
     parts: Parts,
-    ports: Ports,
+    ports: Ports<'t>,
     waits: Waits,
     names: PortNames,
     sections: Slots<Section>,
-    tokens: Slots<TokenRow>,
-    token_names: TokenNames,
+    tokens: Slots<TokenRow<'t>>,
+    token_names: TokenNames<'t>,
     marks: Marks,
     suspects: Suspects,
     lives: SuspectedLives,
@@ -81,7 +80,7 @@ pub struct World {
     alloc: Global,
 }
 
-impl Model for World {
+impl<'t> Model for World<'t> {
     ghost use Rattle.lpc_rows.specs.Kept.{Kept, kept_by};
     ghost use Rattle.lpc_rows.specs.Suspects.{IsWatched};
     ghost use Rattle.lpc_rows.specs.Shown.{tables_of};
@@ -94,7 +93,7 @@ impl Model for World {
 }
 
 // Written out, so that a proof about what holds a world lets it go in one step, and not table by table.
-impl Drop for World {
+impl<'t> Drop for World<'t> {
     fn drop(self) {
         let World {
             procs: _,
@@ -116,9 +115,10 @@ impl Drop for World {
     }
 }
 
-impl World {
-    /// A world without a row. What it keeps later takes memory from `alloc`.
-    pub fn empty(alloc: Global) -> World
+impl<'t> World<'t> {
+    /// A world without a row. What it keeps later takes memory from `alloc`, but for tokens that get names: they lie in
+    /// `arena`.
+    pub fn empty(alloc: Global, arena: &'t TokenArena) -> World<'t>
         ensures rows { result.rows ≡ no_rows }
         ensures births { result.births.ports ≡ [] }
         ensures sections { result.births.sections ≡ [] }
@@ -136,7 +136,7 @@ impl World {
             names: PortNames::new(alloc),
             sections: Slots::new(alloc),
             tokens: Slots::new(alloc),
-            token_names: TokenNames::new(alloc),
+            token_names: TokenNames::new(alloc, arena),
             marks: Marks::new(alloc),
             suspects: Suspects::none(),
             lives: SuspectedLives::nobody(),
@@ -204,10 +204,15 @@ impl World {
         self.procs.draw_birth(tid)
     }
 
-    /// Adds a process, without threads, handles and views, with a copy of the token. Its number is from 1 to
-    /// 2,147,483,647 and was never used. Its birth is that of a directive with this number, or a thread has drawn it
-    /// and no process has it.
-    pub fn procs_add_process(&mut self, pid: u32, maker: Option<u32>, birth: Birth, token: &Token)
+    /// Adds a process, without threads, handles and views, with this token. Its number is from 1 to 2,147,483,647 and was
+    /// never used. Its birth is that of a directive with this number, or a thread has drawn it and no process has it.
+    pub fn procs_add_process(
+        &mut self,
+        pid: u32,
+        maker: Option<u32>,
+        birth: Birth,
+        token: &TokenRef<'t>,
+    )
         requires room { 0 < self.old.room.processes }
         requires budget { CanMake self.old }
         requires number { IsNumber pid }

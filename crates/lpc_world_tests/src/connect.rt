@@ -9,6 +9,7 @@ use lpc_directives::directory;
 use lpc_machine::{objects, room_needed};
 use lpc_model::{CallName, Entries, Entry, FieldName, Outcome, Value};
 use lpc_names::Found;
+use lpc_tokens::TokenArena;
 use lpc_world::World;
 use std::process::Abort;
 use std::test::Fail;
@@ -67,7 +68,8 @@ fn makes_the_first_port(rt: &impl Abort, world: &mut World, out: &mut Entries) -
 #[test]
 fn first_port_of_a_process_has_handle_4(rt: HostRuntime) -> Result<(), Fail> {
     let alloc = rt.alloc();
-    let mut world = World::empty(alloc);
+    let arena = TokenArena::new(alloc);
+    let mut world = World::empty(alloc, &arena);
     let mut out = Entries::new(alloc)?;
     makes_the_first_port(&rt, &mut world, &mut out)
 }
@@ -87,7 +89,8 @@ fn names_a_port(rt: &impl Abort, world: &mut World, out: &mut Entries) -> Result
 #[test]
 fn named_port_is_found_by_its_name(rt: HostRuntime) -> Result<(), Fail> {
     let alloc = rt.alloc();
-    let mut world = World::empty(alloc);
+    let arena = TokenArena::new(alloc);
+    let mut world = World::empty(alloc, &arena);
     let mut out = Entries::new(alloc)?;
     names_a_port(&rt, &mut world, &mut out)
 }

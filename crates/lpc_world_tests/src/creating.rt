@@ -11,6 +11,7 @@ use crate::machine::{begins, makes};
 use lpc_base::status::SUCCESS;
 use lpc_machine::Machine;
 use lpc_model::{Call, CallName, Entries, Entry, FieldName, Line, ObjectKind, ProcArg, Value};
+use lpc_tokens::TokenArena;
 use std::process::Abort;
 use std::test::Fail;
 
@@ -146,7 +147,8 @@ fn runs(rt: &impl Abort, machine: &mut Machine, out: &mut Entries) -> Result<(),
 #[test]
 fn a_process_stays_by_a_handle(rt: HostRuntime) -> Result<(), Fail> {
     let alloc = rt.alloc();
-    let mut machine = Machine::new(alloc);
+    let arena = TokenArena::new(alloc);
+    let mut machine = Machine::new(alloc, &arena);
     let mut out = Entries::new(alloc)?;
     runs(&rt, &mut machine, &mut out)
 }

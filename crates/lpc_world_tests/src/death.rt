@@ -7,6 +7,7 @@ use lpc_base::Status;
 use lpc_base::status::{INVALID_HANDLE, SUCCESS};
 use lpc_machine::Machine;
 use lpc_model::{Call, CallName, Entries, Entry, FieldName, Fields, Line, ObjectKind, Value};
+use lpc_tokens::TokenArena;
 use std::process::Abort;
 use std::test::Fail;
 
@@ -100,7 +101,8 @@ fn runs(rt: &impl Abort, machine: &mut Machine, out: &mut Entries) -> Result<(),
 #[test]
 fn a_port_goes_with_its_last_handle(rt: HostRuntime) -> Result<(), Fail> {
     let alloc = rt.alloc();
-    let mut machine = Machine::new(alloc);
+    let arena = TokenArena::new(alloc);
+    let mut machine = Machine::new(alloc, &arena);
     let mut out = Entries::new(alloc)?;
     runs(&rt, &mut machine, &mut out)
 }

@@ -15,6 +15,7 @@ use lpc_machine::Machine;
 use lpc_model::{Call, CallName, Entries, Entry, Fields, Line, ProcArg};
 use lpc_request::{has_registered, registration_test};
 use lpc_slots::Key;
+use lpc_tokens::TokenArena;
 use lpc_world::World;
 use std::process::Abort;
 use std::test::Fail;
@@ -49,7 +50,8 @@ fn has_nothing_to_tell(rt: &impl Abort, world: &World, live: Option<u32>) {
 
 #[test]
 fn a_thread_registers_a_port(rt: HostRuntime) -> Result<(), Fail> {
-    let mut world = World::empty(rt.alloc());
+    let arena = TokenArena::new(rt.alloc());
+    let mut world = World::empty(rt.alloc(), &arena);
     boots(&rt, &mut world, 20, 24, SUCCESS)?;
     can_call(&rt, &world, 24);
     let port = makes_a_port(&mut world, PortKind::Unnamed, None)?;
@@ -142,7 +144,8 @@ fn ends(rt: &impl Abort, machine: &mut Machine, out: &mut Entries) -> Result<(),
 #[test]
 fn nothing_is_left_of_a_process_that_ends(rt: HostRuntime) -> Result<(), Fail> {
     let alloc = rt.alloc();
-    let mut machine = Machine::new(alloc);
+    let arena = TokenArena::new(alloc);
+    let mut machine = Machine::new(alloc, &arena);
     let mut out = Entries::new(alloc)?;
     ends(&rt, &mut machine, &mut out)
 }

@@ -10,6 +10,7 @@ use lpc_except::raise;
 use lpc_machine::room_needed;
 use lpc_model::{Entries, Outcome};
 use lpc_slots::Key;
+use lpc_tokens::TokenArena;
 use lpc_waits::Chance;
 use lpc_world::World;
 use std::process::Abort;
@@ -74,7 +75,8 @@ fn hears_and_lets_go(rt: &impl Abort, world: &mut World) -> Result<(), Fail>
 
 #[test]
 fn process_hears_exceptions_until_it_lets_both_ports_go(rt: HostRuntime) -> Result<(), Fail> {
-    let mut world = World::empty(rt.alloc());
+    let arena = TokenArena::new(rt.alloc());
+    let mut world = World::empty(rt.alloc(), &arena);
     hears_and_lets_go(&rt, &mut world)
 }
 
@@ -150,7 +152,8 @@ fn raises_and_marks(rt: &impl Abort, world: &mut World, out: &mut Entries) -> Re
 #[test]
 fn marked_event_is_on_no_port_and_in_no_queue(rt: HostRuntime) -> Result<(), Fail> {
     let alloc = rt.alloc();
-    let mut world = World::empty(alloc);
+    let arena = TokenArena::new(alloc);
+    let mut world = World::empty(alloc, &arena);
     let mut out = Entries::new(alloc)?;
     raises_and_marks(&rt, &mut world, &mut out)
 }
@@ -180,6 +183,7 @@ fn dooms_twice(rt: &impl Abort, world: &mut World) -> Result<(), Fail>
 
 #[test]
 fn process_is_to_end_with_its_first_code(rt: HostRuntime) -> Result<(), Fail> {
-    let mut world = World::empty(rt.alloc());
+    let arena = TokenArena::new(rt.alloc());
+    let mut world = World::empty(rt.alloc(), &arena);
     dooms_twice(&rt, &mut world)
 }

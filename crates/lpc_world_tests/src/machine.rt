@@ -9,6 +9,7 @@ use arrayvec::ArrayVec;
 use lpc_base::status::SUCCESS;
 use lpc_machine::Machine;
 use lpc_model::{Call, CallName, Entries, Entry, FieldName, Line, Value, Word};
+use lpc_tokens::TokenArena;
 use std::process::Abort;
 use std::test::Fail;
 
@@ -136,7 +137,8 @@ fn runs(rt: &impl Abort, machine: &mut Machine, out: &mut Entries) -> Result<(),
 #[test]
 fn a_request_is_received_by_another_thread(rt: HostRuntime) -> Result<(), Fail> {
     let alloc = rt.alloc();
-    let mut machine = Machine::new(alloc);
+    let arena = TokenArena::new(alloc);
+    let mut machine = Machine::new(alloc, &arena);
     let mut out = Entries::new(alloc)?;
     runs(&rt, &mut machine, &mut out)
 }

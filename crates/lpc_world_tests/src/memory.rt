@@ -11,6 +11,7 @@ use lpc_ranges::{
     nt_create_section, nt_map_view_of_section, nt_read_virtual_memory, nt_unmap_view_of_section,
     nt_write_virtual_memory,
 };
+use lpc_tokens::TokenArena;
 use lpc_world::World;
 use std::process::Abort;
 use std::test::Fail;
@@ -125,7 +126,8 @@ fn uses_a_section(rt: &impl Abort, world: &mut World, out: &mut Entries) -> Resu
 #[test]
 fn section_is_mapped_written_and_read(rt: HostRuntime) -> Result<(), Fail> {
     let alloc = rt.alloc();
-    let mut world = World::empty(alloc);
+    let arena = TokenArena::new(alloc);
+    let mut world = World::empty(alloc, &arena);
     let mut out = Entries::new(alloc)?;
     uses_a_section(&rt, &mut world, &mut out)
 }

@@ -8,6 +8,7 @@ use lpc_machine::Machine;
 use lpc_model::{
     Call, CallName, Entries, Entry, FieldName, Fields, Line, Value, handle_field, view_fields,
 };
+use lpc_tokens::TokenArena;
 use std::process::Abort;
 use std::test::Fail;
 
@@ -152,7 +153,8 @@ fn runs(rt: &impl Abort, machine: &mut Machine, out: &mut Entries) -> Result<(),
 #[test]
 fn a_server_reads_and_writes_a_clients_range(rt: HostRuntime) -> Result<(), Fail> {
     let alloc = rt.alloc();
-    let mut machine = Machine::new(alloc);
+    let arena = TokenArena::new(alloc);
+    let mut machine = Machine::new(alloc, &arena);
     let mut out = Entries::new(alloc)?;
     runs(&rt, &mut machine, &mut out)
 }

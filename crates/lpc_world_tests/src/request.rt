@@ -15,6 +15,7 @@ use lpc_request::{
 };
 use lpc_slots::Key;
 use lpc_steps::{give_handle, handles_test};
+use lpc_tokens::TokenArena;
 use lpc_world::{Object, World};
 use std::process::Abort;
 use std::test::Fail;
@@ -214,7 +215,8 @@ fn sends_and_receives(rt: &impl Abort, world: &mut World, out: &mut Entries) -> 
 #[test]
 fn datagram_is_received(rt: HostRuntime) -> Result<(), Fail> {
     let alloc = rt.alloc();
-    let mut world = World::empty(alloc);
+    let arena = TokenArena::new(alloc);
+    let mut world = World::empty(alloc, &arena);
     let mut out = Entries::new(alloc)?;
     sends_and_receives(&rt, &mut world, &mut out)
 }
@@ -233,7 +235,8 @@ fn asks_and_replies(rt: &impl Abort, world: &mut World, out: &mut Entries) -> Re
 #[test]
 fn request_returns_by_its_reply(rt: HostRuntime) -> Result<(), Fail> {
     let alloc = rt.alloc();
-    let mut world = World::empty(alloc);
+    let arena = TokenArena::new(alloc);
+    let mut world = World::empty(alloc, &arena);
     let mut out = Entries::new(alloc)?;
     asks_and_replies(&rt, &mut world, &mut out)
 }

@@ -2,6 +2,7 @@
 use crate::common::boots;
 use lpc_base::status::SUCCESS;
 use lpc_snapshot::print_rows;
+use lpc_tokens::TokenArena;
 use lpc_world::World;
 use std::test::Fail;
 
@@ -14,7 +15,8 @@ const ROWS: &[u8] = b"\"process 0.20\",\"number\":20,\"maker\":null,\
 
 #[test]
 fn a_world_shows_its_rows(rt: HostRuntime) -> Result<(), Fail> {
-    let mut world = World::empty(rt.alloc());
+    let arena = TokenArena::new(rt.alloc());
+    let mut world = World::empty(rt.alloc(), &arena);
     let mut text = Vec::new(rt.alloc());
     print_rows(&world, &mut text)?;
     assert!(rt; text.is_empty());

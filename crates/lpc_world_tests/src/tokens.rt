@@ -17,8 +17,8 @@ use lpc_imperson::{
 use lpc_machine::objects;
 use lpc_model::{CallName, Entries, FieldName, Fields, Value};
 use lpc_sid::{Sid, Token};
-use lpc_tokens::Impersonation;
 use lpc_tokens::level::IDENTIFICATION;
+use lpc_tokens::{Impersonation, TokenArena, TokenRef};
 use lpc_world::World;
 use std::process::Abort;
 use std::test::Fail;
@@ -82,13 +82,13 @@ fn opens_the_process_token(
 }
 
 // Thread 24 acts as a client that may be known.
-fn acts_as_a_client(rt: &impl Abort, world: &mut World)
+fn acts_as_a_client<'t>(rt: &impl Abort, world: &mut World<'t>, client: &'t Token)
     ensures calls { world.new.calls ≡ world.old.calls }
 {
     can_call(rt, world, 24);
     let by = world.caller(24);
     let own = Impersonation {
-        token: guest(rt),
+        token: TokenRef::new(client),
         level: IDENTIFICATION,
     };
     world.procs_set_own(by.number, Some(own));
@@ -148,7 +148,12 @@ fn user(rt: &impl Abort) -> Fields {
 }
 
 // Both tokens are opened, and tell what they are.
-fn opens_two_tokens(rt: &impl Abort, world: &mut World, out: &mut Entries) -> Result<(), Fail>
+fn opens_two_tokens<'t>(
+    rt: &impl Abort,
+    world: &mut World<'t>,
+    client: &'t Token,
+    out: &mut Entries,
+) -> Result<(), Fail>
     requires few { world.old.calls < 1000 }
 {
     begins_as_guest(rt, world)?;
@@ -157,7 +162,7 @@ fn opens_two_tokens(rt: &impl Abort, world: &mut World, out: &mut Entries) -> Re
     let groups = one(FieldName::Groups, Value::TokenGroups);
     tells(rt, world, out, 4, 2, groups)?;
     assert!(rt; out.groups().is_empty());
-    acts_as_a_client(rt, world);
+    acts_as_a_client(rt, world, client);
     opens_its_own_token(rt, world, out)?;
     let level = one(FieldName::Level, Value::Number(1));
     tells(rt, world, out, 8, 9, level)?;
@@ -169,7 +174,9 @@ fn opens_two_tokens(rt: &impl Abort, world: &mut World, out: &mut Entries) -> Re
 #[test]
 fn tokens_are_opened_and_tell_what_they_are(rt: HostRuntime) -> Result<(), Fail> {
     let alloc = rt.alloc();
-    let mut world = World::empty(alloc);
+    let client = guest(&rt);
+    let arena = TokenArena::new(alloc);
+    let mut world = World::empty(alloc, &arena);
     let mut out = Entries::new(alloc)?;
-    opens_two_tokens(&rt, &mut world, &mut out)
+    opens_two_tokens(&rt, &mut world, &client, &mut out)
 }

@@ -9,6 +9,7 @@ ghost use Rattle.lpc_sections.specs.Sections.{IsSectionSize};
 use crate::common::{boots, can_call};
 use lpc_base::status::SUCCESS;
 use lpc_slots::Key;
+use lpc_tokens::TokenArena;
 use lpc_world::{Object, World};
 use std::process::Abort;
 use std::test::Fail;
@@ -192,7 +193,8 @@ fn shows_and_frees_a_section(rt: &impl Abort, world: &mut World) -> Result<(), F
 
 #[test]
 fn view_shows_its_section_and_goes(rt: HostRuntime) -> Result<(), Fail> {
-    let mut world = World::empty(rt.alloc());
+    let arena = TokenArena::new(rt.alloc());
+    let mut world = World::empty(rt.alloc(), &arena);
     shows_and_frees_a_section(&rt, &mut world)
 }
 
@@ -210,7 +212,8 @@ fn shows_and_drops_a_view(rt: &impl Abort, world: &mut World) -> Result<(), Fail
 
 #[test]
 fn views_of_a_process_go_together(rt: HostRuntime) -> Result<(), Fail> {
-    let mut world = World::empty(rt.alloc());
+    let arena = TokenArena::new(rt.alloc());
+    let mut world = World::empty(rt.alloc(), &arena);
     shows_and_drops_a_view(&rt, &mut world)
 }
 
@@ -238,6 +241,7 @@ fn shows_and_lends_bytes(rt: &impl Abort, world: &mut World) -> Result<(), Fail>
 
 #[test]
 fn lent_bytes_are_the_sections_own(rt: HostRuntime) -> Result<(), Fail> {
-    let mut world = World::empty(rt.alloc());
+    let arena = TokenArena::new(rt.alloc());
+    let mut world = World::empty(rt.alloc(), &arena);
     shows_and_lends_bytes(&rt, &mut world)
 }

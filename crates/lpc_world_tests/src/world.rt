@@ -25,6 +25,7 @@ use lpc_steps::{
     client_test, context, datagram_test, deliver, handles_test, object_at, own_handle, port_at,
     read_message, receive_test, route, wait_with,
 };
+use lpc_tokens::TokenArena;
 use lpc_waits::{Wait, WaitKind};
 use lpc_world::{Object, World};
 use std::process::Abort;
@@ -96,7 +97,8 @@ fn makes_and_shows_threads(rt: &impl Abort, world: &mut World) -> Result<(), Fai
 
 #[test]
 fn directives_make_processes_and_threads(rt: HostRuntime) -> Result<(), Fail> {
-    let mut world = World::empty(rt.alloc());
+    let arena = TokenArena::new(rt.alloc());
+    let mut world = World::empty(rt.alloc(), &arena);
     makes_and_shows_threads(&rt, &mut world)
 }
 
@@ -174,7 +176,8 @@ fn makes_and_finds_a_port(rt: &impl Abort, world: &mut World) -> Result<(), Fail
 
 #[test]
 fn port_is_found_by_its_handle(rt: HostRuntime) -> Result<(), Fail> {
-    let mut world = World::empty(rt.alloc());
+    let arena = TokenArena::new(rt.alloc());
+    let mut world = World::empty(rt.alloc(), &arena);
     makes_and_finds_a_port(&rt, &mut world)
 }
 
@@ -219,7 +222,8 @@ fn makes_directories_and_links(rt: &impl Abort, world: &mut World) -> Result<(),
 
 #[test]
 fn directories_and_links_are_made_where_nothing_stands(rt: HostRuntime) -> Result<(), Fail> {
-    let mut world = World::empty(rt.alloc());
+    let arena = TokenArena::new(rt.alloc());
+    let mut world = World::empty(rt.alloc(), &arena);
     makes_directories_and_links(&rt, &mut world)
 }
 
@@ -291,7 +295,8 @@ fn makes_and_names_a_port(rt: &impl Abort, world: &mut World, out: &mut Entries)
 #[test]
 fn named_port_keeps_a_message(rt: HostRuntime) -> Result<(), Fail> {
     let alloc = rt.alloc();
-    let mut world = World::empty(alloc);
+    let arena = TokenArena::new(alloc);
+    let mut world = World::empty(alloc, &arena);
     let mut out = Entries::new(alloc)?;
     makes_and_names_a_port(&rt, &mut world, &mut out)
 }
@@ -365,7 +370,8 @@ fn makes_and_closes_a_port(
 #[test]
 fn what_names_a_port_is_counted_and_goes(rt: HostRuntime) -> Result<(), Fail> {
     let alloc = rt.alloc();
-    let mut world = World::empty(alloc);
+    let arena = TokenArena::new(alloc);
+    let mut world = World::empty(alloc, &arena);
     let mut out = Entries::new(alloc)?;
     makes_and_closes_a_port(&rt, &mut world, &mut out)
 }
@@ -449,7 +455,8 @@ fn asks_and_withdraws(rt: &impl Abort, world: &mut World, out: &mut Entries) -> 
 #[test]
 fn request_is_withdrawn(rt: HostRuntime) -> Result<(), Fail> {
     let alloc = rt.alloc();
-    let mut world = World::empty(alloc);
+    let arena = TokenArena::new(alloc);
+    let mut world = World::empty(alloc, &arena);
     let mut out = Entries::new(alloc)?;
     asks_and_withdraws(&rt, &mut world, &mut out)
 }
@@ -493,6 +500,7 @@ fn makes_and_joins_ports(rt: &impl Abort, world: &mut World) -> Result<(), Fail>
 
 #[test]
 fn connection_is_joined_and_completed(rt: HostRuntime) -> Result<(), Fail> {
-    let mut world = World::empty(rt.alloc());
+    let arena = TokenArena::new(rt.alloc());
+    let mut world = World::empty(rt.alloc(), &arena);
     makes_and_joins_ports(&rt, &mut world)
 }

@@ -8,7 +8,7 @@ use crate::procs::Procs;
 use crate::{births, exceptions, lists};
 use lpc_base::Birth;
 
-impl Procs {
+impl<'t> Procs<'t> {
     /// The thread, which has a row, is live no more.
     pub fn end_thread(&mut self, tid: u32)
         requires present { is_some (thread_at self.old tid) ≡ true }

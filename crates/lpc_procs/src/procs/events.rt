@@ -12,7 +12,7 @@ use crate::{Doomed, Registration, exceptions};
 use lpc_base::Birth;
 use lpc_slots::Key;
 
-impl Procs {
+impl<'t> Procs<'t> {
     /// The port that is told of the exceptions of a process that has a row, before its frame handlers are, and again
     /// behind them: None until it is set.
     pub fn debug_port(&self, pid: u32) -> Option<Registration>

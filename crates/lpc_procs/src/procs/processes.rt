@@ -12,9 +12,9 @@ use crate::rows::Counted;
 use crate::searches::{count_rows, first_row};
 use crate::{Life, ProcessRow, births};
 use lpc_base::Birth;
-use lpc_sid::Token;
+use lpc_tokens::TokenRef;
 
-impl Procs {
+impl<'t> Procs<'t> {
     /// How many processes have a row.
     pub fn processes(&self) -> usize
         ensures count { result ≡ length self.now.processes }
@@ -36,7 +36,7 @@ impl Procs {
     }
 
     /// The process at a place. Places go from 0 in the order of making.
-    pub fn process_at(&self, place: usize) -> &ProcessRow
+    pub fn process_at(&self, place: usize) -> &ProcessRow<'t>
         requires place { place < length self.now.processes }
         ensures process { slice_get self.now.processes place ≡ Some result.now }
     {
@@ -74,7 +74,7 @@ impl Procs {
     }
 
     /// The token of a process that has a row.
-    pub fn token(&self, pid: u32) -> &Token
+    pub fn token(&self, pid: u32) -> &TokenRef<'t>
         requires present { is_some (process_at self.now pid) ≡ true }
         ensures token { option_map (λ p. p.token) (process_at self.now pid) ≡ Some result.now }
     {
@@ -109,7 +109,7 @@ impl Procs {
     }
 
     /// The row of a process that is present.
-    pub(crate) fn process(&self, pid: u32) -> &ProcessRow
+    pub(crate) fn process(&self, pid: u32) -> &ProcessRow<'t>
         requires { is_some (process_at self.now pid) ≡ true }
         ensures { process_at self.now pid ≡ Some result.now }
     {
@@ -120,7 +120,7 @@ impl Procs {
     }
 
     /// The first process of the name, with its count.
-    pub(crate) fn found_process_born(&self, birth: Birth) -> Option<&Counted>
+    pub(crate) fn found_process_born(&self, birth: Birth) -> Option<&Counted<'t>>
         ensures process { option_map (λ p. p.row) (option_copied result)
             ≡ first (is_process_born birth) self.now.processes }
         ensures live { count (is_process_born birth) self.now.processes ≤ 1 →

@@ -13,7 +13,7 @@ use crate::{Registration, registrations};
 use lpc_base::Birth;
 use lpc_slots::Key;
 
-impl Procs {
+impl<'t> Procs<'t> {
     /// Registers a port with the thread, which has a row and registered fewer than 16, behind those that it had.
     pub fn register(&mut self, tid: u32, port: Key, birth: Birth)
         requires left { IsSomeAnd (thread_at self.old tid) HasRegistrationLeft }

@@ -17,7 +17,7 @@ use lpc_base::Birth;
 use lpc_message::ClientId;
 use lpc_tokens::Impersonation;
 
-impl Procs {
+impl<'t> Procs<'t> {
     /// The numbers are those of a live thread and of its process.
     pub fn live_thread(&self, client: ClientId) -> bool
         ensures live { result ≡ has (is_live_client client) self.now.threads }
@@ -85,7 +85,7 @@ impl Procs {
     }
 
     /// The thread at a place. Places go from 0 in the order of making.
-    pub fn thread_at(&self, place: usize) -> &ThreadRow
+    pub fn thread_at(&self, place: usize) -> &ThreadRow<'t>
         requires place { place < length self.now.threads }
         ensures thread { slice_get self.now.threads place ≡ Some result.now }
     {
@@ -122,7 +122,7 @@ impl Procs {
     }
 
     /// The token as which a thread, which has a row, acts for a client: None where it acts with that of its process.
-    pub fn own(&self, tid: u32) -> Option<&Impersonation>
+    pub fn own(&self, tid: u32) -> Option<&Impersonation<'t>>
         requires present { is_some (thread_at self.now tid) ≡ true }
         ensures own { option_map (λ t. t.own) (thread_at self.now tid)
             ≡ Some (option_copied result) }
@@ -131,9 +131,9 @@ impl Procs {
     }
 
     /// Gives a thread, which has a row, the token as which it acts for a client, or takes that away.
-    pub fn set_own(&mut self, tid: u32, own: Option<Impersonation>)
+    pub fn set_own(&mut self, tid: u32, own: Option<Impersonation<'t>>)
         requires present { is_some (thread_at self.old tid) ≡ true }
-        ensures table { self.new ≡ with_thread self.old tid (acting own) }
+        ensures table { self.new ≡ with_thread self.old tid (acting own.entry) }
     {
         match self.threads.get_mut(thread_key(&self.used_threads, tid)) {
             Some(row) => row.own = own,
@@ -196,7 +196,7 @@ impl Procs {
     }
 
     /// The row of a thread that is present.
-    pub(crate) fn thread(&self, tid: u32) -> &ThreadRow
+    pub(crate) fn thread(&self, tid: u32) -> &ThreadRow<'t>
         requires { is_some (thread_at self.now tid) ≡ true }
         ensures { thread_at self.now tid ≡ Some result.now }
     {
@@ -207,14 +207,18 @@ impl Procs {
     }
 
     /// The thread of a number.
-    pub(crate) fn found_thread(&self, tid: u32) -> Option<&ThreadRow>
+    pub(crate) fn found_thread(&self, tid: u32) -> Option<&ThreadRow<'t>>
         ensures { option_copied result ≡ thread_at self.now tid }
     {
         self.threads.get(thread_key(&self.used_threads, tid))
     }
 
     /// The first thread that passes, where only threads of the process do.
-    pub(crate) fn first_of<Q: Test<ThreadRow>>(&self, pid: u32, asked: &Q) -> Option<&ThreadRow>
+    pub(crate) fn first_of<Q: Test<ThreadRow<'t>>>(
+        &self,
+        pid: u32,
+        asked: &Q,
+    ) -> Option<&ThreadRow<'t>>
         requires { PassesOnly pid (Q.test asked.now) }
         ensures { option_copied result ≡ first (Q.test asked.now) self.now.threads }
     {
@@ -225,7 +229,11 @@ impl Procs {
     }
 
     // The first of these threads that passes.
-    fn first_among<Q: Test<ThreadRow>>(&self, members: &[Member], asked: &Q) -> Option<&ThreadRow>
+    fn first_among<Q: Test<ThreadRow<'t>>>(
+        &self,
+        members: &[Member],
+        asked: &Q,
+    ) -> Option<&ThreadRow<'t>>
         ensures { let rows = rows_of self.now.threads members.now in
             option_copied result ≡ first (Q.test asked.now) rows }
     {
@@ -240,7 +248,7 @@ impl Procs {
     }
 
     /// The first thread of the name.
-    pub(crate) fn found_thread_born(&self, birth: Birth) -> Option<&ThreadRow>
+    pub(crate) fn found_thread_born(&self, birth: Birth) -> Option<&ThreadRow<'t>>
         ensures { option_copied result ≡ first (is_thread_born birth) self.now.threads }
     {
         if !self.thread_names.is_single() {

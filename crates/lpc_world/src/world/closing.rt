@@ -19,7 +19,7 @@ use lpc_handles::Row;
 use lpc_homes::Object;
 use lpc_slots::Key;
 
-impl World {
+impl<'t> World<'t> {
     /// All names of a port go.
     pub fn names_unbind(&mut self, port: Key)
         requires port { stands self.old.births.ports port ≡ true }

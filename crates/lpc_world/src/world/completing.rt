@@ -10,7 +10,7 @@ ghost use Rattle.lpc_rows.specs.Clauses.{finished};
 use crate::world::{World, port_of};
 use lpc_homes::Object;
 
-impl World {
+impl<'t> World<'t> {
     /// Gives the process of a thread that waits in a connect the least free handle, which was promised to it, and ends
     /// the wait. Answers the handle's value. The connection request stands in no queue.
     pub fn connects_finish(&mut self, tid: u32, object: Object, access: u32) -> u32

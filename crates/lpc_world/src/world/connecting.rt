@@ -18,7 +18,7 @@ use lpc_names::{Found, status_of};
 use lpc_slots::Key;
 use lpc_waits::{Accepted, Offer, WaitKind};
 
-impl World {
+impl<'t> World<'t> {
     /// The port that a path leads to: the status of the path's fault, and OBJECT_TYPE_MISMATCH where a directory stands
     /// there.
     pub fn named_port(&self, path: &[u8]) -> Result<Key, Status>

@@ -17,7 +17,7 @@ use lpc_ports::Message;
 use lpc_slots::Key;
 use lpc_waits::{Accepted, Offer};
 
-impl World {
+impl<'t> World<'t> {
     /// A client port and a server port become the two ends of a connection, and both get its context.
     pub fn ports_join(&mut self, client: Key, server: Key, context: u32)
         requires client { stands self.old.births.ports client ≡ true }

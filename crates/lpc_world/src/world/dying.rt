@@ -19,7 +19,7 @@ use lpc_procs::{Number, Registration};
 use lpc_rows::Death;
 use lpc_slots::Key;
 
-impl World {
+impl<'t> World<'t> {
     /// A port is registered with a thread that registered fewer than 16, behind those. There is a place for the message
     /// that is to tell of the thread's end.
     pub fn procs_register(&mut self, tid: u32, port: Key)

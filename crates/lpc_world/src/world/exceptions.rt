@@ -26,7 +26,7 @@ fn key_of(port: Option<Registration>) -> Option<Key>
     Some(port?.port)
 }
 
-impl World {
+impl<'t> World<'t> {
     // Events.
 
     /// The thread that waits with an event that was sent on a port, of those that aren't marked the one that has waited

@@ -20,7 +20,7 @@ use lpc_base::Birth;
 use lpc_homes::Object;
 use lpc_slots::Key;
 
-impl World {
+impl<'t> World<'t> {
     /// A row but a thread's, a process's, a view's or a name's names the port: a handle, another port, a message, or a
     /// wait.
     fn is_used_by_row(&self, port: Key) -> bool

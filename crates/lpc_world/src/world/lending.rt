@@ -23,9 +23,9 @@ use lpc_slots::{Key, Slots};
 use lpc_tokens::{TokenNames, TokenRow};
 use lpc_waits::Waits;
 
-impl World {
+impl<'t> World<'t> {
     /// Processes, threads, and the numbers ever used.
-    pub fn procs(&self) -> &Procs
+    pub fn procs(&self) -> &Procs<'t>
         ensures processes { self.now.rows.processes ≡ map shown_process result.now.processes }
         ensures threads { self.now.rows.threads ≡ map shown_thread result.now.threads }
         ensures used_processes { self.now.rows.used_processes ≡ result.now.used_processes }
@@ -38,7 +38,7 @@ impl World {
     }
 
     /// Ports, and the messages in their queues.
-    pub fn ports(&self) -> &Ports
+    pub fn ports(&self) -> &Ports<'t>
         ensures births { self.now.births.ports ≡ port_names result.now }
         ensures apart { are_apart self.now.births.ports ≡ true }
         ensures ports { self.now.rows.ports ≡ shown_in self.now shown_port result.now.ports }
@@ -62,7 +62,7 @@ impl World {
     }
 
     /// Tokens.
-    pub fn tokens(&self) -> &Slots<TokenRow>
+    pub fn tokens(&self) -> &Slots<TokenRow<'t>>
         ensures births { self.now.births.tokens ≡ token_births result.now }
         ensures apart { are_apart self.now.births.tokens ≡ true }
         ensures tokens { self.now.rows.tokens ≡ map shown_token (listed result.now) }
@@ -71,7 +71,7 @@ impl World {
     }
 
     /// The tokens that have names, with their names.
-    pub fn token_names(&self) -> &TokenNames
+    pub fn token_names(&self) -> &TokenNames<'t>
         ensures names { self.now.rows.token_names ≡ map shown_token_name result.now.rows }
     {
         &self.token_names

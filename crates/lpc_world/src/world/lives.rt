@@ -9,7 +9,7 @@ use crate::world::World;
 use lpc_base::Birth;
 use lpc_procs::BornThread;
 
-impl World {
+impl<'t> World<'t> {
     /// How many processes that this one made are live.
     pub fn live_children(&self, pid: u32) -> usize
         ensures { result ≡ creation.live_children self.now.rows pid }

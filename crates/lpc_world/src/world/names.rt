@@ -12,7 +12,7 @@ use lpc_base::{OutOfMemory, Status};
 use lpc_names::{BindFault, status_of};
 use lpc_slots::Key;
 
-impl World {
+impl<'t> World<'t> {
     /// Why no new name can be bound where a path leads: the status of the path's fault, as for `names_bind`.
     pub fn name_test(&self, path: &[u8]) -> Result<(), Status>
         ensures fault { IfErr result (λ status. free_name self.now.rows path.now ≡ Err status) }

@@ -22,7 +22,7 @@ use lpc_procs::{Caller, Number};
 use lpc_slots::Key;
 use lpc_waits::Wait;
 
-impl World {
+impl<'t> World<'t> {
     // Threads and processes.
 
     /// A live thread, as a caller: None exactly where no live thread has the number.
@@ -111,7 +111,7 @@ impl World {
     // Ports and queues.
 
     /// The row of a port that stands.
-    pub fn port(&self, port: Key) -> &Port
+    pub fn port(&self, port: Key) -> &Port<'t>
         requires { stands self.now.births.ports port ≡ true }
         ensures found { row_at self.now port ≡ Some (port_at self.now port) }
         ensures birth { let p = port_at self.now port in p.birth ≡ birth_at self.now port }

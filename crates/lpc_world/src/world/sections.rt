@@ -22,7 +22,7 @@ use lpc_base::{Birth, OutOfMemory};
 use lpc_sections::Section;
 use lpc_slots::{Key, Slots};
 
-impl World {
+impl<'t> World<'t> {
     /// Makes room for so many further sections.
     ///
     /// OutOfMemory comes only where that room wasn't there; nothing has changed then but the room.

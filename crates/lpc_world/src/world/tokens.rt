@@ -12,19 +12,20 @@ ghost use Rattle.lpc_rows.specs.Names.{KeepsNames, KeepsOthers, name_of, stands}
 ghost use Rattle.lpc_rows.specs.Ready.{caller};
 ghost use Rattle.lpc_rows.specs.Shown.{shown_token};
 ghost use Rattle.lpc_rows.specs.Clauses.{after, and_token, and_token_name, birth_at, port_at, token_at, with_token};
+ghost use Rattle.lpc_sid.specs.WellKnown.{system_token};
 ghost use Rattle.lpc_tokens.specs.declared.names.TheConstants.{TOKEN_NAME_LIMIT};
 
 use crate::world::World;
 use lpc_base::OutOfMemory;
 use lpc_sid::Token;
 use lpc_slots::Key;
-use lpc_tokens::{Effective, Impersonation, Security, TokenRow, effective_token};
+use lpc_tokens::{Effective, Impersonation, Security, TokenRef, TokenRow, effective_token};
 
-impl World {
+impl<'t> World<'t> {
     // What is found.
 
     /// The token of a process that stands.
-    pub fn process_token(&self, pid: u32) -> &Token
+    pub fn process_token(&self, pid: u32) -> &TokenRef<'t>
         requires { has (is_process pid) self.now.rows.processes ≡ true }
         ensures { token_of self.now.rows pid ≡ result.now }
     {
@@ -32,7 +33,7 @@ impl World {
     }
 
     /// The token as which a live thread acts for a client: None where it acts with that of its process.
-    pub fn own_token(&self, tid: u32) -> Option<&Impersonation>
+    pub fn own_token(&self, tid: u32) -> Option<&Impersonation<'t>>
         requires { has (is_live_thread tid) self.now.rows.threads ≡ true }
         ensures { let t = caller self.now.rows tid in t.own ≡ option_copied result }
     {
@@ -40,7 +41,7 @@ impl World {
     }
 
     /// The token with which a live thread acts: the one as which it acts for a client, else that of its process.
-    pub fn acting_token(&self, tid: u32) -> Effective
+    pub fn acting_token(&self, tid: u32) -> Effective<'t>
         requires { has (is_live_thread tid) self.now.rows.threads ≡ true }
         ensures token { result ≡ found.acting_token self.now.rows (caller self.now.rows tid) }
         ensures thread { found.live_thread self.now.rows tid ≡ Some (caller self.now.rows tid) }
@@ -52,7 +53,7 @@ impl World {
     }
 
     /// Who may use a port that stands, and what it allows.
-    pub fn port_security(&self, port: Key) -> &Security
+    pub fn port_security(&self, port: Key) -> &Security<'t>
         requires { stands self.now.births.ports port ≡ true }
         ensures { let p = port_at self.now port in p.security ≡ result.now }
     {
@@ -60,7 +61,7 @@ impl World {
     }
 
     /// The token of a key.
-    pub fn token(&self, token: Key) -> &TokenRow
+    pub fn token(&self, token: Key) -> &TokenRow<'t>
         requires { stands self.now.births.tokens token ≡ true }
         ensures token { token_at self.now token ≡ Some (shown_token (token, result.now)) }
         ensures birth { let row = result.now in row.birth ≡ name_of self.now.births.tokens token }
@@ -71,8 +72,15 @@ impl World {
         }
     }
 
+    /// The token of a process for which no other is named: the local system's.
+    pub fn system_token(&self) -> TokenRef<'t>
+        ensures { result ≡ system_token }
+    {
+        self.token_names.system()
+    }
+
     /// The token of a name: None exactly where no token has it.
-    pub fn named_token(&self, name: &[u8]) -> Option<&Token>
+    pub fn named_token(&self, name: &[u8]) -> Option<&TokenRef<'t>>
         ensures { option_copied result
             ≡ option_map (λ n. n.token) (named_token self.now.rows name.now) }
     {
@@ -82,10 +90,10 @@ impl World {
     // Changes.
 
     /// Says of a port who may use it, and what it allows.
-    pub fn ports_set_security(&mut self, port: Key, security: Security)
+    pub fn ports_set_security(&mut self, port: Key, security: Security<'t>)
         requires { stands self.old.births.ports port ≡ true }
-        ensures step { let left = after self.old (Secures (birth_at self.old port) security) in
-            IsStep left self.old self.new }
+        ensures step { let birth = birth_at self.old port in
+            IsStep (after self.old (Secures birth security.entry)) self.old self.new }
         ensures loose { self.new.loose ≡ self.old.loose }
         ensures capacity { self.new.capacity ≡ self.old.capacity }
     {
@@ -93,9 +101,9 @@ impl World {
     }
 
     /// A thread acts for a client from now on, or with the token of its process again.
-    pub fn procs_set_own(&mut self, tid: u32, own: Option<Impersonation>)
+    pub fn procs_set_own(&mut self, tid: u32, own: Option<Impersonation<'t>>)
         requires { has (is_thread tid) self.old.rows.threads ≡ true }
-        ensures step { IsStep (after self.old (Acts tid own)) self.old self.new }
+        ensures step { IsStep (after self.old (Acts tid own.entry)) self.old self.new }
         ensures loose { self.new.loose ≡ self.old.loose }
         ensures capacity { self.new.capacity ≡ self.old.capacity }
     {
@@ -104,13 +112,14 @@ impl World {
 
     /// Adds a token as an object, and answers its key. Its birth was drawn, and no token has it. It takes no memory:
     /// there is room that `tokens_reserve` made.
-    pub fn tokens_insert_reserved(&mut self, token: TokenRow) -> Key
+    pub fn tokens_insert_reserved(&mut self, token: TokenRow<'t>) -> Key
         requires room { 0 < self.old.room.tokens }
         requires budget { CanMake self.old }
         requires fresh { token_row self.old.rows token.birth ≡ None }
         requires drawn { has (drew token.birth) self.old.rows.threads ≡ true }
-        ensures rows { self.new.rows ≡ with_token self.old token }
-        ensures name { name_of self.new.births.tokens result ≡ token.birth }
+        ensures rows { self.new.rows ≡ with_token self.old token.entry }
+        ensures name { let row = token.entry in
+            name_of self.new.births.tokens result ≡ row.birth }
         ensures stands { stands self.new.births.tokens result ≡ true }
         ensures others { KeepsNames self.old.births.tokens self.new.births.tokens }
         ensures ports { self.new.births.ports ≡ self.old.births.ports }

@@ -24,7 +24,7 @@ use lpc_homes::Parts;
 use lpc_slots::Key;
 use lpc_views::{Fault, MapFault, Place, View, part_of_mut};
 
-impl World {
+impl<'t> World<'t> {
     /// Makes room for so many further views of a process.
     ///
     /// OutOfMemory comes only where that room wasn't there; nothing has changed then but the room.

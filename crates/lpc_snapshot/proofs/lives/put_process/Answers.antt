@@ -29,14 +29,14 @@ returns-in_err-put_number_or_null_under c =
     (as_two _ _ _ (put_stops _ _ _ c.from_residual-in_err-put_number_or_null_under.ensures.0 c.in_err-put_number_or_null_under.ensures.err c.in_err-put_number_or_null_under.ensures.capacity c.in_err-put_number_or_null_under.ensures.wanting)))) in
     record { ok = all.ok; err = all.err; capacity = all.capacity; wanting = all.wanting }
 
-pub returns-in_err-put_token_under : goal.returns-in_err-put_token_under
+pub returns-in_err-put_row_token : goal.returns-in_err-put_row_token
 unfolding process_row
-returns-in_err-put_token_under c =
-    let all : IsPut c.args.into.now.items (vec_capacity c.args.into.now) c.put_token_under.new.into.items (vec_capacity c.put_token_under.new.into) (process_row c.args.world.now.rows (shown_process c.args.process.now)) c.from_residual-in_err-put_token_under.result =
+returns-in_err-put_row_token c =
+    let all : IsPut c.args.into.now.items (vec_capacity c.args.into.now) c.put_row_token.new.into.items (vec_capacity c.put_row_token.new.into) (process_row c.args.world.now.rows (shown_process c.args.process.now)) c.from_residual-in_err-put_row_token.result =
     put_more _ _ c.in_ok-put_object.ensures.ok c.in_ok-put_object.ensures.capacity
     (as_two _ _ _ (put_more _ _ c.in_ok-put_decimal_under.ensures.ok c.in_ok-put_decimal_under.ensures.capacity
     (as_two _ _ _ (put_more _ _ c.in_ok-put_number_or_null_under.ensures.ok c.in_ok-put_number_or_null_under.ensures.capacity
-    (as_two _ _ _ (put_stops _ _ _ c.from_residual-in_err-put_token_under.ensures.0 c.in_err-put_token_under.ensures.err c.in_err-put_token_under.ensures.capacity c.in_err-put_token_under.ensures.wanting)))))) in
+    (as_two _ _ _ (put_stops _ _ _ c.from_residual-in_err-put_row_token.ensures.0 c.in_err-put_row_token.ensures.err c.in_err-put_row_token.ensures.capacity c.in_err-put_row_token.ensures.wanting)))))) in
     record { ok = all.ok; err = all.err; capacity = all.capacity; wanting = all.wanting }
 
 pub returns-in_err-put_port_or_null_under : goal.returns-in_err-put_port_or_null_under
@@ -46,7 +46,7 @@ returns-in_err-put_port_or_null_under c =
     put_more _ _ c.in_ok-put_object.ensures.ok c.in_ok-put_object.ensures.capacity
     (as_two _ _ _ (put_more _ _ c.in_ok-put_decimal_under.ensures.ok c.in_ok-put_decimal_under.ensures.capacity
     (as_two _ _ _ (put_more _ _ c.in_ok-put_number_or_null_under.ensures.ok c.in_ok-put_number_or_null_under.ensures.capacity
-    (as_two _ _ _ (put_more _ _ c.in_ok-put_token_under.ensures.ok c.in_ok-put_token_under.ensures.capacity
+    (as_two _ _ _ (put_more _ _ c.in_ok-put_row_token.ensures.ok c.in_ok-put_row_token.ensures.capacity
     (second_same _ _ _ _ (ap (or_null port_text) c.event_port.ensures) (as_two _ _ _ (put_stops _ _ _ c.from_residual-in_err-put_port_or_null_under.ensures.0 c.in_err-put_port_or_null_under.ensures.err c.in_err-put_port_or_null_under.ensures.capacity c.in_err-put_port_or_null_under.ensures.wanting))))))))) in
     record { ok = all.ok; err = all.err; capacity = all.capacity; wanting = all.wanting }
 
@@ -57,7 +57,7 @@ returns-in_err-put_port_or_null_under-2 c =
     put_more _ _ c.in_ok-put_object.ensures.ok c.in_ok-put_object.ensures.capacity
     (as_two _ _ _ (put_more _ _ c.in_ok-put_decimal_under.ensures.ok c.in_ok-put_decimal_under.ensures.capacity
     (as_two _ _ _ (put_more _ _ c.in_ok-put_number_or_null_under.ensures.ok c.in_ok-put_number_or_null_under.ensures.capacity
-    (as_two _ _ _ (put_more _ _ c.in_ok-put_token_under.ensures.ok c.in_ok-put_token_under.ensures.capacity
+    (as_two _ _ _ (put_more _ _ c.in_ok-put_row_token.ensures.ok c.in_ok-put_row_token.ensures.capacity
     (second_same _ _ _ _ (ap (or_null port_text) c.event_port.ensures) (as_two _ _ _ (put_more _ _ c.in_ok-put_port_or_null_under.ensures.ok c.in_ok-put_port_or_null_under.ensures.capacity
     (second_same _ _ _ _ (ap (or_null port_text) c.event_port-2.ensures) (as_two _ _ _ (put_stops _ _ _ c.from_residual-in_err-put_port_or_null_under-2.ensures.0 c.in_err-put_port_or_null_under-2.ensures.err c.in_err-put_port_or_null_under-2.ensures.capacity c.in_err-put_port_or_null_under-2.ensures.wanting)))))))))))) in
     record { ok = all.ok; err = all.err; capacity = all.capacity; wanting = all.wanting }
@@ -69,7 +69,7 @@ returns-in_err-put_hex_or_null_under c =
     put_more _ _ c.in_ok-put_object.ensures.ok c.in_ok-put_object.ensures.capacity
     (as_two _ _ _ (put_more _ _ c.in_ok-put_decimal_under.ensures.ok c.in_ok-put_decimal_under.ensures.capacity
     (as_two _ _ _ (put_more _ _ c.in_ok-put_number_or_null_under.ensures.ok c.in_ok-put_number_or_null_under.ensures.capacity
-    (as_two _ _ _ (put_more _ _ c.in_ok-put_token_under.ensures.ok c.in_ok-put_token_under.ensures.capacity
+    (as_two _ _ _ (put_more _ _ c.in_ok-put_row_token.ensures.ok c.in_ok-put_row_token.ensures.capacity
     (second_same _ _ _ _ (ap (or_null port_text) c.event_port.ensures) (as_two _ _ _ (put_more _ _ c.in_ok-put_port_or_null_under.ensures.ok c.in_ok-put_port_or_null_under.ensures.capacity
     (second_same _ _ _ _ (ap (or_null port_text) c.event_port-2.ensures) (as_two _ _ _ (put_more _ _ c.in_ok-put_port_or_null_under-2.ensures.ok c.in_ok-put_port_or_null_under-2.ensures.capacity
     (as_two _ _ _ (put_stops _ _ _ c.from_residual-in_err-put_hex_or_null_under.ensures.0 c.in_err-put_hex_or_null_under.ensures.err c.in_err-put_hex_or_null_under.ensures.capacity c.in_err-put_hex_or_null_under.ensures.wanting)))))))))))))) in
@@ -82,7 +82,7 @@ returns-in_err-put_counts c =
     put_more _ _ c.in_ok-put_object.ensures.ok c.in_ok-put_object.ensures.capacity
     (as_two _ _ _ (put_more _ _ c.in_ok-put_decimal_under.ensures.ok c.in_ok-put_decimal_under.ensures.capacity
     (as_two _ _ _ (put_more _ _ c.in_ok-put_number_or_null_under.ensures.ok c.in_ok-put_number_or_null_under.ensures.capacity
-    (as_two _ _ _ (put_more _ _ c.in_ok-put_token_under.ensures.ok c.in_ok-put_token_under.ensures.capacity
+    (as_two _ _ _ (put_more _ _ c.in_ok-put_row_token.ensures.ok c.in_ok-put_row_token.ensures.capacity
     (second_same _ _ _ _ (ap (or_null port_text) c.event_port.ensures) (as_two _ _ _ (put_more _ _ c.in_ok-put_port_or_null_under.ensures.ok c.in_ok-put_port_or_null_under.ensures.capacity
     (second_same _ _ _ _ (ap (or_null port_text) c.event_port-2.ensures) (as_two _ _ _ (put_more _ _ c.in_ok-put_port_or_null_under-2.ensures.ok c.in_ok-put_port_or_null_under-2.ensures.capacity
     (as_two _ _ _ (put_more _ _ c.in_ok-put_hex_or_null_under.ensures.ok c.in_ok-put_hex_or_null_under.ensures.capacity
@@ -96,7 +96,7 @@ returns c =
     put_more _ _ c.in_ok-put_object.ensures.ok c.in_ok-put_object.ensures.capacity
     (as_two _ _ _ (put_more _ _ c.in_ok-put_decimal_under.ensures.ok c.in_ok-put_decimal_under.ensures.capacity
     (as_two _ _ _ (put_more _ _ c.in_ok-put_number_or_null_under.ensures.ok c.in_ok-put_number_or_null_under.ensures.capacity
-    (as_two _ _ _ (put_more _ _ c.in_ok-put_token_under.ensures.ok c.in_ok-put_token_under.ensures.capacity
+    (as_two _ _ _ (put_more _ _ c.in_ok-put_row_token.ensures.ok c.in_ok-put_row_token.ensures.capacity
     (second_same _ _ _ _ (ap (or_null port_text) c.event_port.ensures) (as_two _ _ _ (put_more _ _ c.in_ok-put_port_or_null_under.ensures.ok c.in_ok-put_port_or_null_under.ensures.capacity
     (second_same _ _ _ _ (ap (or_null port_text) c.event_port-2.ensures) (as_two _ _ _ (put_more _ _ c.in_ok-put_port_or_null_under-2.ensures.ok c.in_ok-put_port_or_null_under-2.ensures.capacity
     (as_two _ _ _ (put_more _ _ c.in_ok-put_hex_or_null_under.ensures.ok c.in_ok-put_hex_or_null_under.ensures.capacity

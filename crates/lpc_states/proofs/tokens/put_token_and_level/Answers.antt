@@ -1,7 +1,7 @@
 use Rattle.std.proofs.Common.{ap, decimal, rules, vec_capacity}
 use Rattle.lpc_states.specs.Values.{leveled_text, or_null}
 use Rattle.lpc_states.proofs.Puts.{IsPut, as_two, put_last, put_more, put_stops, second_same}
-use Rattle.lpc_states.proofs.tokens.put_leveled.Goals as goal
+use Rattle.lpc_states.proofs.tokens.put_token_and_level.Goals as goal
 
 pub returns-in_err-put_token_under : goal.returns-in_err-put_token_under
 unfolding leveled_text
