@@ -58,46 +58,6 @@ fn relink<const LIST: usize, T: Linked<LIST>>(slots: &mut Slots<T>, key: Key, li
     }
 }
 
-// Another row behind a row, where there is one.
-fn set_after<const LIST: usize, T: Linked<LIST>>(
-    slots: &mut Slots<T>,
-    key: Option<Key>,
-    after: Option<Key>,
-)
-    ensures { slots.new ≡ changed slots.old key
-        (λ value. T.with_links value (record (T.links_of value) { after = after })) }
-{
-    if let Some(key) = key {
-        if let Some(value) = slots.get_mut(key) {
-            let links = value.links();
-            value.set_links(Links {
-                before: links.before,
-                after,
-            });
-        }
-    }
-}
-
-// Another row before a row, where there is one.
-fn set_before<const LIST: usize, T: Linked<LIST>>(
-    slots: &mut Slots<T>,
-    key: Option<Key>,
-    before: Option<Key>,
-)
-    ensures { slots.new ≡ changed slots.old key
-        (λ value. T.with_links value (record (T.links_of value) { before = before })) }
-{
-    if let Some(key) = key {
-        if let Some(value) = slots.get_mut(key) {
-            let links = value.links();
-            value.set_links(Links {
-                before,
-                after: links.after,
-            });
-        }
-    }
-}
-
 // The links of a row that is there.
 fn read_links<const LIST: usize, T: Linked<LIST>>(slots: &Slots<T>, key: Key) -> Links
     requires { IsSome (at slots.now key) }
@@ -106,16 +66,6 @@ fn read_links<const LIST: usize, T: Linked<LIST>>(slots: &Slots<T>, key: Key) ->
     match slots.get(key) {
         Some(value) => value.links(),
         None => unreachable!(),
-    }
-}
-
-// `old` where there is such a key, and else `new`.
-fn kept_if(key: Option<Key>, old: Option<Key>, new: Option<Key>) -> Option<Key>
-    ensures { result ≡ option_map_or (λ _. old) key new }
-{
-    match key {
-        Some(_) => old,
-        None => new,
     }
 }
 
@@ -155,8 +105,7 @@ impl<const LIST: usize> Chain<LIST> {
                 after: None,
             },
         );
-        set_after(slots, self.last, Some(key));
-        self.first = kept_if(self.last, self.first, Some(key));
+        self.set_after(slots, self.last, Some(key));
         self.last = Some(key);
     }
 
@@ -169,10 +118,8 @@ impl<const LIST: usize> Chain<LIST> {
         ensures links { RelinksNext T.links_of T.with_links slots.old slots.new self.old key }
     {
         let links = read_links(slots, key);
-        set_after(slots, links.before, links.after);
-        set_before(slots, links.after, links.before);
-        self.first = kept_if(links.before, self.first, links.after);
-        self.last = kept_if(links.after, self.last, links.before);
+        self.set_after(slots, links.before, links.after);
+        self.set_before(slots, links.after, links.before);
     }
 
     /// Takes the first row out of the chain, and answers it: None exactly where the chain is empty.
@@ -188,5 +135,57 @@ impl<const LIST: usize> Chain<LIST> {
         let key = self.first?;
         self.unlink(slots, key);
         Some(key)
+    }
+
+    // Another row behind a row. Where there is none before it, it is the first.
+    fn set_after<T: Linked<LIST>>(
+        &mut self,
+        slots: &mut Slots<T>,
+        key: Option<Key>,
+        after: Option<Key>,
+    )
+        ensures slots { slots.new ≡ changed slots.old key
+            (λ value. T.with_links value (record (T.links_of value) { after = after })) }
+        ensures first { self.new.first ≡ option_map_or (λ _. self.old.first) key after }
+        ensures last { self.new.last ≡ self.old.last }
+    {
+        match key {
+            Some(key) => {
+                if let Some(value) = slots.get_mut(key) {
+                    let links = value.links();
+                    value.set_links(Links {
+                        before: links.before,
+                        after,
+                    });
+                }
+            }
+            None => self.first = after,
+        }
+    }
+
+    // Another row before a row. Where there is none behind it, it is the last.
+    fn set_before<T: Linked<LIST>>(
+        &mut self,
+        slots: &mut Slots<T>,
+        key: Option<Key>,
+        before: Option<Key>,
+    )
+        ensures slots { slots.new ≡ changed slots.old key
+            (λ value. T.with_links value (record (T.links_of value) { before = before })) }
+        ensures last { self.new.last ≡ option_map_or (λ _. self.old.last) key before }
+        ensures first { self.new.first ≡ self.old.first }
+    {
+        match key {
+            Some(key) => {
+                if let Some(value) = slots.get_mut(key) {
+                    let links = value.links();
+                    value.set_links(Links {
+                        before,
+                        after: links.after,
+                    });
+                }
+            }
+            None => self.last = before,
+        }
     }
 }
