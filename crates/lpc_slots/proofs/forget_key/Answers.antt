@@ -1,20 +1,21 @@
-use Rattle.std.proofs.Common.{ap, ◌∙◌, length, arith}
-use Rattle.std.specs.List.{prefix_len, remove}
-use Rattle.lpc_slots.specs.Layout.{is_before}
-use Rattle.lpc_slots.proofs.Rising.{gone}
+use Rattle.std.proofs.Common.{◌≡◌, true, sym, ap, ◌∙◌, List, [], ◌∷◌, length, arith}
+use Rattle.lpc_base.specs.Rows.{has, without}
+use Rattle.lpc_slots.specs.declared.Key.{Key}
+use Rattle.lpc_slots.specs.Table.{is_key}
 use Rattle.lpc_slots.proofs.forget_key.Goals as goal
 
-pub remove-requires : goal.remove-requires
-remove-requires c =
-    let within = (gone c.args.key c.args.order.now.items c.requires.rise c.requires.stands).0 in
-    omega (arith, within, c.key_place-place.ensures ∙ ap (λ keys. prefix_len (is_before c.args.key) keys) c.as_slice.ensures.value, c.args.order.now.ok.0)
+-- the only key is the one that goes
+only_goes : (key : Key) (keys : List Key) → length keys ≡ 1 → has (λ other. is_key other key) keys ≡ true → without (λ other. is_key other key) keys ≡ []
+only_goes key [] one stands = absurd (cc)
+only_goes key (other ∷ []) one stands = grind (arith, stands)
+only_goes key (other ∷ next ∷ keys) one stands = absurd (omega arith)
 
-pub returns-clause-keys : goal.returns-clause-keys
-returns-clause-keys c =
-    let place = c.key_place-place.ensures ∙ ap (λ keys. prefix_len (is_before c.args.key) keys) c.as_slice.ensures.value in
-    c.remove.ensures.items ∙ ap (remove c.args.order.now.items) place ∙ (gone c.args.key c.args.order.now.items c.requires.rise c.requires.stands).1
+pub returns-then-len-eq1-clause-keys : goal.returns-then-len-eq1-clause-keys
+returns-then-len-eq1-clause-keys c =
+    let one : length c.args.order.now.items ≡ 1 = omega (arith, c.args.order.now.ok.0, c.len.ensures, c.if-len-eq1.true) in
+    c.clear.ensures.items ∙ sym (only_goes c.args.key c.args.order.now.items one c.requires.stands)
 
-pub returns-clause-len : goal.returns-clause-len
-returns-clause-len c =
-    let place = c.key_place-place.ensures ∙ ap (λ keys. prefix_len (is_before c.args.key) keys) c.as_slice.ensures.value in
-    c.remove.new.self.ok.0 ∙ ap length (c.remove.ensures.items ∙ ap (remove c.args.order.now.items) place ∙ (gone c.args.key c.args.order.now.items c.requires.rise c.requires.stands).1)
+pub returns-then-len-eq1-clause-len : goal.returns-then-len-eq1-clause-len
+returns-then-len-eq1-clause-len c =
+    let one : length c.args.order.now.items ≡ 1 = omega (arith, c.args.order.now.ok.0, c.len.ensures, c.if-len-eq1.true) in
+    c.clear.ensures.len ∙ sym (ap length (only_goes c.args.key c.args.order.now.items one c.requires.stands))
