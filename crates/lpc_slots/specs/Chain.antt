@@ -36,6 +36,10 @@ module _ {T : Type 0} where
   abbrev pub links_at : (T → Links) → Table T → Key → Option Links
   links_at links_of s key = option_map links_of (at s key)
 
+  -- the row of a key is there, and names no other before it or behind it
+  abbrev pub IsAlone : (T → Links) → Table T → Key → Type 0
+  IsAlone links_of s key = links_at links_of s key ≡ Some (record { before = None; after = None })
+
   -- the value at a key is changed, if there is one
   abbrev pub changed : Table T → Option Key → (T → T) → Table T
   changed s None change = s

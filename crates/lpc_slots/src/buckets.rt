@@ -1,5 +1,6 @@
 // Chains of rows by a number of each row.
 ghost use Rattle.std.specs.Prelude.{◌≡◌, ◌%◌, ◌<◌, ◌≤◌, [], IsSome, OnOk, length, vec_capacity};
+ghost use Rattle.lpc_slots.specs.Chain.{IsAlone};
 ghost use Rattle.lpc_slots.specs.Table.{at};
 ghost use Rattle.lpc_slots.specs.Buckets.{Enters, HasPlaced, Leaves, AreEmpty, RelinksSome, first_under};
 
@@ -48,6 +49,21 @@ impl<const LIST: usize> Buckets<LIST> {
     {
         let bucket = self.bucket(number);
         self.chains[bucket].push_back(slots, key);
+    }
+
+    /// Puts a row that stands next to none on this chain at the end of the chain of its number.
+    ///
+    /// There are chains.
+    pub fn push_new<T: Linked<LIST>>(&mut self, slots: &mut Slots<T>, number: usize, key: Key)
+        requires wide { 0 < length self.old.chains.items }
+        requires alone { IsAlone T.links_of slots.old key }
+        ensures enters { Enters T.links_of
+            slots.old slots.new self.old.chains.items self.new.chains.items key number }
+        ensures many { length self.new.chains.items ≡ length self.old.chains.items }
+        ensures links { RelinksSome T.with_links slots.old slots.new }
+    {
+        let bucket = self.bucket(number);
+        self.chains[bucket].push_new(slots, key);
     }
 
     /// Takes a row out of the chain of its number. Its own links stay as they are.

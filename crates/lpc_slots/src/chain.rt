@@ -3,7 +3,7 @@ ghost use Rattle.std.specs.Prelude.{◌≡◌, ◌∷◌, Some, None, IsSome, op
 ghost use Rattle.std.specs.Option.{option_map_or, option_to_list};
 ghost use Rattle.lpc_slots.specs.declared.chain.Links.{Links};
 ghost use Rattle.lpc_slots.specs.Table.{at};
-ghost use Rattle.lpc_slots.specs.Chain.{Appends, HasIn, IsStanding, RelinksSecond, RelinksNext, Relinks, TakesFirst, TakesOut, changed, links_at};
+ghost use Rattle.lpc_slots.specs.Chain.{Appends, HasIn, IsAlone, IsStanding, RelinksSecond, RelinksNext, Relinks, TakesFirst, TakesOut, changed, links_at};
 
 use crate::{Key, Slots};
 
@@ -107,6 +107,23 @@ impl<const LIST: usize> Chain<LIST> {
         );
         self.set_after(slots, self.last, Some(key));
         self.last = Some(key);
+    }
+
+    /// Puts a row that stands next to none at the end of the chain. Where the chain is empty, the row stays as it is.
+    ///
+    /// The chain stands for rows over these slots, and this is none of them.
+    pub fn push_new<T: Linked<LIST>>(&mut self, slots: &mut Slots<T>, key: Key)
+        requires alone { IsAlone T.links_of slots.old key }
+        ensures chain { Appends T.links_of slots.old slots.new self.old self.new key }
+        ensures links { let last = option_to_list self.old.last in
+            Relinks T.with_links (key ∷ last) slots.old slots.new }
+    {
+        if self.last.is_none() {
+            self.first = Some(key);
+            self.last = Some(key);
+        } else {
+            self.push_back(slots, key);
+        }
     }
 
     /// Takes a row out of the chain, wherever it stands. Its own links stay as they are.

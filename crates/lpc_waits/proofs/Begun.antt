@@ -1,5 +1,5 @@
 -- A wait that begins, and one that ends.
-use Rattle.std.proofs.Common.{◌≡◌, ◌≢◌, ◌+◌, ◌-◌, ◌≤◌, ◌<◌, arith, ℕ, Bool, true, false, cond, length, refl, sym, ap, ◌∙◌, subst, inl, inr, List, [], ◌∷◌, ◌++◌, Option, Some, None, OnSome, IsSome, is_some, slice_get, true≢false}
+use Rattle.std.proofs.Common.{◌≡◌, ◌≢◌, ◌+◌, ◌-◌, ◌≤◌, ◌<◌, arith, ℕ, Bool, true, false, cond, length, refl, sym, ap, ◌∙◌, subst, inl, inr, List, [], ◌∷◌, ◌++◌, Option, Some, None, OnSome, IsSome, is_some, option_map, slice_get, true≢false}
 use Rattle.std.specs.Prelude.{if◌then◌else◌}
 use Rattle.std.proofs.lemmas.Bool.{cases_Bool, cases_lt, eqb-true}
 use Rattle.lpc_base.specs.Rows.{count, first, which, without}
@@ -21,7 +21,7 @@ use Rattle.lpc_waits.specs.declared.numbers.Numbers.{Numbers}
 use Rattle.lpc_waits.specs.declared.WaitRow.{WaitRow}
 use Rattle.lpc_waits.specs.Kept.{AreKept, has_offer, is_event_row, seen}
 use Rattle.lpc_waits.specs.Lent.{keyed, order_links, shown, waiting_of}
-use Rattle.lpc_waits.specs.Layout.{AreOn, AreWide, IsOf, KeepsRows, by_port, by_process, by_queue, by_thread, port_links, process_links, queue_links, thread_links, with_order, with_port, with_process, with_queue, with_thread}
+use Rattle.lpc_waits.specs.Layout.{AreOn, AreWide, IsOf, KeepsRows, NamesNone, StandsAlone, by_port, by_process, by_queue, by_thread, port_links, process_links, queue_links, thread_links, with_order, with_port, with_process, with_queue, with_thread}
 use Rattle.lpc_waits.specs.Numbers.{numbers_of}
 use Rattle.lpc_waits.specs.Sought.{is_by, key_of_first}
 use Rattle.lpc_waits.proofs.Apart.{apart_push, apart_without}
@@ -59,6 +59,18 @@ module _ (rows : Table WaitRow) (key : Key) (standing : WaitRow) (vacant : at ro
 
     pub there : IsSome (at mid key)
     there = ap is_some (ap (λ (t : Table WaitRow). at t key) table ∙ at_inserted rows key standing)
+
+    -- it stands on no chain yet
+    pub made_alone : NamesNone standing → StandsAlone mid key
+    made_alone none =
+        let here : at mid key ≡ Some standing = ap (λ (t : Table WaitRow). at t key) table ∙ at_inserted rows key standing in
+        record {
+          threads = ap (option_map thread_links) here ∙ ap Some none.threads;
+          ports = ap (option_map port_links) here ∙ ap Some none.ports;
+          queues = ap (option_map queue_links) here ∙ ap Some none.queues;
+          processes = ap (option_map process_links) here ∙ ap Some none.processes;
+          order = ap (option_map order_links) here ∙ ap Some none.order;
+        }
 
     -- the chains stand for the rows without it
     pub on_made : (chains : Chains) → AreOn rows chains (keyed rows) → AreOn mid chains (keyed rows)

@@ -6,7 +6,7 @@ use Rattle.lpc_slots.specs.declared.Key.{Key}
 use Rattle.lpc_slots.specs.declared.chain.Links.{Links}
 use Rattle.lpc_slots.specs.declared.chain.Chain.{Chain}
 use Rattle.lpc_slots.specs.Table.{Table, at, at_key, is_key, keys_of, listed, parts}
-use Rattle.lpc_slots.specs.Chain.{IsAway, IsDistinct, IsRelinked}
+use Rattle.lpc_slots.specs.Chain.{IsAlone, IsAway, IsDistinct, IsRelinked}
 use Rattle.std.specs.FinMap as map
 use Rattle.lpc_slots.proofs.Chains.{distinct_left, front_is_away}
 use Rattle.lpc_slots.proofs.Keys.{key_is}
@@ -30,6 +30,14 @@ keeps with_links same old new links = record {
     by : (o n : Option WaitRow) → IsRelinked with_links o n → option_map waiting_of n ≡ option_map waiting_of o
     by o n (inl e) = ap (option_map waiting_of) e
     by o n (inr p) = ap (option_map waiting_of) p.3 ∙ ap Some (same p.0 p.1) ∙ sym (ap (option_map waiting_of) p.2)
+
+-- a change of links of other chains keeps a row that stands alone so
+pub alone_across : (links_of : WaitRow → Links) (old new : Table WaitRow) (key : Key) (with_links : WaitRow → Links → WaitRow) → ((value : WaitRow) (links : Links) → links_of (with_links value links) ≡ links_of value) → RelinksSome with_links old new → IsAlone links_of old key → IsAlone links_of new key
+alone_across links_of old new key with_links same links alone = by (at old key) (at new key) (links.1.values key) ∙ alone
+  where
+    by : (o n : Option WaitRow) → IsRelinked with_links o n → option_map links_of n ≡ option_map links_of o
+    by o n (inl e) = ap (option_map links_of) e
+    by o n (inr p) = ap (option_map links_of) p.3 ∙ ap Some (same p.0 p.1) ∙ sym (ap (option_map links_of) p.2)
 
 pub keeps_none : (rows : Table WaitRow) → KeepsRows rows rows
 keeps_none rows = record { rows = λ _. refl; spare = refl; made = refl }

@@ -1,9 +1,9 @@
 -- How the rows stand in the table, and on which chains. No public clause cites this module.
-use Rattle.std.specs.Prelude.{◌≡◌, ◌<◌, ◌++◌, ℕ, List, [], ◌∷◌, Some, length, option_map}
+use Rattle.std.specs.Prelude.{◌≡◌, ◌<◌, ◌++◌, ℕ, List, [], ◌∷◌, None, Some, length, option_map}
 use Rattle.lpc_slots.specs.declared.Key.{Key}
 use Rattle.lpc_slots.specs.declared.chain.Links.{Links}
 use Rattle.lpc_base.specs.Rows.{first, without}
-use Rattle.lpc_slots.specs.Chain.{IsAway, IsDistinct, StandsFor}
+use Rattle.lpc_slots.specs.Chain.{IsAlone, IsAway, IsDistinct, StandsFor}
 use Rattle.lpc_slots.specs.Table.{Table, at, at_key, keys_of, parts}
 use Rattle.lpc_slots.specs.Buckets.{Stand as StandIn}
 use Rattle.lpc_waits.specs.Table.{WaitingThread}
@@ -12,6 +12,10 @@ use Rattle.lpc_waits.specs.declared.WaitRow.{WaitRow}
 use Rattle.lpc_waits.specs.declared.chains.Chains.{Chains}
 use Rattle.lpc_waits.specs.Lent.{keyed, order_links, waiting_of}
 use Rattle.lpc_waits.specs.Numbers.{numbers_of}
+
+-- no neighbours
+abbrev pub no_links : Links
+no_links = record { before = None; after = None }
 
 -- the links of a row on each chain by numbers, and the row with other links
 abbrev pub thread_links : WaitRow → Links
@@ -71,6 +75,21 @@ pub record AreWide (chains : Chains) : Type 0 where
   pub ports : 0 < length chains.ports.chains.items
   pub queues : 0 < length chains.queues.chains.items
   pub processes : 0 < length chains.processes.chains.items
+
+-- a row names no neighbours on any chain; and so it is of the row of a key, which is there
+pub record NamesNone (row : WaitRow) : Type 0 where
+  pub threads : thread_links row ≡ no_links
+  pub ports : port_links row ≡ no_links
+  pub queues : queue_links row ≡ no_links
+  pub processes : process_links row ≡ no_links
+  pub order : order_links row ≡ no_links
+
+pub record StandsAlone (rows : Table WaitRow) (key : Key) : Type 0 where
+  pub threads : IsAlone thread_links rows key
+  pub ports : IsAlone port_links rows key
+  pub queues : IsAlone queue_links rows key
+  pub processes : IsAlone process_links rows key
+  pub order : IsAlone order_links rows key
 
 -- nothing changes but links
 pub record KeepsRows (old new : Table WaitRow) : Type 0 where

@@ -25,7 +25,7 @@ pub(crate) struct Chains {
 
 impl Chains {
     ghost use Rattle.lpc_waits.specs.Lent.{keyed};
-    ghost use Rattle.lpc_waits.specs.Layout.{AreOn, AreWide, EntersAll, HasRow, KeepsRows, LeavesAll, Stand};
+    ghost use Rattle.lpc_waits.specs.Layout.{AreOn, AreWide, EntersAll, HasRow, KeepsRows, LeavesAll, Stand, StandsAlone};
 
     /// No chains but an empty one of all rows.
     pub fn new(alloc: Global) -> Chains
@@ -58,6 +58,22 @@ impl Chains {
         self.queues.push(rows, numbers.queue, key);
         self.processes.push(rows, numbers.process, key);
         self.order.push_back(rows, key);
+    }
+
+    /// Puts a row that stands on no chain yet on the chains of its numbers, at their ends.
+    #[inline(always)]
+    pub fn push_new(&mut self, rows: &mut Slots<WaitRow>, key: Key, numbers: Numbers)
+        requires wide { AreWide self.old }
+        requires alone { StandsAlone rows.old key }
+        ensures enters { EntersAll rows.old rows.new self.old self.new key numbers }
+        ensures wide { AreWide self.new }
+        ensures rows { KeepsRows rows.old rows.new }
+    {
+        self.threads.push_new(rows, numbers.thread, key);
+        self.ports.push_new(rows, numbers.port, key);
+        self.queues.push_new(rows, numbers.queue, key);
+        self.processes.push_new(rows, numbers.process, key);
+        self.order.push_new(rows, key);
     }
 
     /// Takes a row out of its chains.

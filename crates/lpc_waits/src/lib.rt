@@ -6,6 +6,7 @@ ghost use Rattle.std.specs.List.{position};
 ghost use Rattle.lpc_base.specs.Room.{grown_room};
 ghost use Rattle.lpc_base.specs.Rows.{count, without, has};
 ghost use Rattle.lpc_base.specs.declared.limits.TheConstants.{MESSAGE_LIMIT};
+ghost use Rattle.lpc_waits.specs.Layout.{NamesNone};
 ghost use Rattle.lpc_waits.specs.Lent.{IsOrder, waiting_of, waits_of};
 ghost use Rattle.lpc_waits.specs.Sought.{earlier, is_before, is_found_at, is_unmarked_in, is_unmarked_on};
 ghost use Rattle.lpc_waits.specs.Table.{accepted_of, accepted_port, accepted_port_in, begun, begun_row, first_thread, is_accepted, is_accepted_at, is_accepted_on, is_connect, is_connect_of, is_event, is_event_on, is_made_at, is_made_on, is_mark, is_of, is_offered, is_offered_to, is_offering, is_receive, is_receive_on, is_receiver_at, is_request, is_request_on, is_taker_on, is_unreceived_event_in, is_unreceived_request_in, is_wait_at, message_of, offer_of, raised_by, raised_in, received, row_of, takes, with_accepted, with_message, with_offer, with_row};
@@ -188,7 +189,8 @@ pub struct WaitRow {
 impl WaitRow {
     // The row of a wait that begins: it stands on no chain yet.
     fn begun(tid: u32, wait: Wait) -> WaitRow
-        ensures { waiting_of result ≡ begun_row tid wait }
+        ensures row { waiting_of result ≡ begun_row tid wait }
+        ensures alone { NamesNone result }
     {
         WaitRow {
             tid,
@@ -301,7 +303,7 @@ impl Waits {
         self.events += wait.kind.event_count();
         let key = self.rows.insert_reserved(WaitRow::begun(tid, wait));
         self.chains
-            .push(&mut self.rows, key, numbers_of(tid, &wait));
+            .push_new(&mut self.rows, key, numbers_of(tid, &wait));
     }
 
     /// How many waits there are.
