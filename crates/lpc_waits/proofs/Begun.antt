@@ -57,9 +57,6 @@ module _ (rows : Table WaitRow) (key : Key) (standing : WaitRow) (vacant : at ro
     pub keyed_push : keyed mid ≡ keyed rows ++ (key, (waiting_of standing)) ∷ []
     keyed_push = ap (parts waiting_of) list ∙ parts_push waiting_of (listed rows) key standing
 
-    pub there : IsSome (at mid key)
-    there = ap is_some (ap (λ (t : Table WaitRow). at t key) table ∙ at_inserted rows key standing)
-
     -- it stands on no chain yet
     pub made_alone : NamesNone standing → StandsAlone mid key
     made_alone none =
