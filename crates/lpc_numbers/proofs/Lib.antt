@@ -1,4 +1,5 @@
 pub mod Lookups
 pub mod Names
 pub mod Nears
+pub mod Recents
 pub mod Tallies

@@ -1,7 +1,11 @@
 -- Births that are found: the numbers that are kept under them, and those of the entries.
-use Rattle.std.proofs.Common.{rules, ◌≡◌, ◌&&◌, ◌≤◌, ℕ, List, [], ◌∷◌, ◌++◌, Bool, true, false, cond, Option, None, Some, is_some, not, option_map, refl, sym, ap, ◌∙◌, arith}
-use Rattle.std.specs.Map.{lookup}
+use Rattle.std.proofs.Common.{rules, ◌≡◌, ◌&&◌, ◌≤◌, ℕ, List, [], ◌∷◌, ◌++◌, Bool, true, false, cond, Option, None, Some, is_some, not, option_map, subst, suc, ◌+◌, length, refl, sym, ap, ◌∙◌, arith}
+use Rattle.std.specs.Prelude.{if◌then◌else◌}
+use Rattle.std.specs.Map.{keys_of, lookup}
+use Rattle.std.specs.List.{position_or_len}
+use Rattle.indexmap.specs.IndexMap.{insert_entry, set_value_at}
 use Rattle.std.proofs.lemmas.Bool.{and_parts}
+use Rattle.std.proofs.lemmas.Option.{same_Some}
 use Rattle.lpc_base.specs.Births.{same_birth}
 use Rattle.lpc_base.specs.Rows.{count, first, has, without}
 use Rattle.lpc_base.specs.declared.birth.Birth.{Birth}
@@ -47,6 +51,51 @@ module _ (birth : Birth) (old new : List (Name × ℕ)) where
       by false off =
           let apart : same_birth birth b ≡ false = births-apart b birth off in
           or-none (number_in old b) ∙ ap (λ c. or_else (number_in old b) (cond c (Some number) None)) (sym apart)
+
+  -- the number of a birth that had none, and those of the other births
+  pub taken : (number : ℕ) → Takes birth number old new → (fresh : Bool) → fresh ≡ not (is_some (number_in old birth)) → fresh ≡ true → Some number ≡ number_in new birth
+  taken number takes fresh is true-is = sym (takes birth ∙ by (number_in old birth) (sym is ∙ true-is))
+    where
+      by : (o : Option ℕ) → not (is_some o) ≡ true → or_else o (with_number birth number birth) ≡ Some number
+      by None none = ap (λ c. cond c (Some number) None) (birth-self birth)
+      by (Some n) none = absurd (cc)
+
+  pub taken-others : (number : ℕ) → Takes birth number old new → (b : Birth) → same_birth birth b ≡ false → number_in new b ≡ number_in old b
+  taken-others number takes b off = takes b ∙ ap (λ c. or_else (number_in old b) (cond c (Some number) None)) off ∙ sym (or-none (number_in old b))
+
+  -- a birth that is gone has none, and the others have theirs
+  pub gone : Forgets birth old new → None ≡ number_in new birth
+  gone forgets = sym (forgets birth ∙ ap (λ c. cond c None (number_in old birth)) (birth-self birth))
+
+  pub gone-others : Forgets birth old new → (b : Birth) → same_birth birth b ≡ false → number_in new b ≡ number_in old b
+  gone-others forgets b off = forgets b ∙ ap (λ c. cond c None (number_in old b)) (births-apart birth b off)
+
+  -- a birth that has a number keeps it
+  pub keeps : (number was : ℕ) → number_in old birth ≡ Some was → new ≡ old → Takes birth number old new
+  keeps number was known same b = ap (λ names. number_in names b) same ∙ by (same_birth birth b) refl
+    where
+      by : (c : Bool) → same_birth birth b ≡ c → number_in old b ≡ or_else (number_in old b) (cond c (Some number) None)
+      by true is =
+          let own : number_in old b ≡ Some was = ap (number_in old) (sym (birth-same birth b is)) ∙ known in
+          rw (own) refl
+      by false off = or-none (number_in old b)
+
+-- What is put under a key that has a value, and its first value put back at its place, leaves all as it was.
+pub restored : (eq : Name → Name → Bool) (k : Name) (es : List (Name × ℕ)) (number was : ℕ) → lookup (eq k) es ≡ Some was → set_value_at (insert_entry eq es k number) (position_or_len (eq k) (keys_of es)) was ≡ es
+restored eq k [] number was known = absurd (cc)
+restored eq k (e ∷ es) number was known = by (eq k e.0) known (restored eq k es number was)
+  where
+    by : (b : Bool) → cond b (Some e.1) (lookup (eq k) es) ≡ Some was → (lookup (eq k) es ≡ Some was → set_value_at (insert_entry eq es k number) (position_or_len (eq k) (keys_of es)) was ≡ es)
+        → set_value_at (if b then (e.0, number) ∷ es else e ∷ insert_entry eq es k number) (cond (not b) (1 + position_or_len (eq k) (keys_of es)) 0) was ≡ e ∷ es
+    by true known rest = ap (λ w. (e.0, w) ∷ es) (sym (same_Some e.1 was known))
+    by false known rest =
+        let next : suc (position_or_len (eq k) (keys_of es)) ≡ 1 + position_or_len (eq k) (keys_of es) = omega arith in
+        subst (λ i. set_value_at (e ∷ insert_entry eq es k number) i was ≡ e ∷ es) next (ap (λ l. e ∷ l) (rest known))
+
+-- no birth has a number where there is none
+pub none-kept : (names : List (Name × ℕ)) → length names ≡ 0 → (b : Birth) → None ≡ number_in names b
+none-kept [] none b = refl
+none-kept (e ∷ names) none b = absurd (cc)
 
 pub none-is : (o : Option ℕ) → is_some o ≡ false → o ≡ None
 none-is None off = refl

@@ -1,11 +1,13 @@
 -- The first number of each birth.
-use Rattle.std.specs.Prelude.{ℕ, ◌≡◌, ◌≤◌, ◌++◌, Bool, List, Option, None, Some, option_map, if◌then◌else◌, true}
+use Rattle.std.specs.Prelude.{ℕ, ◌≡◌, ◌≤◌, ◌++◌, ◌%◌, Bool, List, Option, None, Some, option_map, if◌then◌else◌, true}
 use Rattle.std.specs.Hash as fed
 use Rattle.std.specs.Map.{lookup}
 use Rattle.lpc_base.specs.Births.{same_birth}
 use Rattle.lpc_base.specs.Rows.{count, first}
 use Rattle.lpc_base.specs.declared.birth.Birth.{Birth}
+use Rattle.lpc_numbers.specs.Recent.{AreRight}
 use Rattle.lpc_numbers.specs.declared.named.Name.{Name}
+use Rattle.lpc_numbers.specs.declared.recent.TheConstants.{SPOTS}
 
 -- what of a birth goes into its hash: who made it, and which of its maker's objects it is
 abbrev pub hashed : Name → List (List ℕ)
@@ -22,6 +24,13 @@ number_named entries birth = option_map (λ e. e.0) (first (is_named birth) entr
 -- the number that is kept under a birth
 abbrev pub number_in : List (Name × ℕ) → Birth → Option ℕ
 number_in names birth = lookup (λ name. same_birth name.birth birth) names
+
+-- where a birth stands among those that came or went last, and that what stands there is right
+abbrev pub spot_of : Birth → ℕ
+spot_of birth = birth.ordinal % SPOTS
+
+abbrev pub AreRecent : List (Name × ℕ) → List (Birth × Option ℕ) → Type 0
+AreRecent names recent = AreRight spot_of same_birth (number_in names) recent
 
 -- this one, or another where there is none
 abbrev pub or_else : Option ℕ → Option ℕ → Option ℕ

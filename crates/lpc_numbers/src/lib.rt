@@ -4,8 +4,10 @@
 mod named;
 mod near;
 mod numbered;
+mod recent;
 mod tally;
 
 pub use named::Named;
 pub use numbered::Numbered;
+pub use recent::Recent;
 pub use tally::Tally;

@@ -2,10 +2,11 @@
 ghost use Rattle.std.specs.Prelude.{◌≡◌, ◌-◌, ◌+◌, ◌<◌, ◌≤◌, ◌&&◌, [], true, is_some, not, OnErr, OnOk};
 ghost use Rattle.std.proofs.Common.{rules};
 ghost use Rattle.std.specs.Cmp.Rules.{hashing};
-ghost use Rattle.indexmap.specs.IndexMap.{spare};
+ghost use Rattle.indexmap.specs.IndexMap.{index_map_len, spare, with_value_at};
 ghost use Rattle.lpc_base.specs.Room.{grown_room};
-ghost use Rattle.lpc_numbers.specs.Named.{Forgets, Takes, hashed, number_in};
+ghost use Rattle.lpc_numbers.specs.Named.{Forgets, Takes, hashed, number_in, spot_of};
 
+use crate::recent::{Recent, SPOTS};
 use indexmap::IndexMap;
 use lpc_base::{Birth, OutOfMemory};
 use std::alloc::Global;
@@ -38,14 +39,32 @@ fn note(names: &mut IndexMap<Name, u32>, birth: Birth, number: u32) -> bool
     ensures names { Takes birth number names.old.entries names.new.entries }
     ensures room { spare names.old ≤ spare names.new + 1 }
 {
-    let name = Name { birth };
-    if names.contains_key(&name) {
-        return false;
-    }
-    match names.insert(name, number) {
-        Ok(_) => true,
+    match names.insert_full(Name { birth }, number) {
+        Ok((_, None)) => true,
+        Ok((place, Some(first))) => {
+            put_back(names, place, first);
+            false
+        }
         Err(_) => unreachable!(),
     }
+}
+
+// Gives the birth at a place its first number back.
+#[inline(never)]
+fn put_back(names: &mut IndexMap<Name, u32>, place: usize, first: u32)
+    requires { place < index_map_len names.old }
+    ensures { names.new ≡ with_value_at names.old place first }
+{
+    let (_, number) = names.pair_mut(place);
+    *number = first;
+}
+
+// Where a birth stands among those that came or went last.
+#[inline(always)]
+fn spot(birth: Birth) -> usize
+    ensures { result ≡ spot_of birth }
+{
+    birth.ordinal as usize % SPOTS
 }
 
 /// The first number of each birth, found without a search. It tells whether no birth came twice. So many further ones as
@@ -53,6 +72,7 @@ fn note(names: &mut IndexMap<Name, u32>, birth: Birth, number: u32) -> bool
 #[derive(Drop)]
 pub struct Named {
     names: IndexMap<Name, u32>,
+    recent: Recent<(Birth, Option<u32>)>,
     room: usize,
     single: bool,
 }
@@ -60,7 +80,7 @@ pub struct Named {
 impl Model for Named {
     ghost use Rattle.std.specs.Prelude.{◌≤◌};
     ghost use Rattle.indexmap.specs.IndexMap.{spare};
-    ghost use Rattle.lpc_numbers.specs.Named.{Named};
+    ghost use Rattle.lpc_numbers.specs.Named.{AreRecent, Named};
 
     ghost Value = { Named };
 
@@ -70,7 +90,7 @@ impl Model for Named {
       single = s.single;
     } };
 
-    ghost invariant = { λ s. s.room ≤ spare s.names };
+    ghost invariant = { λ s. (s.room ≤ spare s.names) × AreRecent s.names.entries s.recent };
 }
 
 impl Named {
@@ -82,6 +102,7 @@ impl Named {
     {
         Named {
             names: IndexMap::new(alloc),
+            recent: Recent::new(alloc),
             room: 0,
             single: true,
         }
@@ -106,6 +127,9 @@ impl Named {
         match self.names.reserve(wanted) {
             Ok(()) => {
                 self.room = wanted;
+                if self.names.is_empty() {
+                    self.recent.open((Birth::default(), None));
+                }
                 Ok(())
             }
             Err(_) => Err(OutOfMemory),
@@ -123,10 +147,26 @@ impl Named {
         let is_new = note(&mut self.names, birth, number);
         self.room -= 1;
         self.single = self.single && is_new;
+        if is_new {
+            self.recent.note(spot(birth), (birth, Some(number)));
+        }
     }
 
     /// The first number of a birth.
     pub fn number_named(&self, birth: Birth) -> Option<u32>
+        ensures { result ≡ number_in self.now.firsts birth }
+    {
+        if let Some((known, number)) = self.recent.at(spot(birth)) {
+            if known == birth {
+                return number;
+            }
+        }
+        self.searched(birth)
+    }
+
+    // The same, through the map.
+    #[inline(never)]
+    fn searched(&self, birth: Birth) -> Option<u32>
         ensures { result ≡ number_in self.now.firsts birth }
     {
         self.names.get(&Name { birth }).copied()
@@ -146,5 +186,6 @@ impl Named {
         ensures room { self.new.room ≡ self.old.room }
     {
         self.names.swap_remove(&Name { birth });
+        self.recent.note(spot(birth), (birth, None));
     }
 }
