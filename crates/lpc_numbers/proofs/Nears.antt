@@ -1,13 +1,15 @@
 -- What the places of small numbers tell, as further numbers come.
-use Rattle.std.proofs.Common.{◌≡◌, ◌<◌, ◌≤◌, ◌+◌, ◌==◌, ℕ, List, [], ◌∷◌, ◌++◌, length, Bool, true, false, cond, nat_lt, None, Some, option_map, replicate, slice_get, refl, sym, ap, ◌∙◌, inl, inr, is_some, zero, suc, zero-add, take, ◌-◌, arith}
+use Rattle.std.proofs.Common.{nat_eq, ◌≡◌, ◌<◌, ◌≤◌, ◌+◌, ◌==◌, ℕ, List, [], ◌∷◌, ◌++◌, length, Bool, true, false, cond, nat_lt, None, Some, option_map, replicate, slice_get, refl, sym, ap, ◌∙◌, inl, inr, is_some, zero, suc, zero-add, take, ◌-◌, arith}
 use Rattle.std.specs.List.{position, position_from}
-use Rattle.std.proofs.lemmas.Bool.{cases_Bool}
+use Rattle.std.proofs.lemmas.Bool.{cases_Bool, eqb-true}
 use Rattle.std.proofs.lemmas.List.{take_all}
 use Rattle.std.proofs.lemmas.Iterator.Adapters.{position_from-zero}
 use Rattle.lpc_base.specs.Rows.{every, has}
 use Rattle.lpc_base.proofs.Positions.{first_at, none_first}
-use Rattle.lpc_numbers.specs.Near.{IsNear, Near, Notes, Widens, rank_of}
+use Rattle.lpc_numbers.specs.Near.{AreFar, IsNear, Near, Notes, Widens, far_spot, rank_of}
+use Rattle.lpc_numbers.specs.Recent as recent
 use Rattle.lpc_numbers.specs.Numbered.{is_at, value_at}
+use Rattle.lpc_numbers.proofs.Recents.{right-noted, right-opened}
 
 -- where a further element is the first that passes, and where it isn't
 module _ {X : Type 0} (test : X → Bool) (x : X) where
@@ -99,6 +101,20 @@ module _ {V : Type 0} where
             let before = noted.whole whole in
             with-one es (number, value) (length near'.ranks) (further es (length near.ranks) (length near'.ranks) (known.all before.0) (grind (arith, before))) (grind (arith, before));
       }
+
+  abbrev rank_in : List (ℕ × V) → ℕ → ℕ
+  rank_in es n = rank_of (position (is_at n) es)
+
+  -- behind a number that stands at its spot
+  pub far-kept : (es : List (ℕ × V)) (far far' : List (ℕ × ℕ)) (number : ℕ) (value : V) → has (is_at number) es ≡ false → AreFar es far → recent.Notes (far_spot number) (number, length es + 1) far far' → AreFar (es ++ (number, value) ∷ []) far'
+  far-kept es far far' number value free right notes =
+      right-noted far_spot nat_eq eqb-true (rank_in es) (rank_in (es ++ (number, value) ∷ [])) far far' number (length es + 1)
+      (sym (ap rank_of (met (is_at number) (number, value) (grind arith) es free))) right notes (λ n off. ap rank_of (missed (is_at n) (number, value) off es))
+
+  -- before any number has come
+  pub far-opened : (es : List (ℕ × V)) (far far' : List (ℕ × ℕ)) → length es ≡ 0 → AreFar es far → recent.Opens (0, 0) far far' → AreFar es far'
+  far-opened [] far far' none right opens = right-opened far_spot nat_eq (rank_in []) far far' 0 0 (λ n. refl) right opens
+  far-opened (e ∷ es) far far' none right opens = absurd (cc)
 
   -- the value at the place of a number
   pub value-at-place : (es : List (ℕ × V)) (n place : ℕ) → position (is_at n) es ≡ Some place → option_map (λ e. e.1) (slice_get es place) ≡ value_at es n

@@ -1,8 +1,10 @@
 -- Where small numbers stand, by the number itself.
-use Rattle.std.specs.Prelude.{ℕ, ◌≡◌, ◌<◌, ◌+◌, ◌==◌, ◌⊎◌, Bool, true, false, List, ◌++◌, length, nat_lt, Option, None, Some, slice_get, replicate}
+use Rattle.std.specs.Prelude.{ℕ, ◌≡◌, ◌<◌, ◌+◌, ◌==◌, ◌⊎◌, Bool, true, false, List, ◌++◌, length, nat_eq, nat_lt, ◌%◌, Option, None, Some, slice_get, replicate}
 use Rattle.std.specs.List.{position}
 use Rattle.lpc_base.specs.Rows.{every}
 use Rattle.lpc_numbers.specs.Numbered.{is_at}
+use Rattle.lpc_numbers.specs.Recent.{AreRight}
+use Rattle.lpc_numbers.specs.declared.recent.TheConstants.{SPOTS}
 
 -- under each number one more than its place, and 0 where it has none; and that no number was left out
 pub record Near : Type 0 where
@@ -28,3 +30,10 @@ pub record Notes (number place : ℕ) (old new : Near) : Type 0 where
 pub record IsNear {V : Type 0} (entries : List (ℕ × V)) (near : Near) : Type 0 where
   pub tells : (n : ℕ) → n < length near.ranks → slice_get near.ranks n ≡ Some (rank_of (position (is_at n) entries))
   pub all : near.whole ≡ true → every (λ e. nat_lt e.0 (length near.ranks)) entries ≡ true
+
+-- where a number stands among those that came last, and that what stands there is one more than its place
+abbrev pub far_spot : ℕ → ℕ
+far_spot number = number % SPOTS
+
+abbrev pub AreFar : {V : Type 0} → List (ℕ × V) → List (ℕ × ℕ) → Type 0
+AreFar entries far = AreRight far_spot nat_eq (λ n. rank_of (position (is_at n) entries)) far

@@ -3,9 +3,11 @@ ghost use Rattle.std.specs.Prelude.{◌≡◌, ◌-◌, ◌<◌, ◌≤◌, ◌+
 ghost use Rattle.std.specs.List.{position};
 ghost use Rattle.lpc_base.specs.Room.{grown_room};
 ghost use Rattle.lpc_base.specs.Rows.{has};
+ghost use Rattle.lpc_numbers.specs.Near.{far_spot};
 ghost use Rattle.lpc_numbers.specs.Numbered.{is_at, value_at};
 
 use crate::near::Near;
+use crate::recent::{Recent, SPOTS};
 use indexmap::IndexMap;
 use lpc_base::OutOfMemory;
 use std::alloc::Global;
@@ -17,26 +19,35 @@ const SMALL_NUMBERS: usize = 1024;
 
 const NUMBERS_EACH: usize = 8;
 
+// Where a number stands among those that came last.
+#[inline(always)]
+fn spot(number: u32) -> usize
+    ensures { result ≡ far_spot number }
+{
+    number as usize % SPOTS
+}
+
 /// Values under numbers that differ, in the order in which they came. A number leads to its value and to its place
 /// without a search. So many further ones as there is room for go in without memory.
 #[derive(Drop)]
 pub struct Numbered<V: Copy> {
     map: IndexMap<u32, V>,
     near: Near,
+    far: Recent<(u32, usize)>,
     room: usize,
 }
 
 impl<V: Copy> Model for Numbered<V> {
     ghost use Rattle.std.specs.Prelude.{◌≤◌};
     ghost use Rattle.indexmap.specs.IndexMap.{spare};
-    ghost use Rattle.lpc_numbers.specs.Near.{IsNear};
+    ghost use Rattle.lpc_numbers.specs.Near.{AreFar, IsNear};
     ghost use Rattle.lpc_numbers.specs.Numbered.{Numbered};
 
     ghost Value = { Numbered V };
 
     ghost view = { λ s. record { entries = s.map.entries; room = s.room } };
 
-    ghost invariant = { λ s. (s.room ≤ spare s.map) × IsNear s.map.entries s.near };
+    ghost invariant = { λ s. (s.room ≤ spare s.map) × IsNear s.map.entries s.near × AreFar s.map.entries s.far };
 }
 
 impl<V: Copy> Numbered<V> {
@@ -48,6 +59,7 @@ impl<V: Copy> Numbered<V> {
         Numbered {
             map: IndexMap::new(alloc),
             near: Near::new(alloc),
+            far: Recent::new(alloc),
             room: 0,
         }
     }
@@ -74,6 +86,9 @@ impl<V: Copy> Numbered<V> {
             Ok(()) => {
                 self.room = wanted;
                 self.near.widen(SMALL_NUMBERS.saturating_add(wanted.saturating_mul(NUMBERS_EACH)));
+                if self.map.is_empty() {
+                    self.far.open((0, 0));
+                }
                 Ok(())
             }
             Err(_) => Err(OutOfMemory),
@@ -87,7 +102,9 @@ impl<V: Copy> Numbered<V> {
         ensures entries { self.new.entries ≡ self.old.entries ++ (number, value) ∷ [] }
         ensures room { self.new.room ≡ self.old.room - 1 }
     {
-        self.near.note(number, self.map.len());
+        let place = self.map.len();
+        self.near.note(number, place);
+        self.far.note(spot(number), (number, place + 1));
         match self.map.insert(number, value) {
             Ok(_) => self.room -= 1,
             Err(_) => unreachable!(),
@@ -121,9 +138,22 @@ impl<V: Copy> Numbered<V> {
         }
     }
 
-    // The same, through the map.
+    // The same of a number that is too large for the list: through those that came last, or through the map.
     #[inline(never)]
     fn far_place(&self, number: u32) -> Option<usize>
+        ensures { result ≡ position (is_at number) self.now.entries }
+    {
+        if let Some((known, rank)) = self.far.at(spot(number)) {
+            if known == number {
+                return rank.checked_sub(1);
+            }
+        }
+        self.searched(number)
+    }
+
+    // The same, through the map.
+    #[inline(never)]
+    fn searched(&self, number: u32) -> Option<usize>
         ensures { result ≡ position (is_at number) self.now.entries }
     {
         self.map.get_index_of(&number)
