@@ -2,7 +2,7 @@
 use Rattle.std.proofs.Common.{◌≡◌, ◌+◌, ◌<◌, ℕ, Bool, true, false, cond, List, [], ◌∷◌, Option, None, Some, is_some, refl, sym, ap, ◌∙◌, arith}
 use Rattle.std.specs.Prelude.{Err, Ok, OnErr, OnOk, Result, if◌then◌else◌, is_ok, unwrap_or}
 use Rattle.std.specs.Map.{lookup}
-use Rattle.lpc_base.proofs.Births.{birth-same}
+use Rattle.lpc_base.proofs.Births.{birth-same, birth-self}
 use Rattle.lpc_homes.specs.Counts.{count_in, one_for}
 use Rattle.lpc_homes.specs.Parts.{is_object}
 use Rattle.lpc_homes.specs.declared.object.Object.{Object}
@@ -11,8 +11,15 @@ use Rattle.lpc_homes.specs.contracts.object.ObjectPartialEq.TheImpl as the_impl
 use Rattle.lpc_homes.proofs.Named.{is_same}
 use Rattle.lpc_slots.proofs.Keys.{key_is}
 
--- an object is itself alone
-object_is : (one other : Object) → is_object one other ≡ true → one ≡ other
+-- an object is itself, and itself alone
+pub object_self : (o : Object) → is_object o o ≡ true
+object_self (kinds.Port a) = grind arith
+object_self (kinds.Process a) = birth-self a
+object_self (kinds.Thread a) = birth-self a
+object_self (kinds.Section a) = grind arith
+object_self (kinds.Token a) = grind arith
+
+pub object_is : (one other : Object) → is_object one other ≡ true → one ≡ other
 object_is (kinds.Port a) (kinds.Port b) same = ap kinds.Port (sym (key_is b a same))
 object_is (kinds.Port a) (kinds.Process b) same = absurd (cc)
 object_is (kinds.Port a) (kinds.Thread b) same = absurd (cc)
@@ -58,10 +65,6 @@ has_count o es has = ap is_some (lookup_same o es) ∙ by (lookup (λ key. is_ob
     by (Some n) has = refl
 
 -- a call that fails only where none is found succeeds where one is
-pub ok_found : {A B : Type 0} (r : Result A B) (found : Option ℕ) → OnErr r (found ≡ None) → is_some found ≡ true → is_ok r ≡ true
-ok_found (Ok a) found absent some = refl
-ok_found (Err e) found absent some = absurd (cc)
-
 module _ (old new : List (Object × ℕ)) (object : Object) where
   -- the counts after a write or a removal
   pub updated : (w : Option ℕ) → ((o : Object) → lookup (the_impl.eq-value.it o) new ≡ cond (the_impl.eq-value.it object o) w (lookup (the_impl.eq-value.it o) old))

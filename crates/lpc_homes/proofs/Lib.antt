@@ -5,5 +5,6 @@ pub mod Numbers
 pub mod OnePart
 pub mod Named
 pub mod Places
+pub mod Recents
 pub mod Taken
 pub mod Viewed

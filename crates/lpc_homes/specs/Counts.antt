@@ -1,12 +1,14 @@
 -- How many handles name each object, and how many views count for it, as it is kept.
-use Rattle.std.specs.Prelude.{ℕ, ◌≡◌, ◌+◌, Bool, false, true, not, nat_lt, List, length, map, if◌then◌else◌, unwrap_or}
+use Rattle.std.specs.Prelude.{ℕ, ◌≡◌, ◌+◌, ◌%◌, Bool, false, true, not, nat_lt, List, length, map, if◌then◌else◌, unwrap_or}
 use Rattle.std.specs.Map.{lookup}
 use Rattle.lpc_base.specs.Rows.{count, every}
 use Rattle.lpc_base.specs.declared.limits.TheConstants.{HANDLE_LIMIT, VIEW_LIMIT}
 use Rattle.lpc_homes.specs.Parts.{all_rows, all_views, goes_with, is_object, names_it}
+use Rattle.lpc_homes.specs.declared.counts.TheConstants.{BIRTH_SPOTS, KEY_SPOTS}
 use Rattle.lpc_homes.specs.declared.object.Object.{Object}
 use Rattle.lpc_homes.specs.declared.object.Object.TheVariants as object
 use Rattle.lpc_homes.specs.declared.parts.Part.{Part}
+use Rattle.lpc_numbers.specs.Recent.{AreRight}
 use Rattle.lpc_slots.specs.declared.Key.{Key}
 use Rattle.lpc_views.specs.Views.{shows}
 use Rattle.lpc_views.specs.declared.view.View.{View}
@@ -19,6 +21,21 @@ pub record Counted : Type 0 where
 -- the count of an object, 0 of one that has none
 abbrev pub count_in : List (Object × ℕ) → Object → ℕ
 count_in entries o = unwrap_or (lookup (λ key. is_object key o) entries) 0
+
+-- an object has this count then, and each other has what it had
+abbrev pub IsWritten : Object → ℕ → List (Object × ℕ) → List (Object × ℕ) → Type 0
+IsWritten object n old new = (o : Object) → count_in new o ≡ (if is_object o object then n else count_in old o)
+
+-- where an object stands among those whose counts were changed last, and that what stands there is right
+abbrev pub spot_of : Object → ℕ
+spot_of (object.Port key) = key.index % KEY_SPOTS
+spot_of (object.Process birth) = KEY_SPOTS + birth.ordinal % BIRTH_SPOTS
+spot_of (object.Thread birth) = KEY_SPOTS + BIRTH_SPOTS + birth.ordinal % BIRTH_SPOTS
+spot_of (object.Section key) = key.index % KEY_SPOTS
+spot_of (object.Token key) = key.index % KEY_SPOTS
+
+abbrev pub AreRecent : List (Object × ℕ) → List (Object × ℕ) → Type 0
+AreRecent entries recent = AreRight spot_of (λ one other. is_object other one) (count_in entries) recent
 
 -- what one handle adds to the count of an object
 abbrev pub one_for : Object → Object → ℕ

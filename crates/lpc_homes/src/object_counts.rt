@@ -141,6 +141,7 @@ impl ObjectCounts {
     }
 
     /// How many handles name the object; None where not each was counted.
+    #[inline(always)]
     pub fn handles_to(&self, object: Object) -> Option<usize>
         ensures whole { let handles = self.now.handles in
             IfSome result (λ n. handles.whole ≡ true) }

@@ -254,6 +254,7 @@ impl Parts {
 }
 
 /// How many handles of all processes name the object, one by one.
+#[inline(never)]
 fn handles_in(parts: &[Part], object: Object) -> usize
     requires few { length parts.now ≤ 16 * LINES_LIMIT }
     ensures count { result ≡ count (names_it object) (all_rows parts.now) }
@@ -267,6 +268,7 @@ fn handles_in(parts: &[Part], object: Object) -> usize
 }
 
 /// A handle of some process names the object, which a walk finds.
+#[inline(never)]
 fn is_named(parts: &[Part], object: Object) -> bool
     ensures { result ≡ has (has_name_of object) parts.now }
 {

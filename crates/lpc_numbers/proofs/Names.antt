@@ -97,10 +97,6 @@ pub none-kept : (names : List (Name × ℕ)) → length names ≡ 0 → (b : Bir
 none-kept [] none b = refl
 none-kept (e ∷ names) none b = absurd (cc)
 
-pub none-is : (o : Option ℕ) → is_some o ≡ false → o ≡ None
-none-is None off = refl
-none-is (Some n) off = absurd (cc)
-
 -- The entries, with one more and without those of a birth
 number-push : (es : List (ℕ × Birth)) (n : ℕ) (birth b : Birth) → number_named (es ++ (n, birth) ∷ []) b ≡ or_else (number_named es b) (with_number birth n b)
 number-push [] n birth b = by (same_birth birth b)

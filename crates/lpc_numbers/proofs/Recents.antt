@@ -14,14 +14,6 @@ module _ {K V : Type 0} (spot : K → ℕ) (same : K → K → Bool) where
   abbrev IsRight : (K → V) → K → Option (K × V) → Type 0
   IsRight answer k o = IfSome o (λ e. same e.0 k ≡ true → e.1 ≡ answer k)
 
-  -- no answer has changed
-  pub right-still : (answer answer' : K → V) (recent : List (K × V)) → AreRight spot same answer recent → ((k : K) → answer' k ≡ answer k) → AreRight spot same answer' recent
-  right-still answer answer' recent right still k = by (slice_get recent (spot k)) (right k)
-    where
-      by : (o : Option (K × V)) → IsRight answer k o → IsRight answer' k o
-      by None r = tt
-      by (Some e) r = λ is. r is ∙ sym (still k)
-
   -- the answer of one key stands at its spot, and no other has changed
   pub right-noted : ((a b : K) → same a b ≡ true → a ≡ b) → (answer answer' : K → V) (recent recent' : List (K × V)) (key : K) (v : V) → v ≡ answer' key
       → AreRight spot same answer recent → Notes (spot key) (key, v) recent recent' → ((k : K) → same key k ≡ false → answer' k ≡ answer k) → AreRight spot same answer' recent'

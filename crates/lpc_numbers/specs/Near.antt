@@ -31,7 +31,8 @@ pub record IsNear {V : Type 0} (entries : List (ℕ × V)) (near : Near) : Type 
   pub tells : (n : ℕ) → n < length near.ranks → slice_get near.ranks n ≡ Some (rank_of (position (is_at n) entries))
   pub all : near.whole ≡ true → every (λ e. nat_lt e.0 (length near.ranks)) entries ≡ true
 
--- where a number stands among those that came last, and that what stands there is one more than its place
+-- where a number stands among those that came last, and that what stands there is one more than its place, or 0 where
+-- it has none
 abbrev pub far_spot : ℕ → ℕ
 far_spot number = number % SPOTS
 

@@ -1,4 +1,5 @@
-//! Values under numbers that differ, found by their number without a search; and births, found by the birth too.
+//! Values under numbers that differ, found by their number without a search; births, found by the birth too; how many
+//! there are of a number; and the answers of a map that were changed last.
 #![tactic(auto)]
 
 mod named;

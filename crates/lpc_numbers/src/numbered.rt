@@ -33,6 +33,7 @@ fn spot(number: u32) -> usize
 pub struct Numbered<V: Copy> {
     map: IndexMap<u32, V>,
     near: Near,
+    // Of numbers that came last one more than the place, and 0 for none.
     far: Recent<(u32, usize)>,
     room: usize,
 }
@@ -126,7 +127,7 @@ impl<V: Copy> Numbered<V> {
     }
 
     /// Where a number stands in the order in which they came.
-    // Inlined with what it calls, since each line asks for several rows by their numbers, mostly small ones.
+    // Inlined with the look into the list, since each line asks for several rows by their numbers, mostly small ones.
     #[inline(always)]
     pub fn place(&self, number: u32) -> Option<usize>
         ensures { result ≡ position (is_at number) self.now.entries }

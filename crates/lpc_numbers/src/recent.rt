@@ -5,7 +5,7 @@ ghost use Rattle.lpc_numbers.specs.Recent.{Notes, Opens};
 use std::alloc::Global;
 use std::marker::Model;
 
-// How many spots there are: few, since each map of a world makes them, however short a script is.
+// How many spots there are: few, since each map that has spots makes them, however short a script is.
 pub(crate) const SPOTS: usize = 128;
 
 /// A few answers of a map, those that were changed last, each at the spot that its key gives. What is asked of a map is
