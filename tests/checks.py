@@ -84,7 +84,7 @@ NO_CLAUSES = [
     ("Parts::close_handle", "`parts` that `close_handle` asks"),
     ("Parts::close_handle", "`parts` that `close_handle`"),
     ("Parts::close_handle", "`parts`, `count`"),
-    ("Parts::close_handle", "`parts`; the invariant of `Counts`"),
+    ("Parts::close_handle", "`parts`; the invariant of `ViewCounts`"),
     ("Parts::close_handle", "the one clause"),
     ("Parts::close_handle", "parts"),
     ("Parts::close_handle", ""),
